@@ -43,6 +43,10 @@ line_length line = length line + 1
 unfoldable pub paragraph_limit : ℕ
 paragraph_limit = 16777216
 
+-- the most bytes that a file may have (this project's own)
+unfoldable pub file_limit : ℕ
+file_limit = 4294967295
+
 -- only spaces and tabs, or nothing
 abbrev pub is_all_blank : List ℕ → Bool
 is_all_blank text = list_all is_blank_byte text
@@ -165,9 +169,9 @@ unfolding is_utf8 chars encode
 half_character = (refl, refl)
 
 -- sixteen times 1,048,576 bytes
-limit_of_paragraphs : paragraph_limit ≡ 16777216
-unfolding paragraph_limit
-limit_of_paragraphs = refl
+limits : (paragraph_limit ≡ 16777216) × (file_limit ≡ 4294967295)
+unfolding paragraph_limit file_limit
+limits = (refl, refl)
 
 limits_of_blank_lines : (line : Line) → is_blank line ≡ is_blank_under 16777216 line
 unfolding paragraph_limit

@@ -1,4 +1,4 @@
-//! Whether bytes can be the body of a field, and how long a paragraph may be.
+//! Whether bytes can be the body of a field, and how long a paragraph and a file may be.
 
 ghost use Rattle.std.specs.Prelude.{◌≡◌, ◌↔◌, IsTrue, drop};
 ghost use Rattle.std.specs.List.{list_all};
@@ -9,6 +9,9 @@ use crate::blank::{begins_with_blank, is_blank_byte, is_only_blanks};
 /// The most bytes that the lines of a paragraph may have together, with their newlines (this
 /// project's own).
 pub const PARAGRAPH_LIMIT: usize = 16_777_216;
+
+/// The most bytes that a file may have, and its canonical text (this project's own).
+pub const FILE_LIMIT: u64 = 4_294_967_295;
 
 /// Returns whether the bytes can be the body of a field (Debian Policy 5.1): UTF-8 without a space
 /// or tab at either end, in which each line after the first begins with one and isn't blank. The

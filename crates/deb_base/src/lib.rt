@@ -44,7 +44,7 @@ mod version_text;
 pub use blank::{
     begins_with_blank, is_blank_byte, is_only_blanks, trimmed, without_trailing_blanks,
 };
-pub use body::{PARAGRAPH_LIMIT, is_body};
+pub use body::{FILE_LIMIT, PARAGRAPH_LIMIT, is_body};
 pub use code::Code;
 pub use device::{Failed, Sink, Source};
 pub use doc::{Doc, is_single};

@@ -1,6 +1,6 @@
 -- What a call of a reader of checked paragraphs says, from what its reader of paragraphs says.
+use Rattle.deb_base.specs.Bodies.{file_limit}
 use Rattle.deb_control.proofs.Common.{◌≡◌, inl, inr, ℕ, ◌+◌, ◌<◌, ◌≤◌, ◌==◌, ◌&&◌, not, Bool, true, false, cond, leb, List, [], ◌∷◌, ◌++◌, length, is_some, option_map, Option, None, Some, Result, Ok, Err, IfOk, IfErr, IfNone, IfSome, MatchResult, IsTrue, IsSome, ◌↔◌, refl, sym, ap, ◌∙◌, subst, arith, length-append, ne_eqb, false≢true, and_parts, leb-true, read_failures_after, IsReadersFault, RefusedOrMemory, NoParagraph, TooManyParagraphs, Fault, Refused, Memory, Read, Write, Refusal, TakesNoMore, Seen, next_answer, next_begin, are_numbered, paragraphs_of, Entries, advance_answer, State, Fits, passed_count, GivesNone, Answers, AnswersBegin, Moment, Advances, Begins, is_single, Doc, paragraph_text, file_text, Passing, CheckedMoment, FitsChecked, AnswersChecked, IsRefusalOfDocument, IfRefused, Checks, ChecksOn, seen_given, seen_in, current_answer, seen_last, passing_seen, text_built, rules_of, end_answer, given_answer, seen_found, AddsPassing, RefusesSeen, has_some, answer_of_seen, next_given, line_behind, Answered, passed_in, Totals}
-use Rattle.deb_syntax.specs.Lines.{file_limit}
 use Rattle.deb_control.proofs.FollowedParagraphs.{given-push, passed-push}
 use Rattle.deb_control.proofs.NextChecked.{next_after-seen, next_after-second, next_after-last, next_after-refused, bytes-with, next_after-passes, next_after-unbuilt, next_after-too_long}
 use Rattle.deb_control.proofs.RefusalCodes.{built-code, readers_fault}

@@ -31,7 +31,7 @@ pub use Rattle.deb_base.proofs.FieldBytes.{IsUtf8-with_all_ascii, blanks_are_asc
 pub use Rattle.deb_base.proofs.LaterPieces.{HoldNoBlank, HoldNoBlank-body, HoldNoBlank-pieces_of, later_pieces-append, later_pieces-cons}
 pub use Rattle.deb_base.proofs.TextLines.{IsUtf8-lines, IsUtf8-with_ascii}
 pub use Rattle.deb_base.proofs.Writes.{AppendsFront-more, AppendsFront-then}
-pub use Rattle.deb_base.specs.Bodies.{Line, is_all_blank, is_blank, is_blank_byte, is_body_shape, line_length, newline, paragraph_limit, pieces_of, with_byte}
+pub use Rattle.deb_base.specs.Bodies.{Line, is_all_blank, is_blank, is_blank_byte, is_body_shape, line_length, newline, paragraph_limit, pieces_of, with_byte, file_limit}
 pub use Rattle.deb_base.specs.Codes.{number_of}
 pub use Rattle.deb_base.specs.Devices.{AppendsFront, Shown, read_failures_after}
 pub use Rattle.deb_base.specs.Faults.{IsReadersFault, RefusedOrMemory}
@@ -72,7 +72,7 @@ pub use Rattle.deb_syntax.specs.Cursors.{cursor_state}
 pub use Rattle.deb_syntax.specs.Fields.{AreDistinct, Field, IsShort, SpellsField, SpellsFields, SpellsParagraph, are_fields, are_numbered, has_name, is_field}
 pub use Rattle.deb_syntax.specs.Judging.{judged}
 pub use Rattle.deb_syntax.specs.Laws.{IsRun, StandsAmong, body_of}
-pub use Rattle.deb_syntax.specs.Lines.{IsClosed, Paragraph, begins_blank, ends_line, file_limit, lines_of, paragraphs_from, paragraphs_of, total_length, with_line}
+pub use Rattle.deb_syntax.specs.Lines.{IsClosed, Paragraph, begins_blank, ends_line, lines_of, paragraphs_from, paragraphs_of, total_length, with_line}
 pub use Rattle.deb_syntax.specs.Meaning.{Entries, HaveMeanings, Means, byte_order, entries_after, entries_of}
 pub use Rattle.deb_syntax.specs.Paragraphs.{advance_answer, seen_of, state_of}
 pub use Rattle.deb_syntax.specs.Raw.{field_named, field_of, fields_of}
@@ -84,7 +84,7 @@ pub use Rattle.deb_control.specs.Refused.{seen_given, seen_in}
 pub use Rattle.deb_control.specs.Calls.{HasParagraphs, IfCutOff, IfRefused, WritesCanonical, WritesRead, WritesRefused}
 pub use Rattle.deb_control.specs.Canonical.{behind_colon, field_text, file_text, paragraph_text}
 pub use Rattle.deb_control.specs.CheckedStates.{checked_moment, checked_state, passing_of}
-pub use Rattle.deb_control.specs.CanonTexts.{HoldsText, HoldsTexts, name_in, names_ascend, part_of, text_in}
+pub use Rattle.deb_control.specs.CanonTexts.{AreRows, ArePlaced, IsGood, IsListOf, IsOrderOf, IsRow, NamesAscend, comes_first, known_names, no_field, numbers_in, picked, text_under}
 pub use Rattle.deb_control.specs.Checking.{AnswersChecked, CheckedMoment, CheckedState, Checks, ChecksOn, FitsChecked, Follow, FollowGiven, GivesEnd, GivesPassing, HasChecked, IsRefusalOfDocument, Passing, current_answer, is_judged, is_passing, is_text_of, all_pass, passing_seen, seen_last, text_built, whole_answer}
 pub use Rattle.deb_control.specs.Comparing.{Agrees, RefusesSecond, AnswersSame}
 pub use Rattle.deb_control.specs.Documents.{Meaning, canonical_text, out_of, refusal_of, rules_of, text_unless_refused}
@@ -101,9 +101,8 @@ pub use Rattle.deb_control.specs.Sorting.{comes_before, name_before}
 pub use Rattle.deb_control.specs.Totals.{bytes_with, gap_behind}
 pub use Rattle.deb_control.specs.ValueFileLaws.{CanonicalTextMeansTheSame, CanonicalTextTellsMeanings, TextMeansOneThing}
 pub use Rattle.deb_control.specs.ValueFiles.{MeansValues, SpellsEntries, SpellsEntry, ValueEntries, bodies_of, body_under, values_text}
-pub use Rattle.deb_control.specs.Visiting.{IsVisit, Visit, VisitsField, VisitsFields, VisitsFound, VisitsValues, canonical_visit, fields_visited, most, texts_length, visit_of, visit_text}
+pub use Rattle.deb_control.specs.Visiting.{IsVisit, Visit, HoldsFound, VisitsField, VisitsFields, VisitsValues, canonical_visit, fields_visited, most, texts_length, visit_of, visit_text}
 pub use Rattle.deb_control.specs.declared.checked_text.CheckedText.{CheckedText}
 pub use Rattle.deb_control.specs.declared.checked.Checked.{Checked}
-pub use Rattle.deb_control.specs.declared.canon_text.CanonSpan.{CanonSpan}
 pub use Rattle.deb_control.specs.declared.totals.Totals.{Totals}
 pub use Rattle.deb_control.specs.declared.typed_field.TypedField.{TypedField}

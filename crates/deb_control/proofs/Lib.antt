@@ -23,7 +23,11 @@ pub mod Visited
 pub mod Lengths
 pub mod Measured
 pub mod WrittenTexts
-pub mod Rows
+pub mod ShownValues
+pub mod KeptTexts
+pub mod KnownNames
+pub mod FieldOrders
+pub mod AppendedFields
 pub mod ValueLookups
 pub mod FollowedParagraphs
 pub mod CheckedSoFar
@@ -40,3 +44,14 @@ pub mod Resuming
 pub mod RefusalsOfAny
 mod RequiredFields
 pub mod StreamLaws
+pub mod SeenRefusals
+pub mod StreamEnds
+pub mod SingleDocuments
+pub mod AcceptedStreams
+pub mod FewRefusals
+pub mod GivenRefusals
+pub mod WrittenRefusals
+pub mod Renumbered
+pub mod RemainingLines
+pub mod Remaining
+pub mod Ascending

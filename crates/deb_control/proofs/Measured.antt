@@ -6,7 +6,7 @@ use Rattle.deb_control.proofs.Lengths.{length-visited}
 use Rattle.deb_control.proofs.Passing.{built-from_parts, built-long}
 use Rattle.deb_control.proofs.Visited.{canonical-visited}
 
-limit_is : paragraph_limit ≡ 16777216
+pub limit_is : paragraph_limit ≡ 16777216
 unfolding paragraph_limit
 limit_is = refl
 

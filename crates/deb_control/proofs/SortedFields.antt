@@ -17,7 +17,7 @@ entries_after-ascending before (field ∷ fields) ascending above =
     ∙ entries_after-ascending (before ++ entry_of field ∷ []) fields ascending.1 (AllAbove-push before (entry_of field) (map entry_of fields) above.1 ascending.0)
     ∙ append_assoc before (entry_of field ∷ []) (map entry_of fields)
 
-entries_of-ascending : (fields : List Field) → IsAscending (map entry_of fields) → entries_of fields ≡ map entry_of fields
+pub entries_of-ascending : (fields : List Field) → IsAscending (map entry_of fields) → entries_of fields ≡ map entry_of fields
 entries_of-ascending fields ascending = entries_after-ascending [] fields ascending (AllAbove-nil (map entry_of fields))
 
 -- neither before nor the same is after
@@ -52,7 +52,7 @@ module _ {X : Type 0} (field_in : X → Field) where
       λ same. both_ways (bytes_eq (folded other) (folded name)) p.0 ((bytes_eq-Decides (folded other) (folded name)).1 (sym (folded-from_canonical_name name other same))) in
       (before_from_not (canonical_name name) (canonical_name other) (byte_order (canonical_name name) (canonical_name other)) refl h.0 apart, all_behind x ys p.1 h.1)
 
-  ascending_from_sorted : (xs : List X) → IsSortedBy below xs → AreDistinct (map field_in xs) → IsAscending (map entry_of (map field_in xs))
+  pub ascending_from_sorted : (xs : List X) → IsSortedBy below xs → AreDistinct (map field_in xs) → IsAscending (map entry_of (map field_in xs))
   ascending_from_sorted [] up d = tt
   ascending_from_sorted (x ∷ xs) up d =
       let order = ranks_by nat_list_cmp_total (λ y. canonical_name (field_in y).name) in

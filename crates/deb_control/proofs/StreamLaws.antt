@@ -1,43 +1,12 @@
--- The first refusal of a stream is that of the file, and a stream goes on without what is refused.
-use Rattle.deb_control.proofs.Common.{◌≡◌, ℕ, ◌+◌, ◌++◌, Bool, true, false, cond, List, [], ◌∷◌, length, drop, Option, None, Some, Result, Ok, Err, refl, sym, ap, ◌∙◌, arith, length-append, paragraph_limit, Refusal, Entries, Paragraph, Rules, paragraphs_within, rules_of, answer_behind, line_behind, next_after}
+-- A stream without a refusal is that of an accepted file, and a stream goes on without what is refused.
+use Rattle.deb_base.specs.Bodies.{file_limit}
+use Rattle.deb_control.proofs.Common.{◌≡◌, ℕ, ◌+◌, ◌++◌, false, cond, List, [], ◌∷◌, length, drop, Option, None, Some, Result, Ok, Err, refl, sym, ap, ◌∙◌, arith, length-append, paragraph_limit, Refusal, Entries, Paragraph, Rules, paragraphs_within, rules_of, answer_behind, line_behind, next_after}
 use Rattle.deb_syntax.specs.Answers.{line_beyond}
-use Rattle.deb_syntax.specs.Lines.{file_limit}
 use Rattle.deb_control.proofs.FollowedParagraphs.{drop_one, never_behind_all}
-use Rattle.deb_control.specs.Refusals.{Outcome, followed, outcome_behind, stopped}
+use Rattle.deb_control.proofs.SeenRefusals.{first_is_refusal}
 use Rattle.deb_control.specs.Laws.{RefusedOrAccepted}
-use Rattle.deb_control.specs.Streams.{CheckedStream, end_of, ended_by, is_end_under, item_of, refusals_in, stream_after, stream_behind_under, stream_from, with_answer, with_item}
-use Rattle.deb_control.specs.StreamLaws.{EndEndsTheStream, FirstIsTheRefusal, NoRefusalIsAccepted, PassedIsNext, RefusedIsLeftOut, first_of}
-
--- the first of a stream's refusals
-first_in : CheckedStream → Option Refusal
-first_in stream = first_of (refusals_in stream.items stream.end)
-
--- after the last paragraph
-at_end : (before : List Entries) (answer : Result (Option Entries) Refusal) → first_in (end_of answer) ≡ (stopped before answer).refusal
-unfolding first_in
-at_end before (Ok entries) = refl
-at_end before (Err refusal) = refl
-
--- and after a paragraph, by what is answered of it
-behind_one : (is_end : Refusal → Bool) (p : Paragraph) (before : List Entries) (answer : Result (Option Entries) Refusal) (stream : List Entries → CheckedStream) (outcome : Entries → Outcome) → ((entries : Entries) → first_in (stream (before ++ entries ∷ [])) ≡ (outcome entries).refusal) → first_in (with_answer is_end p before answer stream) ≡ (followed before answer outcome).refusal
-unfolding first_in
-behind_one is_end p before (Ok (Some entries)) stream outcome same = same entries
-behind_one is_end p before (Ok None) stream outcome same = refl
-behind_one is_end p before (Err refusal) stream outcome same = go (is_end refusal)
-  where
-    go : (t : Bool) → first_in (cond t (ended_by (Some refusal)) (with_item (item_of p (Err refusal)) (stream before))) ≡ Some refusal
-    go true = refl
-    go false = refl
-
-first_behind : (rules : Rules) (beyond : Option ℕ) (n : ℕ) (before : List Entries) (left : List Paragraph) → first_in (stream_behind_under paragraph_limit file_limit rules beyond n before left) ≡ (outcome_behind rules beyond n before left).refusal
-first_behind rules beyond n before [] = at_end before (answer_behind rules beyond n before [])
-first_behind rules beyond n before (p ∷ left) =
-    behind_one (is_end_under paragraph_limit rules p) p before (answer_behind rules beyond n before (p ∷ left)) _ (λ entries. outcome_behind rules beyond n (before ++ entries ∷ []) left)
-    (λ entries. first_behind rules beyond n (before ++ entries ∷ []) left)
-
-pub first_is_refusal : FirstIsTheRefusal
-unfolding first_in
-first_is_refusal doc text = first_behind (rules_of doc) (line_beyond 1 file_limit text) (line_behind text) [] (paragraphs_within text)
+use Rattle.deb_control.specs.Streams.{CheckedStream, end_of, ended_by, is_end_under, item_of, stream_after, stream_behind_under, with_answer, with_item}
+use Rattle.deb_control.specs.StreamLaws.{EndEndsTheStream, NoRefusalIsAccepted, PassedIsNext, RefusedIsLeftOut, first_of}
 
 no_first : (refusals : List Refusal) → first_of refusals ≡ None → refusals ≡ []
 no_first [] none = refl

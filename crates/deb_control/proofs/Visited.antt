@@ -1,5 +1,5 @@
 -- The fields that were visited so far, and the values that were visited with them.
-use Rattle.deb_control.proofs.Common.{◌≡◌, ℕ, ◌+◌, ◌≤◌, ◌||◌, min, List, [], ◌∷◌, ◌++◌, length, map, slice_get, option_map, Option, None, Some, refl, sym, ap, ◌∙◌, arith, bytes_eq, sum_by-append, sum_by-cons, AllByRecursion, folded, canonical_name, Seen, Field, has_name, AreDistinct, entries_of, field_of, RawField, Doc, kind_of, rules_of, seen_found, canonical_field, canonical_entries, Visit, IsVisit, fields_visited, canonical_visit, visit_text, VisitsField, VisitsFields, VisitsFound, VisitsValues, texts_length, most}
+use Rattle.deb_control.proofs.Common.{◌≡◌, ℕ, ◌+◌, ◌≤◌, ◌||◌, min, List, [], ◌∷◌, ◌++◌, length, map, slice_get, option_map, Option, None, Some, refl, sym, ap, ◌∙◌, arith, bytes_eq, sum_by-append, sum_by-cons, AllByRecursion, folded, canonical_name, Seen, Field, has_name, AreDistinct, entries_of, field_of, RawField, Doc, kind_of, rules_of, HoldsFound, seen_found, canonical_field, canonical_entries, Visit, IsVisit, fields_visited, canonical_visit, visit_text, VisitsField, VisitsFields, VisitsValues, texts_length, most}
 use Rattle.deb_control.proofs.DocumentRules.{document_rules}
 use Rattle.deb_control.proofs.FieldsRead.{HasRead, HasRead-next, HasRead-end}
 
@@ -63,7 +63,7 @@ pub canonical-visited : (doc : Doc) (fields : List Field) (visited : List Visit)
 canonical-visited doc fields visited all spelled =
     ap (canonical_entries (rules_of doc)) (sym all) ∙ ap entries_of (canonical_each doc visited spelled)
 
--- so they are those of the paragraph that was found
-pub VisitsValues-found : {V : Type 0} (Visited : V → List Visit → Type 0) (visitor : V) (doc : Doc) (found : Option Seen) → VisitsFound Visited visitor doc found → VisitsValues Visited visitor doc (seen_found found)
-VisitsValues-found Visited visitor doc None visits = absurd visits
-VisitsValues-found Visited visitor doc (Some seen) visits = visits
+-- what is kept of the paragraph that was found
+pub keeps-found : (Keeps : Seen → Type 0) (found : Option Seen) → HoldsFound Keeps found → Keeps (seen_found found)
+keeps-found Keeps None keeps = absurd keeps
+keeps-found Keeps (Some seen) keeps = keeps

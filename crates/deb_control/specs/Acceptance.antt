@@ -3,8 +3,9 @@
 use Rattle.std.specs.Prelude.{◌≡◌, ℕ, ◌≤◌, Bool, true, false, is_some, IsTrue, List, [], ◌∷◌, length, codes, refl}
 use Rattle.std.specs.List.{AllByRecursion, list_all}
 use Rattle.std.specs.FinMap.{find}
+use Rattle.deb_base.specs.Bodies.{file_limit}
 use Rattle.deb_base.specs.Names.{canonical_name}
-use Rattle.deb_syntax.specs.Lines.{paragraphs_of, file_limit}
+use Rattle.deb_syntax.specs.Lines.{paragraphs_of}
 use Rattle.deb_syntax.specs.Fields.{IsShort}
 use Rattle.deb_syntax.specs.Meaning.{byte_order}
 use Rattle.deb_control.specs.Rules.{Rules}

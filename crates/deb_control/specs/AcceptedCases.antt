@@ -7,11 +7,10 @@ use Rattle.std.specs.Str.{is_utf8, chars}
 use Rattle.std.proofs.lemmas.Bool.{false≢true, leb-true}
 use Rattle.std.proofs.lemmas.Str.{IsUtf8-from_is_utf8}
 use lib.Utf8.{encode}
-use Rattle.deb_base.specs.Bodies.{Line, joined, newline, is_all_blank, is_body_shape, paragraph_limit}
+use Rattle.deb_base.specs.Bodies.{Line, joined, newline, is_all_blank, is_body_shape, paragraph_limit, file_limit}
 use Rattle.deb_base.specs.FieldNames.{colon, is_name}
 use Rattle.deb_syntax.specs.Fields.{Field, SpellsField, SpellsFields}
 use Rattle.deb_syntax.specs.Meaning.{Entries, Means as BodiesAre}
-use Rattle.deb_syntax.specs.Lines.{file_limit}
 use Rattle.deb_version.specs.Faults.{first_fault}
 use Rattle.deb_version.specs.Parts.{Meaning as VersionMeaning, no_revision}
 use Rattle.deb_version.proofs.FaultLemmas.{spells-from_no_fault}

@@ -1,68 +1,159 @@
--- The canonical text of a paragraph, written while its fields are visited. Debian Policy 5.1; the
--- canonical text is this project's own.
-use Rattle.std.specs.Prelude.{◌≡◌, ℕ, ◌<◌, ◌≤◌, Bool, false, List, [], ◌∷◌, length, map, drop, take, set, get_or, codes, refl}
-use Rattle.std.specs.Ordering.{is_lt}
-use Rattle.deb_base.specs.Kinds.{known_fields, known_row}
+-- The fields of a paragraph in the order of their canonical names, and what is written of each.
+-- Debian Policy 5.1; the canonical text is this project's own.
+use Rattle.std.specs.Prelude.{◌≡◌, ℕ, zero, suc, ◌<◌, List, [], ◌∷◌, ◌++◌, length, map, take, get_or, Bool, true, false, None, codes, refl}
+use Rattle.std.proofs.lemmas.Bool.{leb-true}
+use Rattle.std.specs.List.{AllByRecursion}
+use Rattle.std.specs.List.Sorted.{IsPermutation}
+use Rattle.std.specs.declared.cmp.Ordering.TheVariants.{Less}
+use Rattle.deb_base.specs.Bodies.{newline}
+use Rattle.deb_base.specs.FieldNames.{colon}
+use Rattle.deb_base.specs.Kinds.{known_fields}
 use Rattle.deb_base.specs.Names.{canonical_name}
+use Rattle.deb_base.specs.declared.kind.Kind.{Kind}
+use Rattle.deb_base.specs.declared.doc.Doc.{Doc}
+use Rattle.deb_syntax.specs.Answers.{Seen}
+use Rattle.deb_syntax.specs.Fields.{Field}
 use Rattle.deb_syntax.specs.Meaning.{byte_order}
-use Rattle.deb_control.specs.Pairs.{Pairwise}
-use Rattle.deb_control.specs.Visiting.{Visit, visit_text}
-use Rattle.deb_control.specs.declared.canon_text.CanonSpan.{CanonSpan}
+use Rattle.deb_field.specs.Values.{SpellsKind, ValueMeaning, value_text}
+use Rattle.deb_control.specs.Canonical.{behind_colon, field_text}
+use Rattle.deb_control.specs.Checking.{text_built}
+use Rattle.deb_control.specs.Documents.{rules_of}
+use Rattle.deb_control.specs.Refusals.{built}
+use Rattle.deb_control.specs.Rules.{Rules}
+use Rattle.deb_control.specs.Sorting.{name_before}
 use Rattle.deb_control.specs.declared.canon_text.CanonText.{CanonText}
-
--- the bytes from one offset up to another
-abbrev pub part_of : List ℕ → (from to : ℕ) → List ℕ
-part_of bytes from to = drop from (take to bytes)
-
--- the name in a span, and the text
-abbrev pub name_in : List ℕ → CanonSpan → List ℕ
-name_in buffer span = part_of buffer span.start span.name_end
-
-abbrev pub text_in : List ℕ → CanonSpan → List ℕ
-text_in buffer span = part_of buffer span.start span.end
-
--- the name in one span comes before that in another
-abbrev pub names_ascend : List ℕ → CanonSpan → CanonSpan → Bool
-names_ascend buffer span other = is_lt (byte_order (name_in buffer span) (name_in buffer other))
 
 -- the canonical names in the rows of the table of fields
 abbrev pub known_names : List (List ℕ)
 known_names = map (λ row. canonical_name row.0) known_fields
 
--- rows of spans, after each of these was put into the row of its field
-abbrev pub placed : List CanonSpan → List CanonSpan → List CanonSpan
-placed rows [] = rows
-placed rows (span ∷ spans) = placed (set rows span.row span) spans
+-- the fields of these numbers, which count from 0
+abbrev pub no_field : Field
+no_field = record { name = []; line = 0; body = [] }
 
--- The span has the canonical text of a field that was visited.
-pub record HoldsText (buffer : List ℕ) (span : CanonSpan) (visit : Visit) : Type 0 where
-  pub row : span.row ≡ known_row visit.0.name
-  pub some : 0 < span.end
-  pub name_within : span.name_end ≤ length buffer
-  pub within : span.end ≤ length buffer
-  pub name : name_in buffer span ≡ canonical_name visit.0.name
-  pub text : text_in buffer span ≡ visit_text visit
+abbrev pub picked : List Field → List ℕ → List Field
+picked fields order = map (λ k. get_or fields k no_field) order
 
-abbrev pub HoldsTexts : CanonText → List Visit → Type 0
-HoldsTexts canon visited = Pairwise (HoldsText canon.buffer.items) canon.spans.items visited
+-- The canonical name of each field comes before the names of those after it.
+abbrev pub NamesAscend : List Field → Type 0
+NamesAscend [] = Unit {0}
+NamesAscend (field ∷ fields) =
+    AllByRecursion
+    (λ other. byte_order (canonical_name field.name) (canonical_name other.name) ≡ Less) fields
+    × NamesAscend fields
 
--- `b: 1` after 3 bytes
-abbrev span_of_one : CanonSpan
-span_of_one = record { row = 1; start = 3; name_end = 4; end = 8 }
+-- Each field has one of these numbers, and they are in the order of the canonical names.
+pub record IsOrderOf (fields : List Field) (order : List ℕ) : Type 0 where
+  pub within : AllByRecursion (λ k. k < length fields) order
+  pub all : IsPermutation fields (picked fields order)
+  pub ascend : NamesAscend (picked fields order)
 
-parts_in_spans : (name_in (codes "abcB: 1\nd") span_of_one ≡ codes "B")
-    × (text_in (codes "abcB: 1\nd") span_of_one ≡ codes "B: 1\n")
-    × (names_ascend (codes "abcB: 1\nd") (record { row = 0; start = 0; name_end = 2; end = 3 })
-    span_of_one ≡ false)
-    × (part_of (codes "abc") 1 9 ≡ codes "bc") × (part_of (codes "abc") 2 1 ≡ [])
-parts_in_spans = (refl, refl, refl, refl, refl)
+-- These are the numbers of all fields, in their own order.
+pub record IsListOf (fields : List Field) (order : List ℕ) : Type 0 where
+  pub within : AllByRecursion (λ k. k < length fields) order
+  pub all : picked fields order ≡ fields
+
+-- the name of one field comes before that of another
+abbrev pub comes_first : List Field → ℕ → ℕ → Bool
+comes_first fields k other =
+    name_before (get_or fields k no_field).name (get_or fields other no_field).name
+
+-- The numbers of the fields in the rows. A row without one has 0, else one more than the number.
+abbrev pub numbers_in : List ℕ → List ℕ
+numbers_in [] = []
+numbers_in (zero ∷ rows) = numbers_in rows
+numbers_in (suc k ∷ rows) = k ∷ numbers_in rows
+
+-- Each row has no field, or the one that has its canonical name.
+abbrev pub IsRow : List Field → List ℕ → ℕ → Type 0
+IsRow fields name zero = Unit {0}
+IsRow fields name (suc k) =
+    (k < length fields) × (canonical_name (get_or fields k no_field).name ≡ name)
+
+abbrev pub AreRows : List Field → (names : List (List ℕ)) → (rows : List ℕ) → Type 0
+AreRows fields [] [] = Unit {0}
+AreRows fields [] (row ∷ rows) = ⊥
+AreRows fields (name ∷ names) [] = ⊥
+AreRows fields (name ∷ names) (row ∷ rows) = IsRow fields name row × AreRows fields names rows
+
+-- The first fields are in the rows of their names.
+pub record ArePlaced (fields : List Field) (count : ℕ) (rows : List ℕ) : Type 0 where
+  pub named : AreRows fields known_names rows
+  pub all : IsPermutation (take count fields) (picked fields (numbers_in rows))
+
+-- The body of a field isn't refused, and the text of the field.
+abbrev pub IsGood : Rules → Field → Type 0
+IsGood rules field = rules.refusal (canonical_name field.name) field.body ≡ None
+
+abbrev pub text_under : Rules → Field → List ℕ
+text_under rules field =
+    field_text
+    (canonical_name field.name, rules.canonical (canonical_name field.name) field.body)
+
+-- what follows the name of a field
+abbrev pub body_text : List ℕ → List ℕ
+body_text body = colon ∷ (behind_colon body ++ newline ∷ [])
+
+-- What follows the name of a field was appended, whose body spells a value of a kind.
+pub record AppendsValue (kind : Kind) (body old new : List ℕ) : Type 0 where
+  pub value : ValueMeaning
+  pub spells : SpellsKind kind body value
+  pub appended : new ≡ old ++ body_text (value_text value)
+
+-- the same with the name
+abbrev pub AppendsField : Kind → Field → (old new : List ℕ) → Type 0
+AppendsField kind field old new =
+    AppendsValue kind field.body (old ++ canonical_name field.name) new
+
+-- This is the text of a paragraph that passes.
+abbrev pub HasTextOf : CanonText → Doc → Seen → Type 0
+HasTextOf canon doc seen = canon.text.items ≡ text_built (built (rules_of doc) seen)
+
+-- for the worked cases: two fields
+abbrev two : List Field
+two =
+    record { name = codes "b"; line = 1; body = codes "1" }
+    ∷ record { name = codes "A"; line = 2; body = codes "2" } ∷ []
+
+picked_fields : (first second : Field)
+    → (picked (first ∷ second ∷ []) (1 ∷ 0 ∷ 2 ∷ []) ≡ second ∷ first ∷ no_field ∷ [])
+    × (picked (first ∷ []) [] ≡ [])
+picked_fields first second = (refl, refl)
+
+-- `A` comes before `B`, and not the other way
+two_in_order : NamesAscend (picked two (1 ∷ 0 ∷ []))
+two_in_order = ((refl, tt), (tt, tt))
 
 -- `MD5sum` is in row 28; the name of a row is spelled canonically
 names_of_rows : (length known_names ≡ 54) × (get_or known_names 28 [] ≡ codes "Md5sum")
 names_of_rows = (refl, refl)
 
--- a later span replaces an earlier one, and a span of no row has none
-spans_in_rows : (old : CanonSpan) → (placed (old ∷ old ∷ []) (span_of_one ∷ [])
-    ≡ old ∷ span_of_one ∷ []) × (placed (old ∷ []) (span_of_one ∷ []) ≡ old ∷ [])
-    × (placed (old ∷ []) [] ≡ old ∷ [])
-spans_in_rows old = (refl, refl, refl)
+numbers_of_rows : (numbers_in (0 ∷ 3 ∷ 0 ∷ 1 ∷ []) ≡ 2 ∷ 0 ∷ []) × (numbers_in (0 ∷ []) ≡ [])
+    × (numbers_in [] ≡ [])
+numbers_of_rows = (refl, refl, refl)
+
+-- the second field in the row of `A`, and none in that of `B`
+rows_of_two : AreRows two (codes "A" ∷ codes "B" ∷ []) (2 ∷ 0 ∷ [])
+rows_of_two = ((leb-true 2 2 refl, refl), (tt, tt))
+
+-- as many rows as names
+rows_for_names : (row : ℕ) (name : List ℕ) → (AreRows two [] (row ∷ []) ≡ ⊥)
+    × (AreRows two (name ∷ []) [] ≡ ⊥) × (AreRows two [] [] ≡ Unit {0})
+rows_for_names row name = (refl, refl, refl)
+
+first_names : (comes_first two 1 0 ≡ true) × (comes_first two 0 1 ≡ false)
+first_names = (refl, refl)
+
+-- `B: 1` where bodies count as canonical text, and none is refused
+abbrev sample : Rules
+sample =
+    record {
+      refusal = λ name body. None;
+      canonical = λ name body. body;
+      required = [];
+      single = false;
+    }
+
+text_of_field : (text_under sample (get_or two 0 no_field) ≡ codes "B: 1\n")
+    × (body_text [] ≡ codes ":\n")
+text_of_field = (refl, refl)

@@ -1,12 +1,12 @@
 -- What the parts of a reader of checked paragraphs show while the next one is found.
 use Rattle.std.specs.Prelude.{◌≡◌, ◌⊎◌, ℕ, ◌+◌, ◌<◌, ◌≤◌, ◌==◌, ◌&&◌, Bool, true, false, cond, List, [], length, Option, None, Some, Result, Ok, Err, refl}
 use Rattle.std.proofs.lemmas.Bool.{leb-true}
+use Rattle.deb_base.specs.Bodies.{file_limit}
 use Rattle.deb_base.specs.declared.code.Code.TheVariants.{NoParagraph, FileTooLong}
 use Rattle.deb_base.specs.declared.fault.Fault.{Fault}
 use Rattle.deb_base.specs.declared.fault.Fault.TheVariants.{Refused}
 use Rattle.deb_base.specs.declared.refusal.Refusal.{Refusal}
 use Rattle.deb_syntax.specs.Answers.{Seen}
-use Rattle.deb_syntax.specs.Lines.{file_limit}
 use Rattle.deb_syntax.specs.Meaning.{Entries}
 use Rattle.deb_base.specs.Docs.{is_single}
 use Rattle.deb_base.specs.declared.doc.Doc.{Doc}

@@ -3,14 +3,13 @@ use Rattle.std.specs.Prelude.{◌≡◌, ℕ, ◌+◌, List, [], ◌∷◌, map,
 use Rattle.std.specs.List.{AllByRecursion}
 use Rattle.std.specs.Str.{is_utf8, chars}
 use lib.Utf8.{encode}
-use Rattle.deb_base.specs.Bodies.{paragraph_limit}
+use Rattle.deb_base.specs.Bodies.{paragraph_limit, file_limit}
 use Rattle.deb_base.specs.declared.code.Code.TheVariants.{MissingField}
 use Rattle.deb_base.specs.Kinds.{kind_at, kind_of, known_row}
 use Rattle.deb_base.specs.declared.doc.Doc.{Doc}
 use Rattle.deb_base.specs.declared.doc.Doc.TheVariants.{Packages}
 use Rattle.deb_base.specs.declared.refusal.Refusal.{Refusal}
 use Rattle.deb_syntax.specs.Answers.{Seen, next_answer}
-use Rattle.deb_syntax.specs.Lines.{file_limit}
 use Rattle.deb_syntax.specs.Meaning.{Entries}
 use Rattle.deb_control.specs.Checking.{CheckedState, FitsChecked, all_pass, is_judged}
 use Rattle.deb_control.specs.Documents.{rules_of}

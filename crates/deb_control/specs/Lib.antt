@@ -20,6 +20,9 @@ pub mod Finding
 pub mod PassingValues
 pub mod Visiting
 pub mod CanonTexts
+pub mod FieldWords
+pub mod ShownValues
+pub mod FieldTexts
 pub mod CheckedStates
 pub mod ReadingOn
 pub mod Sorting
@@ -29,3 +32,10 @@ pub mod Required
 pub mod Resuming
 pub mod Streams
 pub mod StreamLaws
+pub mod AllRefusals
+pub mod SeenRefusals
+pub mod Positions
+pub mod GivenRefusals
+pub mod WrittenRefusals
+pub mod Ascending
+pub mod Remaining

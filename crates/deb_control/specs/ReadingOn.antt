@@ -1,11 +1,11 @@
 -- What a call says that reads on in a file whose first paragraphs were given (Debian Policy
 -- 5.1; the limits and the order of the refusals are this project's own).
 use Rattle.std.specs.Prelude.{refl, ◌≡◌, ℕ, List, Option, Some, None, IfOk, IfErr, Result}
+use Rattle.deb_base.specs.Bodies.{file_limit}
 use Rattle.deb_base.specs.Devices.{Shown, read_failures_after}
 use Rattle.deb_base.specs.Faults.{IsReadersFault}
 use Rattle.deb_base.specs.declared.fault.Fault.{Fault}
 use Rattle.deb_base.specs.Reading.{TakesNoMore}
-use Rattle.deb_syntax.specs.Lines.{file_limit}
 use Rattle.deb_base.specs.declared.doc.Doc.{Doc}
 use Rattle.deb_control.specs.Calls.{IfRefused}
 use Rattle.deb_control.specs.Checking.{CheckedState, HasChecked, IsRefusalOfDocument}

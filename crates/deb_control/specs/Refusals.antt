@@ -9,8 +9,8 @@ use Rattle.deb_base.specs.declared.code.Code.{Code}
 use Rattle.deb_base.specs.declared.code.Code.TheVariants.{ParagraphTooLong, FileTooLong, NoParagraph, TooManyParagraphs, MissingField, Comment, BadNumber}
 use Rattle.deb_base.specs.declared.refusal.Refusal.{Refusal}
 use Rattle.deb_base.specs.Names.{canonical_name}
-use Rattle.deb_base.specs.Bodies.{paragraph_limit}
-use Rattle.deb_syntax.specs.Lines.{Paragraph, lines_of, file_limit}
+use Rattle.deb_base.specs.Bodies.{paragraph_limit, file_limit}
+use Rattle.deb_syntax.specs.Lines.{Paragraph, lines_of}
 use Rattle.deb_syntax.specs.Fields.{Field, has_name}
 use Rattle.deb_syntax.specs.Meaning.{Entries, entries_of}
 use Rattle.deb_syntax.specs.Answers.{Seen, line_beyond, paragraphs_within_under, answer_of_first_under}

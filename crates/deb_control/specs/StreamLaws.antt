@@ -1,18 +1,20 @@
--- Laws of the stream of a document (this project's own).
-use Rattle.std.specs.Prelude.{◌≡◌, ◌↔◌, ℕ, false, List, [], ◌∷◌, ◌++◌, length, Option, Some, None, Ok, Err, refl}
+-- Laws of the stream of a document, and of the lines of its refusals (this project's own).
+use Rattle.std.specs.Prelude.{◌≡◌, ◌↔◌, ℕ, true, false, List, [], ◌∷◌, ◌++◌, length, Option, Some, None, Ok, Err, refl}
 use Rattle.deb_base.specs.Bodies.{paragraph_limit}
+use Rattle.deb_base.specs.Docs.{is_single}
 use Rattle.deb_base.specs.declared.doc.Doc.{Doc}
 use Rattle.deb_base.specs.declared.refusal.Refusal.{Refusal}
 use Rattle.deb_syntax.specs.Lines.{Paragraph}
 use Rattle.deb_syntax.specs.Meaning.{Entries}
 use Rattle.deb_syntax.specs.Resuming.{IsWithout}
+use Rattle.deb_control.specs.AllRefusals.{file_lines, lines_of_refusals, refusals_of, total_line}
 use Rattle.deb_control.specs.Documents.{Accepted, Meaning, refusal_of, rules_of}
 use Rattle.deb_control.specs.Refusals.{next_checked}
-use Rattle.deb_control.specs.Streams.{ended_by, is_end_under, item_of, refusals_by, stream_from, with_item}
+use Rattle.deb_control.specs.Streams.{ended_by, is_end_under, item_of, refusal_at_end, refusals_by, stream_from, with_item}
 
-abbrev pub first_of : List Refusal → Option Refusal
+abbrev pub first_of : {A : Type 0} → List A → Option A
 first_of [] = None
-first_of (refusal ∷ refusals) = Some refusal
+first_of (one ∷ more) = Some one
 
 -- The first refusal of the stream of a file, if it has one, is the refusal of the file.
 abbrev pub FirstIsTheRefusal : Type 0
@@ -52,6 +54,24 @@ EndEndsTheStream =
     → next_checked (rules_of doc) text before ≡ Ok None
     → stream_from (rules_of doc) text before ≡ ended_by None
 
-first_refusals : (refusal other : Refusal) → (first_of [] ≡ None)
+-- No line of a refusal is written exactly where the file is accepted with some meaning.
+abbrev pub NoLineIsAccepted : Type 0
+NoLineIsAccepted =
+    (doc : Doc) (text : List ℕ) → (lines_of_refusals (refusals_of doc text) ≡ [])
+    ↔ ((meaning : Meaning) × Accepted doc text meaning)
+
+-- A kind of document that has exactly one paragraph has no refusal but that of the file.
+abbrev pub SingleHasOne : Type 0
+SingleHasOne =
+    (doc : Doc) (text : List ℕ) → is_single doc ≡ true
+    → refusals_of doc text ≡ refusal_at_end (refusal_of doc text)
+
+-- For a file that is accepted with a meaning the last line is the only one.
+abbrev pub AcceptedHasOneLine : Type 0
+AcceptedHasOneLine =
+    (doc : Doc) (text : List ℕ) (meaning : Meaning) → Accepted doc text meaning
+    → file_lines doc text ≡ total_line (length meaning) 0
+
+first_refusals : (refusal other : Refusal) → (first_of {A = Refusal} [] ≡ None)
     × (first_of (refusal ∷ other ∷ []) ≡ Some refusal)
 first_refusals refusal other = (refl, refl)

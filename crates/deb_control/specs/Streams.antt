@@ -4,12 +4,12 @@
 use Rattle.std.specs.Prelude.{◌≡◌, ℕ, ◌==◌, ◌||◌, Bool, true, false, cond, List, [], ◌∷◌, ◌++◌, length, nat_lt, drop, Option, Some, None, is_some, Result, Ok, Err, codes, refl}
 use Rattle.std.specs.Str.{is_utf8, chars}
 use lib.Utf8.{encode}
-use Rattle.deb_base.specs.Bodies.{Line, paragraph_limit}
+use Rattle.deb_base.specs.Bodies.{Line, paragraph_limit, file_limit}
 use Rattle.deb_base.specs.Codes.{number_of}
 use Rattle.deb_base.specs.declared.code.Code.TheVariants.{Comment, FileTooLong, MissingField, NoParagraph, ParagraphTooLong, TooManyParagraphs}
 use Rattle.deb_base.specs.declared.refusal.Refusal.{Refusal}
 use Rattle.deb_syntax.specs.Answers.{line_beyond, line_too_long, paragraphs_within_under}
-use Rattle.deb_syntax.specs.Lines.{Paragraph, file_limit}
+use Rattle.deb_syntax.specs.Lines.{Paragraph}
 use Rattle.deb_syntax.specs.Meaning.{Entries}
 use Rattle.deb_control.specs.Refusals.{Answered, answer_behind_under, line_behind, passed_in}
 use Rattle.deb_control.specs.Rules.{Rules}

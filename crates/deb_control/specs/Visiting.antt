@@ -81,19 +81,25 @@ pub record VisitsValues {V : Type 0} (Visited : V → List Visit → Type 0) (vi
   pub spelled : AllByRecursion (IsVisit doc) visited
   pub visits : Visited visitor visited
 
--- a paragraph was found, and its fields were visited
-abbrev pub VisitsFound : {V : Type 0} → (V → List Visit → Type 0) → V → Doc → Option Seen → Type 0
-VisitsFound Visited visitor doc None = ⊥
-VisitsFound Visited visitor doc (Some seen) = VisitsValues Visited visitor doc seen
+-- a paragraph was found, and this holds of it
+abbrev pub HoldsFound : (Seen → Type 0) → Option Seen → Type 0
+HoldsFound Holds None = ⊥
+HoldsFound Holds (Some seen) = Holds seen
 
 -- A call that goes on after the next paragraph, and answers whether there is one; if there is, it
--- is the one that was given last, and its fields were visited.
-pub record PassesVisiting {V : Type 0} (Visited : V → List Visit → Type 0) (visitor : V) (doc : Doc)
-    (before : CheckedMoment) (result : Result Bool Fault) (after : CheckedMoment) : Type 0 where
+-- is the one that was given last, and this is kept of it.
+pub record PassesKeeping (Keeps : Seen → Type 0) (doc : Doc) (before : CheckedMoment)
+    (result : Result Bool Fault) (after : CheckedMoment) : Type 0 where
   pub given : Seen
   pub checks : ChecksOn doc before (given_answer (passing_seen doc given) result) after
   pub current : IfOk result (λ gives. after.state.current ≡ cond gives (Some given) None)
-  pub visits : result ≡ Ok true → VisitsValues Visited visitor doc given
+  pub keeps : result ≡ Ok true → Keeps given
+
+-- its fields were visited
+abbrev pub PassesVisiting : {V : Type 0} → (V → List Visit → Type 0) → V → Doc → CheckedMoment
+    → Result Bool Fault → CheckedMoment → Type 0
+PassesVisiting Visited visitor doc before result after =
+    PassesKeeping (VisitsValues Visited visitor doc) doc before result after
 
 -- for the worked cases: two fields of one name
 abbrev two_visits : List Visit
@@ -116,3 +122,7 @@ texts_of_visits : (map visit_text two_visits
     × (map canonical_visit two_visits ≡ fields_visited two_visits)
     × (texts_length two_visits ≡ 24) × (most ≡ 18446744073709551615)
 texts_of_visits = (refl, refl, refl, refl)
+
+found_or_not : (Holds : Seen → Type 0) (seen : Seen) → (HoldsFound Holds (Some seen) ≡ Holds seen)
+    × (HoldsFound Holds None ≡ ⊥)
+found_or_not Holds seen = (refl, refl)

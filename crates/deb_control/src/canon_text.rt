@@ -1,159 +1,228 @@
-//! The canonical text of a paragraph, written while its fields are visited.
+//! Writes the canonical text of a paragraph.
 
-ghost use Rattle.std.specs.Prelude.{◌≡◌, ◌++◌, List, length, map, nat_lt, true, IfOk, OnOk};
-ghost use Rattle.std.specs.List.{flat_map, list_all};
+ghost use Rattle.std.specs.Prelude.{◌≡◌, ◌++◌, ◌<◌, ℕ, List, [], length, get_or, false, true, None, Ok, IfOk, IsSome, OnOk};
+ghost use Rattle.std.specs.List.{AllByRecursion, flat_map};
 ghost use Rattle.std.specs.List.Sorted.{IsPermutation, IsSortedBy};
-ghost use Rattle.deb_syntax.specs.Fields.{AreDistinct};
-ghost use Rattle.deb_syntax.specs.Meaning.{byte_order, entries_of};
+ghost use Rattle.deb_syntax.specs.Raw.{field_of, fields_of};
+ghost use Rattle.deb_field.specs.Values.{SpellsKind, kind_refusal};
+ghost use Rattle.deb_field.specs.ValueMeanings.{value_meaning};
 ghost use Rattle.deb_control.specs.Canonical.{paragraph_text};
-ghost use Rattle.deb_control.specs.CanonTexts.{HoldsTexts, name_in, names_ascend, part_of, placed, text_in};
-ghost use Rattle.deb_control.specs.Visiting.{Visit, canonical_visit, fields_visited};
+ghost use Rattle.deb_control.specs.CanonTexts.{AppendsField, AppendsValue, ArePlaced, HasTextOf, IsGood, IsListOf, IsOrderOf, comes_first, no_field, numbers_in, picked, text_under};
+ghost use Rattle.deb_control.specs.Documents.{rules_of};
+ghost use Rattle.deb_control.specs.Refusals.{canonical_entries, value_refusal_of};
 
+use crate::checker::ParagraphChecker;
 use crate::field::append_body;
-use crate::name::append_name;
-use crate::visitor::FieldVisitor;
-use deb_base::KNOWN_FIELDS;
-use deb_field::Value;
-use deb_syntax::RawField;
+use crate::name::{append_name, compare};
+use crate::paragraph_check::{check_paragraph, has_required, kind_of_field};
+use crate::visitor::NoVisitor;
+use deb_base::{Fault, KNOWN_FIELDS, Kind, PARAGRAPH_LIMIT};
+use deb_field::{Doc, Line, Text, Value, ValueFault};
+use deb_syntax::{Raw, RawField};
 use std::alloc::{AllocError, Global};
 use std::cmp::Ordering;
 
-/// Where the canonical text of a field is in a buffer, where its name ends, and its row in the
-/// table of fields, or one after the last. The buffer has fewer than 2^32 bytes.
-#[derive(Clone, Copy)]
-pub(crate) struct CanonSpan {
-    pub(crate) row: u32,
-    pub(crate) start: u32,
-    pub(crate) name_end: u32,
-    pub(crate) end: u32,
-}
-
-/// The span of no field, in which there is no text.
-const NO_SPAN: CanonSpan = CanonSpan {
-    row: 0,
-    start: 0,
-    name_end: 0,
-    end: 0,
-};
-
-/// The canonical texts of the fields that were visited, in file order.
+/// The canonical text of a paragraph, and the numbers of its fields, counted from 0, in ascending
+/// order of their canonical names.
 #[derive(Drop)]
 pub(crate) struct CanonText {
-    pub(crate) buffer: Vec<u8>,
-    pub(crate) spans: Vec<CanonSpan>,
+    order: Vec<usize>,
+    pub(crate) text: Vec<u8>,
 }
 
 impl CanonText {
-    /// No field was visited. Takes no memory.
+    /// No text. Takes no memory.
     pub(crate) fn new(alloc: Global) -> CanonText {
         CanonText {
-            buffer: Vec::new(alloc),
-            spans: Vec::new(alloc),
+            order: Vec::new(alloc),
+            text: Vec::new(alloc),
         }
     }
 
-    /// Replaces `text` by the texts of the fields, in ascending order of their canonical names.
-    pub(crate) fn sort_into(&mut self, text: &mut Vec<u8>) -> Result<(), AllocError>
-        ensures { (visited : List Visit) → HoldsTexts self.old visited
-            → AreDistinct (fields_visited visited) → OnOk result
-            (text.new.items ≡ paragraph_text (entries_of (map canonical_visit visited))) }
+    /// Writes the text of a paragraph, and returns whether none of its values is refused. If one
+    /// is, the text isn't whole.
+    fn write(&mut self, alloc: Global, doc: Doc, paragraph: &Raw<'_>) -> Result<bool, AllocError>
+        ensures good { result ≡ Ok true
+            → value_refusal_of (rules_of doc) (fields_of paragraph.now) ≡ None }
+        ensures text { result ≡ Ok true → self.new.text.items
+            ≡ paragraph_text (canonical_entries (rules_of doc) (fields_of paragraph.now)) }
+        ensures refused { result ≡ Ok false
+            → IsSome (value_refusal_of (rules_of doc) (fields_of paragraph.now)) }
     {
-        text.clear();
-        let mut rows = [NO_SPAN; KNOWN_FIELDS];
-        if place(self.spans.as_slice(), &mut rows) {
-            append_spans(self.buffer.as_slice(), &rows, text)?;
-        } else {
-            sort(&mut self.spans, self.buffer.as_slice());
-            append_spans(self.buffer.as_slice(), self.spans.as_slice(), text)?;
+        sort_fields(paragraph, &mut self.order)?;
+        self.text.clear();
+        append_fields(alloc, doc, paragraph, &self.order, &mut self.text)
+    }
+}
+
+impl ParagraphChecker for CanonText {
+    ghost Keeps = { λ canon doc seen. HasTextOf canon doc seen };
+
+    fn check(&mut self, alloc: Global, doc: Doc, paragraph: &Raw<'_>) -> Result<u64, Fault> {
+        if self.write(alloc, doc, paragraph)?
+            && has_required(doc, paragraph)
+            && self.text.len() <= PARAGRAPH_LIMIT
+        {
+            return Ok(self.text.len() as u64);
         }
-        Ok(())
+        // The first refusal, in the order of the file.
+        check_paragraph(alloc, doc, paragraph, &mut NoVisitor)?;
+        unreachable!()
     }
 }
 
-impl FieldVisitor for CanonText {
-    ghost Visited = { HoldsTexts };
-
-    fn start(&mut self) {
-        self.buffer.clear();
-        self.spans.clear();
-    }
-
-    // One call for all kinds of values, whose visits are inlined where the kind is known.
-    #[inline(never)]
-    fn visit(&mut self, field: &RawField<'_>, value: &Value<'_>) -> Result<(), AllocError> {
-        let start = offset_behind(&self.buffer)?;
-        append_name(field, &mut self.buffer)?;
-        let name_end = offset_behind(&self.buffer)?;
-        append_body(value, &mut self.buffer)?;
-        let end = offset_behind(&self.buffer)?;
-        self.spans.push(CanonSpan {
-            row: field.id.row() as u32,
-            start,
-            name_end,
-            end,
-        })?;
-        Ok(())
-    }
-}
-
-/// Returns the offset at which a buffer ends, or an error if a span can't hold it. The canonical
-/// texts of one paragraph's fields are far shorter.
-fn offset_behind(buffer: &[u8]) -> Result<u32, AllocError>
-    ensures { IfOk result (λ offset. offset ≡ length buffer.now) }
+/// Replaces `order` by the numbers of a paragraph's fields in the order of their names.
+fn sort_fields(paragraph: &Raw<'_>, order: &mut Vec<usize>) -> Result<(), AllocError>
+    ensures { OnOk result (IsOrderOf (fields_of paragraph.now) order.new.items) }
 {
-    u32::try_from(buffer.len()).map_err(|_| AllocError)
+    order.clear();
+    let mut rows = [0; KNOWN_FIELDS];
+    if place_fields(paragraph, &mut rows) {
+        append_numbers(&rows, order)?;
+    } else {
+        list_fields(paragraph, order)?;
+        sort_by_names(paragraph, order);
+    }
+    Ok(())
 }
 
-/// Puts each span into the row of its field, and returns whether the table has each field. The
-/// canonical names of the rows ascend.
-fn place(spans: &[CanonSpan], rows: &mut [CanonSpan]) -> bool
-    ensures known { result ≡ true
-        → list_all (λ span. nat_lt span.row (length rows.old)) spans.now ≡ true }
-    ensures placed { result ≡ true → rows.new ≡ placed rows.old spans.now }
+/// Puts the number of each field, counted from 1, into the row of its field in the table, and
+/// returns whether the table has each. The canonical names of the rows ascend.
+fn place_fields(paragraph: &Raw<'_>, rows: &mut [usize]) -> bool
+    ensures { result ≡ true → ArePlaced (fields_of paragraph.now) 0 rows.old
+        → ArePlaced (fields_of paragraph.now) (length (fields_of paragraph.now)) rows.new }
 {
-    for span in spans {
-        let row = span.row as usize;
-        if row >= rows.len() {
-            return false;
+    for index in 0..paragraph.len() {
+        if let Some(field) = paragraph.field(index) {
+            let row = field.id.row();
+            if row >= rows.len() {
+                return false;
+            }
+            rows[row] = index + 1;
         }
-        rows[row] = *span;
     }
     true
 }
 
-/// Sorts spans by the names in them.
-fn sort(spans: &mut Vec<CanonSpan>, buffer: &[u8])
-    ensures permutation { IsPermutation spans.old.items spans.new.items }
-    ensures sorted { IsSortedBy (names_ascend buffer.now) spans.new.items }
+/// Appends the numbers, counted from 0, of the fields in the rows.
+fn append_numbers(rows: &[usize], order: &mut Vec<usize>) -> Result<(), AllocError>
+    ensures { OnOk result (order.new.items ≡ order.old.items ++ numbers_in rows.now) }
 {
-    spans.sort_unstable_by(|span, other| compare_names(buffer, span, other));
-}
-
-/// Compares the names in two spans in the order of bytes.
-fn compare_names(buffer: &[u8], span: &CanonSpan, other: &CanonSpan) -> Ordering
-    ensures { result ≡ byte_order (name_in buffer.now span.now) (name_in buffer.now other.now) }
-{
-    let name = part(buffer, span.start, span.name_end);
-    name.cmp(part(buffer, other.start, other.name_end))
-}
-
-/// Appends the texts in spans.
-fn append_spans(buffer: &[u8], spans: &[CanonSpan], text: &mut Vec<u8>) -> Result<(), AllocError>
-    ensures { OnOk result
-        (text.new.items ≡ text.old.items ++ flat_map (text_in buffer.now) spans.now) }
-{
-    for span in spans {
-        if span.end > 0 {
-            text.extend_from_slice(part(buffer, span.start, span.end))?;
+    for number in rows {
+        if *number > 0 {
+            order.push(*number - 1)?;
         }
     }
     Ok(())
 }
 
-/// Returns the bytes from one offset up to another, as far as there are any.
-fn part(buffer: &[u8], from: u32, to: u32) -> &[u8]
-    ensures { result.now ≡ part_of buffer.now from to }
+/// Appends the numbers of a paragraph's fields, counted from 0, to an empty list.
+fn list_fields(paragraph: &Raw<'_>, order: &mut Vec<usize>) -> Result<(), AllocError>
+    ensures { OnOk result (order.old.items ≡ []
+        → IsListOf (fields_of paragraph.now) order.new.items) }
 {
-    let front = &buffer[..buffer.len().min(to as usize)];
-    &front[front.len().min(from as usize)..]
+    for number in 0..paragraph.len() {
+        order.push(number)?;
+    }
+    Ok(())
+}
+
+/// Sorts fields by the canonical spellings of their names.
+fn sort_by_names(paragraph: &Raw<'_>, order: &mut Vec<usize>)
+    ensures permutation { IsPermutation order.old.items order.new.items }
+    ensures sorted { IsSortedBy (comes_first (fields_of paragraph.now)) order.new.items }
+{
+    order.sort_unstable_by(|one, other| {
+        compare(name_at(paragraph, *one), name_at(paragraph, *other))
+    });
+}
+
+/// The name of the field of a number, or nothing if there is no such field.
+fn name_at<'a>(paragraph: &Raw<'a>, number: usize) -> &'a [u8]
+    ensures { result.now ≡ (get_or (fields_of paragraph.now) number no_field).name }
+{
+    match paragraph.field(number) {
+        Some(field) => field.name,
+        None => b"",
+    }
+}
+
+/// Appends the texts of fields, and returns whether none of their values is refused.
+fn append_fields(
+    alloc: Global,
+    doc: Doc,
+    paragraph: &Raw<'_>,
+    order: &[usize],
+    text: &mut Vec<u8>,
+) -> Result<bool, AllocError>
+    requires { AllByRecursion (λ k. k < length (fields_of paragraph.now)) order.now }
+    ensures good { result ≡ Ok true → AllByRecursion (IsGood (rules_of doc))
+        (picked (fields_of paragraph.now) order.now) }
+    ensures text { result ≡ Ok true → text.new.items ≡ text.old.items
+        ++ flat_map (text_under (rules_of doc)) (picked (fields_of paragraph.now) order.now) }
+    ensures refused { result ≡ Ok false → AllByRecursion (IsGood (rules_of doc))
+        (picked (fields_of paragraph.now) order.now) → ⊥ }
+{
+    for number in order {
+        if let Some(field) = paragraph.field(*number) {
+            if !append_field(alloc, kind_of_field(doc, &field), &field, text)? {
+                return Ok(false);
+            }
+        }
+    }
+    Ok(true)
+}
+
+/// Appends the text of a field whose values are of a kind, and returns whether its value isn't
+/// refused.
+fn append_field(
+    alloc: Global,
+    kind: Kind,
+    field: &RawField<'_>,
+    text: &mut Vec<u8>,
+) -> Result<bool, AllocError>
+    ensures good { result ≡ Ok true
+        → AppendsField kind (field_of field.now) text.old.items text.new.items }
+    ensures refused { result ≡ Ok false → IsSome (kind_refusal kind field.now.body.now) }
+{
+    append_name(field, text)?;
+    // Each of the two kinds that most fields have is read without a `Result` of any value.
+    match kind {
+        Kind::Text => append_good(&Value::Text(Text::new(field.body)), text),
+        Kind::Line => match Line::parse(field.body) {
+            Ok(line) => append_good(&Value::Line(line), text),
+            Err(_) => Ok(false),
+        },
+        _ => append_as_kind(alloc, kind, field.body, text),
+    }
+}
+
+/// Appends what follows the name of a field with this value.
+fn append_good(value: &Value<'_>, text: &mut Vec<u8>) -> Result<bool, AllocError>
+    ensures appended { OnOk result ((kind : Kind) (body : List ℕ)
+        → SpellsKind kind body (value_meaning value.now)
+        → AppendsValue kind body text.old.items text.new.items) }
+    ensures good { IfOk result (λ good. good ≡ true) }
+{
+    append_body(value, text)?;
+    Ok(true)
+}
+
+/// Appends what follows the name of a field with a value of any kind. The room for the value is
+/// cleared here alone, and not for each field that needs none.
+#[inline(never)]
+fn append_as_kind(
+    alloc: Global,
+    kind: Kind,
+    body: &[u8],
+    text: &mut Vec<u8>,
+) -> Result<bool, AllocError>
+    ensures good { result ≡ Ok true → AppendsValue kind body.now text.old.items text.new.items }
+    ensures refused { result ≡ Ok false → IsSome (kind_refusal kind body.now) }
+{
+    match Value::of_kind(alloc, kind, body) {
+        Ok(value) => append_good(&value, text),
+        Err(ValueFault::Memory) => Err(AllocError),
+        Err(ValueFault::Refused(_)) => Ok(false),
+    }
 }

@@ -8,11 +8,12 @@ ghost use Rattle.deb_control.specs.Checking.{current_answer, is_found, is_sound,
 ghost use Rattle.deb_control.specs.Documents.{rules_of};
 ghost use Rattle.deb_control.specs.Refusals.{built};
 ghost use Rattle.deb_control.specs.Resuming.{is_inside, is_none_or_refusal};
-ghost use Rattle.deb_control.specs.Visiting.{PassesVisiting};
+ghost use Rattle.deb_control.specs.Visiting.{PassesKeeping, PassesVisiting};
 
 use crate::canon_text::CanonText;
 use crate::checked_text::CheckedText;
 use crate::checked_view::CheckedView;
+use crate::checker::ParagraphChecker;
 use crate::find::find;
 use crate::totals::Totals;
 use crate::visitor::FieldVisitor;
@@ -33,10 +34,8 @@ pub struct Checked {
     doc: Doc,
     totals: Totals,
     fault: Option<Fault>,
-    /// The canonical texts of the fields of the paragraph that `next` found last.
+    /// The canonical text of the paragraph that `next` found last.
     canon: CanonText,
-    /// The canonical text of that paragraph.
-    text: Vec<u8>,
     alloc: Global,
     ghost inside: { IsTrue (is_inside fault (state_of paragraphs).fault) },
     ghost sound: { IsTrue (is_sound fault (state_of paragraphs).fault) },
@@ -74,9 +73,15 @@ impl Checked {
             totals: Totals::none(),
             fault: None,
             canon: CanonText::new(alloc),
-            text: Vec::new(alloc),
             alloc,
         }
+    }
+
+    /// The kind of document that it reads.
+    pub(crate) fn doc(&self) -> Doc
+        ensures { result ≡ doc_read self.now }
+    {
+        self.doc
     }
 
     /// Returns the next paragraph of the file, if it passes, or `None` if there is no further one
@@ -147,23 +152,7 @@ impl Checked {
         ensures source_untouched { IsQuietChecked (checked_state self.old) → reader.new ≡
             reader.old }
     {
-        if let Some(fault) = self.fault {
-            return Err(fault);
-        }
-        match find(
-            self.alloc,
-            self.doc,
-            &mut self.paragraphs,
-            &mut self.totals,
-            visitor,
-            reader,
-        ) {
-            Ok(found) => Ok(found),
-            Err(fault) => {
-                self.fault = Some(fault);
-                Err(fault)
-            }
-        }
+        self.go(visitor, reader)
     }
 
     /// Goes on after the paragraph that `advance` or `next` refused: forgets that error, so that
@@ -243,6 +232,49 @@ impl Checked {
         self.paragraphs.line(number)
     }
 
+    /// Moves past the next paragraph, as `advance` does, and has it checked.
+    fn go<R: Source, C: ParagraphChecker>(
+        &mut self,
+        checker: &mut C,
+        reader: &mut R,
+    ) -> Result<bool, Fault>
+        ensures passes { PassesKeeping (C.Keeps checker.new self.old.doc) self.old.doc
+            (checked_moment self.old (R.left reader.old) (R.failures reader.old)) result
+            (checked_moment self.new (R.left reader.new) (R.failures reader.new)) }
+        ensures doc { self.new.doc ≡ self.old.doc }
+        ensures lines { IfNone (checked_state self.old).fault
+            ((text : List ℕ) (answered : List Answered) → FitsChecked self.old.doc text
+            answered (checked_state self.old) (R.left reader.old) → IfRefused result
+            (λ _. lines_checked self.new ≡ lines_given (rules_of self.old.doc) text
+            answered)) }
+        ensures refused { IfNone (checked_state self.old).fault
+            ((text : List ℕ) (answered : List Answered) → FitsChecked self.old.doc text
+            answered (checked_state self.old) (R.left reader.old) → IfErr result
+            (λ fault. IfSome (lines_checked self.new) (λ _. FitsRefused self.old.doc text
+            answered fault (checked_state self.new) (R.left reader.new)))) }
+        ensures repeats { IsSome (checked_state self.old).fault → self.new ≡ self.old }
+        ensures source_untouched { IsQuietChecked (checked_state self.old) → reader.new ≡
+            reader.old }
+    {
+        if let Some(fault) = self.fault {
+            return Err(fault);
+        }
+        match find(
+            self.alloc,
+            self.doc,
+            &mut self.paragraphs,
+            &mut self.totals,
+            checker,
+            reader,
+        ) {
+            Ok(found) => Ok(found),
+            Err(fault) => {
+                self.fault = Some(fault);
+                Err(fault)
+            }
+        }
+    }
+
     /// Goes on to the next paragraph, which `accepted` then returns with its canonical text, and
     /// returns whether there is one.
     fn step<R: Source>(&mut self, reader: &mut R) -> Result<bool, Fault>
@@ -251,40 +283,28 @@ impl Checked {
             (current_answer self.old.doc (checked_state self.new).current result)
             (checked_moment self.new (R.left reader.new) (R.failures reader.new)) }
         ensures text { result ≡ Ok true → IfSome (checked_state self.new).current
-            (λ seen. self.new.text.items ≡ text_built (built (rules_of self.old.doc) seen)) }
+            (λ seen. self.new.canon.text.items ≡ text_built (built (rules_of self.old.doc) seen)) }
         ensures doc { self.new.doc ≡ self.old.doc }
         ensures source_untouched { IsQuietChecked (checked_state self.old) → reader.new ≡
             reader.old }
     {
-        let totals = self.totals;
         let mut canon = mem::replace(&mut self.canon, CanonText::new(self.alloc));
-        if !self.advance(&mut canon, reader)? {
-            return Ok(false);
-        }
-        match canon.sort_into(&mut self.text) {
-            Ok(()) => {
-                self.canon = canon;
-                Ok(true)
-            }
-            Err(AllocError) => {
-                self.totals = totals;
-                self.fault = Some(Fault::Memory);
-                Err(Fault::Memory)
-            }
-        }
+        let found = self.go(&mut canon, reader);
+        self.canon = canon;
+        found
     }
 
     /// The paragraph that was given last, whose canonical text was built, or `None` if the last
     /// answer was none.
     fn accepted(&self) -> Option<CheckedText<'_>>
         requires text { IfSome (checked_state self.now).current
-            (λ seen. self.now.text.items ≡ text_built (built (rules_of self.now.doc) seen)) }
+            (λ seen. self.now.canon.text.items ≡ text_built (built (rules_of self.now.doc) seen)) }
         ensures passing { option_map passing_of result
             ≡ option_map (passing_seen self.now.doc) (checked_state self.now).current }
         ensures doc { IfSome result (λ accepted. doc_of accepted ≡ self.now.doc) }
     {
         let judged = self.current()?;
-        Some(CheckedText::new(judged, self.text.as_slice()))
+        Some(CheckedText::new(judged, self.canon.text.as_slice()))
     }
 }
 

@@ -12,23 +12,23 @@ ghost use Rattle.deb_control.specs.Finding.{moment_from, AddsPassing, RefusesSee
 ghost use Rattle.deb_control.specs.Refusals.{Answered};
 ghost use Rattle.deb_control.specs.Refused.{lines_given};
 ghost use Rattle.deb_control.specs.Resuming.{FitsRefused, is_inside};
-ghost use Rattle.deb_control.specs.Visiting.{VisitsFound, VisitsValues};
+ghost use Rattle.deb_control.specs.Visiting.{HoldsFound};
 
-use crate::paragraph_check::{check_paragraph, refused};
+use crate::checker::ParagraphChecker;
+use crate::paragraph_check::refused;
 use crate::totals::Totals;
-use crate::visitor::FieldVisitor;
 use deb_base::{Code, Fault, Source};
 use deb_field::{Doc, is_single};
 use deb_syntax::{Paragraphs, Raw};
 use std::alloc::Global;
 
-/// Finds the next paragraph, shows its values to the visitor, and counts it if it passes.
-pub(crate) fn find<R: Source, V: FieldVisitor>(
+/// Finds the next paragraph, has it checked, and counts it if it passes.
+pub(crate) fn find<R: Source, C: ParagraphChecker>(
     alloc: Global,
     doc: Doc,
     paragraphs: &mut Paragraphs,
     totals: &mut Totals,
-    visitor: &mut V,
+    checker: &mut C,
     reader: &mut R,
 ) -> Result<bool, Fault>
     requires sound { (state_of paragraphs.old).fault ≡ None }
@@ -42,8 +42,8 @@ pub(crate) fn find<R: Source, V: FieldVisitor>(
     ensures found { IfOk result
         (λ gives. IsTrue (is_found None doc (state_of paragraphs.new).current)) }
     ensures gives { IfOk result (λ gives. gives ≡ is_some (state_of paragraphs.new).current) }
-    ensures visits { result ≡ Ok true
-        → VisitsFound V.Visited visitor.new doc (state_of paragraphs.new).current }
+    ensures keeps { result ≡ Ok true
+        → HoldsFound (C.Keeps checker.new doc) (state_of paragraphs.new).current }
     ensures lines { (shown : Option Seen) (kept : Option Fault) (text : List ℕ)
         (answered : List Answered) → FitsChecked doc text answered
         (moment_from shown kept paragraphs.old totals.old (R.left reader.old)
@@ -66,7 +66,7 @@ pub(crate) fn find<R: Source, V: FieldVisitor>(
     paragraphs.advance(reader)?;
     match paragraphs.current() {
         None => end(doc, totals, paragraphs.lines()),
-        Some(raw) => pass(alloc, doc, &raw, totals, visitor),
+        Some(raw) => pass(alloc, doc, &raw, totals, checker),
     }
 }
 
@@ -114,22 +114,21 @@ fn end(doc: Doc, totals: &Totals, lines: u64) -> Result<bool, Fault>
 }
 
 /// Checks a paragraph, and counts it if it passes.
-fn pass<V: FieldVisitor>(
+fn pass<C: ParagraphChecker>(
     alloc: Global,
     doc: Doc,
     raw: &Raw<'_>,
     totals: &mut Totals,
-    visitor: &mut V,
+    checker: &mut C,
 ) -> Result<bool, Fault>
     ensures ok { IfOk result
         (λ gives. (gives ≡ true) × AddsPassing doc (seen_of raw.now) totals.old totals.new) }
     ensures fault { IfErr result
         (λ fault. RefusedOrMemory fault (RefusesSeen doc (seen_of raw.now) totals.old)) }
     ensures unchanged { IfErr result (λ fault. totals.new ≡ totals.old) }
-    ensures visits { IfOk result
-        (λ _. VisitsValues V.Visited visitor.new doc (seen_of raw.now)) }
+    ensures keeps { IfOk result (λ _. C.Keeps checker.new doc (seen_of raw.now)) }
 {
-    let length = check_paragraph(alloc, doc, raw, visitor)?;
+    let length = checker.check(alloc, doc, raw)?;
     let Some(more) = totals.with(length) else {
         return Err(refused(Code::FileTooLong, raw.first_line()));
     };

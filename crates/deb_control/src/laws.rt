@@ -1,7 +1,9 @@
-//! Laws of documents. Each function does nothing; its contract is the law.
+//! Laws of documents and of their refusals. Each function does nothing; its contract is the law.
 
 ghost use Rattle.deb_control.specs.Laws.{RefusedOrAccepted, AcceptedMeansOneThing, AcceptedIsWritten, CanonicalTextIsAccepted, CanonicalTextTellsMeanings, CanonicalTextIsItsOwn, WhatIsWrittenIsNormal, RefusalsAreOfTheFile, RefusalsOfAnyAreOfText, RefusalBehindIsOfTheFile, EndBehindIsOfTheFile};
-ghost use Rattle.deb_control.specs.StreamLaws.{EndEndsTheStream, FirstIsTheRefusal, NoRefusalIsAccepted, PassedIsNext, RefusedIsLeftOut};
+ghost use Rattle.deb_control.specs.Ascending.{RefusalsAscend, RunsAreInOrder};
+ghost use Rattle.deb_control.specs.Remaining.{AllRemains, RemainingIsAccepted};
+ghost use Rattle.deb_control.specs.StreamLaws.{AcceptedHasOneLine, EndEndsTheStream, FirstIsTheRefusal, NoLineIsAccepted, NoRefusalIsAccepted, PassedIsNext, RefusedIsLeftOut, SingleHasOne};
 
 /// A file has no refusal exactly if it is accepted with some meaning.
 pub fn a_file_is_refused_or_accepted()
@@ -92,4 +94,48 @@ pub fn what_passes_is_next_in_the_stream()
 /// If `Checked` returns that no paragraph follows those that it has returned, the stream ends.
 pub fn the_end_ends_the_stream()
     ensures { EndEndsTheStream }
+{}
+
+/// A file has no line of a refusal exactly if it is accepted with some meaning.
+pub fn no_line_is_acceptance()
+    ensures { NoLineIsAccepted }
+{}
+
+/// The first refusal of a file, if it has one, is the one that `check` returns.
+pub fn the_first_line_is_that_of_check()
+    ensures { FirstIsTheRefusal }
+{}
+
+/// For a kind of document that has exactly one paragraph, the only refusal, if there is one, is the
+/// one that `check` returns.
+pub fn a_single_paragraph_has_one_line()
+    ensures { SingleHasOne }
+{}
+
+/// For an accepted file the only line is the last one, `ok N, 0 refused`, with the number of the
+/// file's paragraphs.
+pub fn an_accepted_file_has_its_last_line_alone()
+    ensures { AcceptedHasOneLine }
+{}
+
+/// The lines of a file's refusals ascend strictly.
+pub fn refusals_ascend()
+    ensures { RefusalsAscend }
+{}
+
+/// The runs are lines of the file, one after another, and a refused run has its refusal at one of
+/// its lines. A refusal that ends the stream is after them.
+pub fn a_refusal_is_within_its_run()
+    ensures { RunsAreInOrder }
+{}
+
+/// For a kind of document that has any number of paragraphs, the text before a refusal that ends
+/// the stream, without the refused runs, is accepted with exactly the paragraphs that passed.
+pub fn the_file_without_its_refused_runs_is_accepted()
+    ensures { RemainingIsAccepted }
+{}
+
+/// If nothing is refused, the text without the refused runs is the file.
+pub fn a_file_without_refusals_remains()
+    ensures { AllRemains }
 {}

@@ -10,22 +10,30 @@
 //! let paragraph = Paragraph::build(alloc, Doc::Packages, &raw)?;
 //! paragraph.canon_into(&mut out)?;
 //! ```
+//!
+//! [`check`] returns the first refusal of a file. [`Refusals`] reads all, one for each run of lines
+//! that is refused, and [`check_all`] writes a line for each and a last one with the counts.
 #![tactic(auto)]
 
 mod canon_text;
 mod checked;
 mod checked_text;
 mod checked_view;
+mod checker;
 mod checking;
 mod comparing;
 mod field;
+mod field_texts;
 mod find;
 pub mod laws;
 mod name;
+mod next_refusal;
 mod normalising;
 mod paragraph;
 mod paragraph_check;
+mod refusals;
 mod side;
+mod summary;
 mod totals;
 mod typed_field;
 pub mod value_laws;
@@ -34,10 +42,13 @@ mod visitor;
 pub use checked::Checked;
 pub use checked_text::CheckedText;
 pub use checked_view::CheckedView;
-pub use checking::check;
+pub use checking::{check, check_all};
 pub use comparing::same;
+pub use field_texts::FieldTexts;
 pub use normalising::normalise;
 pub use paragraph::Paragraph;
+pub use refusals::{Refusals, RefusedRun};
 pub use side::{Side, SideFault};
+pub use summary::Summary;
 pub use typed_field::TypedField;
 pub use visitor::{FieldVisitor, NoVisitor};

@@ -1,9 +1,9 @@
 //! Writes the canonical text of a file.
 
 ghost use Rattle.std.specs.Prelude.{◌≡◌, ℕ, List, Some, IfOk};
+ghost use Rattle.deb_base.specs.Bodies.{file_limit};
 ghost use Rattle.deb_base.specs.Devices.{read_failures_after, write_failures_after, AppendsFront, ReadFaultIffFailed, WriteFaultIffFailed};
 ghost use Rattle.deb_base.specs.Reading.{TakesNoMore};
-ghost use Rattle.deb_syntax.specs.Lines.{file_limit};
 ghost use Rattle.deb_control.specs.Calls.{IfRefused, IfCutOff, IfWriteFailed, WritesCanonical, WritesRefused, WritesRead};
 ghost use Rattle.deb_control.specs.Checking.{IsRefusalOfDocument};
 ghost use Rattle.deb_control.specs.Documents.{out_of};

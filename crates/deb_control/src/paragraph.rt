@@ -17,7 +17,8 @@ ghost use Rattle.deb_control.specs.Refusals.{built, value_refusal_of};
 ghost use Rattle.deb_control.specs.Paragraphs.{field_in, values_in, text_of_values, IsTypedField, AreValuesOf};
 
 use crate::canon_text::CanonText;
-use crate::paragraph_check::{check_paragraph, value_of};
+use crate::checker::ParagraphChecker;
+use crate::paragraph_check::value_of;
 use crate::typed_field::{TypedField, sort};
 use deb_base::{Fault, same_name};
 use deb_field::{Doc, Value};
@@ -115,10 +116,8 @@ fn canonical_text(alloc: Global, doc: Doc, paragraph: &Raw<'_>) -> Result<Vec<u8
         (λ refusal. built (rules_of doc) (seen_of paragraph.now) ≡ Err refusal)) }
 {
     let mut canon = CanonText::new(alloc);
-    check_paragraph(alloc, doc, paragraph, &mut canon)?;
-    let mut text = Vec::new(alloc);
-    canon.sort_into(&mut text)?;
-    Ok(text)
+    canon.check(alloc, doc, paragraph)?;
+    Ok(canon.text)
 }
 
 /// Returns the fields of a paragraph with their values, in ascending order of the canonical

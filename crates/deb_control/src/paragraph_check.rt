@@ -21,8 +21,13 @@ ghost use Rattle.deb_control.specs.Visiting.{Visit, VisitsField, VisitsFields, V
 
 use crate::field::is_spaced;
 use crate::visitor::FieldVisitor;
-use deb_base::{Code, Fault, FieldId, Kind, PARAGRAPH_LIMIT, Refusal, required_fields};
-use deb_field::{Canon, Doc, Line, Text, Value, ValueFault};
+use deb_base::{
+    Code, Fault, FieldId, Kind, PARAGRAPH_LIMIT, Refusal, Relationship, required_fields,
+};
+use deb_field::{
+    ArchitectureName, Canon, Doc, Line, Number, PackageName, RelationField, Text, Value,
+    ValueFault, parse_version,
+};
 use deb_syntax::{Raw, RawField};
 use std::alloc::{AllocError, Global};
 
@@ -101,10 +106,15 @@ fn visit_field<V: FieldVisitor>(
         (λ refusal. (refusal.line ≡ field.now.line)
         × (kind_refusal kind field.now.body.now ≡ Some refusal.code))) }
 {
-    // Each of the two kinds that most fields have is read without a `Result` of any value.
+    // Each of the kinds that most fields have is read without a `Result` of any value.
     match kind {
         Kind::Text => Ok(visit_as_text(field, visitor)?),
         Kind::Line => visit_as_line(field, visitor),
+        Kind::Name => visit_as_name(field, visitor),
+        Kind::Number => visit_as_number(field, visitor),
+        Kind::Version => visit_as_version(field, visitor),
+        Kind::Architecture => visit_as_architecture(field, visitor),
+        Kind::Relation(relationship) => visit_as_relation(alloc, relationship, field, visitor),
         _ => visit_as_kind(alloc, kind, field, visitor),
     }
 }
@@ -131,6 +141,92 @@ fn visit_as_line<V: FieldVisitor>(field: &RawField<'_>, visitor: &mut V) -> Resu
     match Line::parse(field.body) {
         Ok(line) => Ok(visit_value(field, &Value::Line(line), visitor)?),
         Err(code) => Err(refused(code, field.line)),
+    }
+}
+
+/// Visits a field whose value is the name of a package.
+fn visit_as_name<V: FieldVisitor>(field: &RawField<'_>, visitor: &mut V) -> Result<u64, Fault>
+    ensures visits { IfOk result
+        (VisitsField V.Visited visitor.old visitor.new kinds.Name (field_of field.now)) }
+    ensures fault { IfErr result
+        (λ fault. RefusedOrMemory fault
+        (λ refusal. (refusal.line ≡ field.now.line)
+        × (kind_refusal kinds.Name field.now.body.now ≡ Some refusal.code))) }
+{
+    match PackageName::parse(field.body) {
+        Ok(value) => Ok(visit_value(field, &Value::Name(value), visitor)?),
+        Err(code) => Err(refused(code, field.line)),
+    }
+}
+
+/// Visits a field whose value is a number.
+fn visit_as_number<V: FieldVisitor>(field: &RawField<'_>, visitor: &mut V) -> Result<u64, Fault>
+    ensures visits { IfOk result
+        (VisitsField V.Visited visitor.old visitor.new kinds.Number (field_of field.now)) }
+    ensures fault { IfErr result
+        (λ fault. RefusedOrMemory fault
+        (λ refusal. (refusal.line ≡ field.now.line)
+        × (kind_refusal kinds.Number field.now.body.now ≡ Some refusal.code))) }
+{
+    match Number::parse(field.body) {
+        Ok(value) => Ok(visit_value(field, &Value::Number(value), visitor)?),
+        Err(code) => Err(refused(code, field.line)),
+    }
+}
+
+/// Visits a field whose value is a version.
+#[inline(never)]
+fn visit_as_version<V: FieldVisitor>(field: &RawField<'_>, visitor: &mut V) -> Result<u64, Fault>
+    ensures visits { IfOk result
+        (VisitsField V.Visited visitor.old visitor.new kinds.Version (field_of field.now)) }
+    ensures fault { IfErr result
+        (λ fault. RefusedOrMemory fault
+        (λ refusal. (refusal.line ≡ field.now.line)
+        × (kind_refusal kinds.Version field.now.body.now ≡ Some refusal.code))) }
+{
+    match parse_version(field.body) {
+        Ok(value) => Ok(visit_value(field, &Value::Version(value), visitor)?),
+        Err(code) => Err(refused(code, field.line)),
+    }
+}
+
+/// Visits a field whose value is the name of an architecture.
+fn visit_as_architecture<V: FieldVisitor>(
+    field: &RawField<'_>,
+    visitor: &mut V,
+) -> Result<u64, Fault>
+    ensures visits { IfOk result
+        (VisitsField V.Visited visitor.old visitor.new kinds.Architecture (field_of field.now)) }
+    ensures fault { IfErr result
+        (λ fault. RefusedOrMemory fault
+        (λ refusal. (refusal.line ≡ field.now.line)
+        × (kind_refusal kinds.Architecture field.now.body.now ≡ Some refusal.code))) }
+{
+    match ArchitectureName::parse(field.body) {
+        Ok(value) => Ok(visit_value(field, &Value::Architecture(value), visitor)?),
+        Err(code) => Err(refused(code, field.line)),
+    }
+}
+
+/// Visits a field whose value is a relation.
+#[inline(never)]
+fn visit_as_relation<V: FieldVisitor>(
+    alloc: Global,
+    relationship: Relationship,
+    field: &RawField<'_>,
+    visitor: &mut V,
+) -> Result<u64, Fault>
+    ensures visits { IfOk result (VisitsField V.Visited visitor.old visitor.new
+        (kinds.Relation relationship) (field_of field.now)) }
+    ensures fault { IfErr result
+        (λ fault. RefusedOrMemory fault
+        (λ refusal. (refusal.line ≡ field.now.line)
+        × (kind_refusal (kinds.Relation relationship) field.now.body.now
+        ≡ Some refusal.code))) }
+{
+    match RelationField::parse(alloc, relationship, field.body) {
+        Ok(value) => Ok(visit_value(field, &Value::Relation(value), visitor)?),
+        Err(fault) => Err(fault_at(fault, field.line)),
     }
 }
 
@@ -208,7 +304,7 @@ pub(crate) fn value_of<'a>(
 }
 
 /// Returns the kind of a field's values.
-fn kind_of_field(doc: Doc, field: &RawField<'_>) -> Kind
+pub(crate) fn kind_of_field(doc: Doc, field: &RawField<'_>) -> Kind
     ensures { result ≡ kind_of doc (canonical_name field.now.name.now) }
 {
     field.id.kind(doc)
@@ -227,7 +323,7 @@ fn fault_at(fault: ValueFault, line: u64) -> Fault
 }
 
 /// Whether the paragraph has each field that a document of this kind requires.
-fn has_required(doc: Doc, paragraph: &Raw<'_>) -> bool
+pub(crate) fn has_required(doc: Doc, paragraph: &Raw<'_>) -> bool
     ensures { result ≡ have_names (fields_of paragraph.now) (required doc) }
 {
     has_fields(paragraph, required_fields(doc))

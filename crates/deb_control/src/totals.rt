@@ -2,10 +2,9 @@
 
 ghost use Rattle.std.specs.Prelude.{◌≡◌, ◌+◌, ◌≤◌, ◌<◌, Some, None, IfSome, IfNone};
 ghost use Rattle.deb_control.specs.Totals.{bytes_with};
-ghost use Rattle.deb_syntax.specs.declared.file_cursor.TheConstants.{FILE_LIMIT};
+ghost use Rattle.deb_base.specs.declared.body.TheConstants.{FILE_LIMIT};
 
-use deb_base::PARAGRAPH_LIMIT;
-use deb_syntax::FILE_LIMIT;
+use deb_base::{FILE_LIMIT, PARAGRAPH_LIMIT};
 
 /// How many paragraphs were given, and how long their canonical text is as a file.
 #[derive(Clone, Copy)]

@@ -22,7 +22,8 @@ use Rattle.deb_control.specs.ValueFiles.{ValueEntries}
 use Rattle.deb_control.specs.declared.checked_text.CheckedText.{CheckedText}
 use Rattle.deb_control.proofs.PassingParagraphs.{values-passing}
 use Rattle.deb_control.proofs.ValueBodies.{one_paragraph}
-use Rattle.deb_diff.specs.Items.{Item, value_under, whole}
+use Rattle.deb_control.specs.FieldWords.{value_under}
+use Rattle.deb_diff.specs.Items.{Item, whole}
 use Rattle.deb_diff.specs.Kepts.{HasValues, IsKept, after_name, after_version, marked, unmarked, version_in}
 use Rattle.std.specs.Str.{bytes_eq}
 use Rattle.deb_diff.specs.declared.kept.Kept.{Kept}

@@ -4,7 +4,7 @@ use Rattle.std.proofs.lemmas.Bool.{false≢true}
 use Rattle.std.specs.FinMap.{find}
 use Rattle.std.specs.List.{AllByRecursion}
 use Rattle.std.specs.Str.{bytes_eq}
-use Rattle.deb_base.specs.Bodies.{paragraph_limit}
+use Rattle.deb_base.specs.Bodies.{paragraph_limit, file_limit}
 use Rattle.deb_base.specs.Kinds.{kind_at, kind_of, known_row, required}
 use Rattle.deb_base.specs.Names.{canonical_name, folded}
 use Rattle.deb_base.specs.declared.kind.Kind.TheVariants.{Version}
@@ -12,7 +12,7 @@ use Rattle.deb_syntax.specs.Answers.{Seen, answer_of_first, next_answer, paragra
 use Rattle.deb_syntax.specs.Fields.{AreDistinct, Field, IsShort}
 use Rattle.deb_syntax.specs.Judging.{judged}
 use Rattle.deb_syntax.specs.Laws.{IsRun, body_of}
-use Rattle.deb_syntax.specs.Lines.{Paragraph, file_limit, paragraphs_of}
+use Rattle.deb_syntax.specs.Lines.{Paragraph, paragraphs_of}
 use Rattle.deb_syntax.specs.Meaning.{Entries, HaveMeanings, byte_order, entries_of}
 use Rattle.deb_syntax.specs.Raw.{field_named}
 use Rattle.deb_syntax.proofs.JudgingLaws.{judged-complete}
@@ -36,7 +36,8 @@ use Rattle.deb_control.specs.ValueFiles.{SpellsEntries, SpellsEntry, ValueEntrie
 use Rattle.deb_control.proofs.FieldValues.{is_some-find}
 use Rattle.deb_control.proofs.FollowedParagraphs.{drop_one}
 use Rattle.deb_control.proofs.ValueBodies.{value_at}
-use Rattle.deb_diff.specs.Items.{item_of, items_from, word_in, word_of, word_under}
+use Rattle.deb_control.specs.FieldWords.{word_in, word_of, word_under}
+use Rattle.deb_diff.specs.Items.{item_of, items_from}
 use Rattle.deb_diff.specs.Kinds.{doc_of}
 use Rattle.deb_diff.specs.Laws.{SpelledVersionsAreEqual, SpellsItsVersion}
 use Rattle.deb_diff.specs.Spelled.{fields_after, fields_of_seen, spelled_in, text_in}

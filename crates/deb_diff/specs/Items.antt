@@ -1,51 +1,21 @@
 -- The paragraphs of a file, each with its number and what it is called. Debian Policy 5.6.
-use Rattle.std.specs.Prelude.{◌≡◌, ℕ, ◌+◌, cond, List, [], ◌∷◌, map, Option, Some, None, codes, refl}
-use Rattle.std.specs.FinMap.{find}
+use Rattle.std.specs.Prelude.{◌≡◌, ℕ, ◌+◌, cond, List, [], ◌∷◌, map, None, codes, refl}
 use Rattle.std.specs.List.{concat}
 use Rattle.std.specs.Str.{is_utf8, chars}
 use lib.Utf8.{encode}
-use Rattle.deb_base.specs.Bodies.{paragraph_limit}
-use Rattle.deb_base.specs.Names.{canonical_name}
+use Rattle.deb_base.specs.Bodies.{paragraph_limit, file_limit}
 use Rattle.deb_syntax.specs.Fields.{Field}
-use Rattle.deb_syntax.specs.Meaning.{Entries, byte_order}
-use Rattle.deb_syntax.specs.Lines.{file_limit}
-use Rattle.deb_version.specs.Canonical.{version_text}
+use Rattle.deb_syntax.specs.Meaning.{Entries}
 use Rattle.deb_version.specs.Places.{version_in}
-use Rattle.deb_field.specs.Values.{ValueMeaning, NameMeans, SourceMeans, VersionMeans, ArchitectureMeans, ArchitecturesMean, FlagMeans, MultiArchMeans, NumberMeans, LineMeans, FoldedMeans, RelationMeans, TextMeans, value_text}
+use Rattle.deb_field.specs.Values.{ValueMeaning, NameMeans, SourceMeans, VersionMeans, ArchitectureMeans, ArchitecturesMean, value_text}
 use Rattle.deb_control.specs.Canonical.{paragraph_text}
 use Rattle.deb_control.specs.Documents.{Meaning}
+use Rattle.deb_control.specs.FieldWords.{word_under}
 use Rattle.deb_control.specs.ValueFiles.{ValueEntries, body_under}
 use Rattle.deb_diff.specs.Kinds.{is_binary, name_field}
 use Rattle.deb_diff.specs.Spelled.{fields_after, spelled_in}
 use Rattle.deb_diff.specs.declared.kind.Kind.{Kind}
 use Rattle.deb_diff.specs.declared.kind.Kind.TheVariants.{Packages, Source}
-
--- a name, of a source package too, a version or an architecture, as a line has it
-abbrev pub word_in : ValueMeaning → List ℕ
-word_in (NameMeans name) = name
-word_in (SourceMeans source) = source.name
-word_in (VersionMeans version) = version_text version
-word_in (ArchitectureMeans name) = name
-word_in (ArchitecturesMean x) = []
-word_in (FlagMeans x) = []
-word_in (MultiArchMeans x) = []
-word_in (NumberMeans x) = []
-word_in (LineMeans x) = []
-word_in (FoldedMeans x) = []
-word_in (RelationMeans x) = []
-word_in (TextMeans x) = []
-
-abbrev pub word_of : Option ValueMeaning → List ℕ
-word_of None = []
-word_of (Some value) = word_in value
-
--- the value of the field with a name, without ASCII case
-abbrev pub value_under : List ℕ → ValueEntries ValueMeaning → Option ValueMeaning
-value_under name values = find byte_order (canonical_name name) values
-
--- the word in it, and nothing if there is no such field
-abbrev pub word_under : List ℕ → ValueEntries ValueMeaning → List ℕ
-word_under name values = word_of (value_under name values)
 
 -- the architecture of a binary package, and `source` for a source package
 abbrev pub architecture_of : Kind → ValueEntries ValueMeaning → List ℕ
@@ -127,12 +97,6 @@ worked-binary = (refl, refl, refl)
 
 worked-source : release (item_of Source 1 [] world) ≡ codes "world 1 source"
 worked-source = refl
-
--- a source of another version, as `Source: ss (2)`, is named without it
-worked-source_version : word_in
-    (SourceMeans (record { name = codes "ss"; version = Some (version_in (codes "2")) }))
-    ≡ codes "ss"
-worked-source_version = refl
 
 abbrev file : List ℕ
 file = codes "Package: hello\nVersion: 0:2.010-0\n\nSource: world\nVersion: 1\n"

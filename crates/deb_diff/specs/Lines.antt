@@ -5,10 +5,9 @@ use Rattle.std.specs.List.{flat_map}
 use Rattle.std.specs.Ordering.{is_lt}
 use Rattle.std.specs.Str.{is_utf8, chars}
 use lib.Utf8.{encode}
-use Rattle.deb_base.specs.Bodies.{paragraph_limit}
+use Rattle.deb_base.specs.Bodies.{paragraph_limit, file_limit}
 use Rattle.deb_base.specs.declared.version_text.VersionText.{VersionText}
 use Rattle.deb_base.specs.declared.version_text.VersionText.TheVariants.{Canonical, Spelled}
-use Rattle.deb_syntax.specs.Lines.{file_limit}
 use Rattle.deb_control.specs.Documents.{Meaning}
 use Rattle.deb_version.specs.Faults.{first_fault}
 use Rattle.deb_version.specs.Places.{version_in}

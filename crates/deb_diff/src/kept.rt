@@ -2,10 +2,11 @@
 
 ghost use Rattle.std.specs.Prelude.{◌≡◌, ◌++◌, drop, length, take, IfOk};
 ghost use Rattle.std.specs.Option.{option_map};
+ghost use Rattle.deb_control.specs.FieldWords.{value_under, word_in, word_under};
 ghost use Rattle.deb_control.specs.ValueFiles.{ValueEntries};
 ghost use Rattle.deb_field.specs.ValueMeanings.{value_meaning};
 ghost use Rattle.deb_field.specs.Values.{ValueMeaning};
-ghost use Rattle.deb_diff.specs.Items.{architecture_of, item_of, value_under, word_in, word_under};
+ghost use Rattle.deb_diff.specs.Items.{architecture_of, item_of};
 ghost use Rattle.deb_diff.specs.Kepts.{HasValues, IsKept, after_name, after_version, architecture_in, fields_in, marked, name_in, printed_in, spelling_in, unmarked, version_in};
 ghost use Rattle.deb_diff.specs.Spelled.{spelled_in};
 

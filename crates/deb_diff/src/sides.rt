@@ -1,11 +1,11 @@
 //! Reads both files, one after the other.
 
 ghost use Rattle.std.specs.Prelude.{◌≡◌, ℕ, List, Some, length, IfOk, IfErr};
+ghost use Rattle.deb_base.specs.Bodies.{file_limit};
 ghost use Rattle.deb_base.specs.Devices.{read_failures_after};
 ghost use Rattle.deb_base.specs.Faults.{IsReadersFault};
 ghost use Rattle.deb_base.specs.Reading.{TakesNoMore};
 ghost use Rattle.deb_base.specs.declared.refusal.Refusal.{Refusal};
-ghost use Rattle.deb_syntax.specs.Lines.{file_limit};
 ghost use Rattle.deb_control.specs.Calls.{IfRefused};
 ghost use Rattle.deb_control.specs.Checking.{IsRefusalOfDocument};
 ghost use Rattle.deb_control.specs.Comparing.{RefusesSecond};

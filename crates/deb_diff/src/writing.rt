@@ -1,11 +1,11 @@
 //! Writes what changed between two files.
 
 ghost use Rattle.std.specs.Prelude.{◌≡◌, ℕ, List, Some, length, IfOk, IfErr};
+ghost use Rattle.deb_base.specs.Bodies.{file_limit};
 ghost use Rattle.deb_base.specs.Devices.{read_failures_after, write_failures_after};
 ghost use Rattle.deb_base.specs.Devices.{ReadFaultIffFailed, WriteFaultIffFailed};
 ghost use Rattle.deb_base.specs.Reading.{TakesNoMore};
 ghost use Rattle.deb_base.specs.declared.refusal.Refusal.{Refusal};
-ghost use Rattle.deb_syntax.specs.Lines.{file_limit};
 ghost use Rattle.deb_control.specs.Calls.{IfRefused, IfWriteFailed};
 ghost use Rattle.deb_control.specs.Comparing.{RefusesSecond};
 ghost use Rattle.deb_control.specs.Documents.{refusal_of};

@@ -1,3 +1,3 @@
-pub mod Refusing
+pub mod Explanations
 mod NamedFields
 pub mod Sources

@@ -5,7 +5,7 @@ use Rattle.std.specs.Prelude.{refl}
 use Rattle.std.specs.Option.{option_map}
 use Rattle.std.specs.Str.{is_utf8, chars}
 use lib.Utf8.{encode}
-use Rattle.deb_base.specs.Bodies.{Line, paragraph_limit}
+use Rattle.deb_base.specs.Bodies.{Line, paragraph_limit, file_limit}
 use Rattle.deb_base.specs.declared.code.Code.{Code}
 use Rattle.deb_base.specs.declared.code.Code.TheVariants as code
 use Rattle.deb_base.specs.declared.refusal.Refusal.{Refusal}
@@ -13,8 +13,6 @@ use Rattle.deb_version.specs.Faults.{first_fault}
 use Rattle.deb_version.specs.declared.fault.BadVersion.TheVariants.{UpstreamByte}
 use Rattle.deb_relation.specs.declared.fault.Reason.TheVariants.{Trailing}
 use Rattle.deb_syntax.specs.Answers.{Seen}
-use Rattle.deb_syntax.specs.Judged.{line_judged}
-use Rattle.deb_syntax.specs.Lines.{file_limit}
 use Rattle.deb_base.specs.Docs.{is_single}
 use Rattle.deb_base.specs.Kinds.{kind_at, known_row, kind_of, required}
 use Rattle.deb_field.specs.RelationFieldCases.{told}
@@ -22,9 +20,8 @@ use Rattle.deb_field.specs.Values.{value_refusal}
 use Rattle.deb_base.specs.declared.doc.Doc.{Doc}
 use Rattle.deb_base.specs.declared.doc.Doc.TheVariants.{Binary, Packages}
 use Rattle.deb_control.specs.Documents.{rules_of}
-use Rattle.deb_control.specs.Refusals.{Outcome, outcome}
-use Rattle.deb_control.specs.Refused.{lines_behind, seen_behind}
 use Rattle.deb_control.specs.Rules.{Rules}
+use Rattle.deb_control.specs.SeenRefusals.{SeenRefusal, first_seen}
 use Rattle.deb_explain.specs.Subjects.{About, AboutWhole, AboutLine, AboutName, AboutMissing}
 use Rattle.deb_explain.specs.Subjects.{AboutField, about_topic, topic_of}
 use Rattle.deb_explain.specs.declared.cause.Cause.TheVariants as causes
@@ -41,23 +38,16 @@ explain_refusal doc refusal line paragraph =
       about = about_topic (topic_of refusal.code) doc line refusal paragraph;
     }
 
--- What is reported if this comes of a file, by the paragraph after those that pass: by the line of
--- it that has the refusal's number, and by its fields.
-abbrev pub explanation_in : Rules → (Refusal → Option Line → Option Seen → WhyRefused) → List ℕ
-    → Outcome → Option WhyRefused
-explanation_in rules why text come =
-    option_map
-    (λ refusal. why refusal (line_judged refusal.line (lines_behind rules text come.passed))
-    (seen_behind rules text come.passed))
-    come.refusal
+-- what a refusal is about, by what is seen of it
+abbrev pub why_refused : Doc → SeenRefusal → WhyRefused
+why_refused doc seen = explain_refusal doc seen.refusal seen.line seen.seen
 
-abbrev pub explanation_by : Rules → (Refusal → Option Line → Option Seen → WhyRefused) → List ℕ
-    → Option WhyRefused
-explanation_by rules why text = explanation_in rules why text (outcome rules text)
+abbrev pub explanation_by : Rules → Doc → List ℕ → Option WhyRefused
+explanation_by rules doc text = option_map (why_refused doc) (first_seen rules text)
 
 -- Why a file is refused, if it is.
 abbrev pub explanation_of : Doc → List ℕ → Option WhyRefused
-explanation_of doc text = explanation_by (rules_of doc) (explain_refusal doc) text
+explanation_of doc text = explanation_by (rules_of doc) doc text
 
 -- for the worked cases: the rules of a kind where bodies count as canonical text, which then
 -- computes; the refusals are those of the kind
@@ -70,7 +60,7 @@ plain doc = record {
 }
 
 abbrev explained : Doc → List ℕ → Option WhyRefused
-explained doc text = explanation_by (plain doc) (explain_refusal doc) text
+explained doc text = explanation_by (plain doc) doc text
 
 -- a refusal, and what it is about
 abbrev why : Code → ℕ → About → Option WhyRefused

@@ -6,13 +6,12 @@ use Rattle.std.specs.Prelude.{◌≡◌, ℕ, List, [], ◌∷◌, cond, Option,
 use Rattle.std.proofs.Common.{refl, ap, ◌∙◌}
 use Rattle.std.specs.Str.{bytes_eq, is_utf8, chars}
 use lib.Utf8.{encode}
-use Rattle.deb_base.specs.Bodies.{paragraph_limit}
+use Rattle.deb_base.specs.Bodies.{paragraph_limit, file_limit}
 use Rattle.deb_base.specs.declared.code.Code.TheVariants.{BadVersion}
 use Rattle.deb_version.specs.Faults.{first_fault}
 use Rattle.deb_version.specs.Parts.{Meaning as VersionMeaning, no_revision}
 use Rattle.deb_version.specs.declared.fault.BadVersion.TheVariants.{UpstreamByte}
 use Rattle.deb_version.proofs.FaultLemmas.{spells-from_no_fault}
-use Rattle.deb_syntax.specs.Lines.{file_limit}
 use Rattle.deb_base.specs.Docs.{is_single}
 use Rattle.deb_base.specs.Kinds.{kind_at, known_row, kind_of, required}
 use Rattle.deb_field.specs.Values.{NameMeans, VersionMeans, ArchitectureMeans, value_refusal}
@@ -21,7 +20,6 @@ use Rattle.deb_control.specs.Documents.{rules_of}
 use Rattle.deb_control.specs.Rules.{Rules}
 use Rattle.deb_control.proofs.DocumentRules.{document_rules}
 use Rattle.deb_explain.specs.Explanations.{WhyRefused, explanation_by, explanation_of}
-use Rattle.deb_explain.specs.Explanations.{explain_refusal}
 use Rattle.deb_explain.specs.Subjects.{AboutField}
 use Rattle.deb_explain.specs.declared.cause.Cause.TheVariants as causes
 
@@ -39,7 +37,7 @@ writing canonical = record {
 }
 
 abbrev explained : (List ℕ → List ℕ → List ℕ) → Option WhyRefused
-explained canonical = explanation_by (writing canonical) (explain_refusal Packages) index
+explained canonical = explanation_by (writing canonical) Packages index
 
 -- texts by the name of a field
 abbrev by_name : List ℕ → List ℕ → List ℕ → List ℕ → List ℕ → List ℕ

@@ -6,3 +6,5 @@ pub mod Texts
 pub mod Explanations
 pub mod KindCases
 pub mod Shown
+pub mod AllExplanations
+pub mod Laws

@@ -3,7 +3,8 @@
 //!
 //! - [`explain`] checks a file as `deb_control::check` does, and returns more about the same
 //!   refusal than its code and line. [`explain_refusal`] does that for a refusal of a
-//!   `deb_control::Checked`.
+//!   `deb_control::Checked`, [`explain_last`] for the last one of a `deb_control::Refusals`.
+//! - [`explain_all`] writes this for each refusal of a file, and a last line with the counts.
 //! - [`Explanation::write`] writes that in lines `key: value`.
 //! - [`explain_word`] finds what is wrong in a relation or a version from the command line, and
 //!   [`write_refused_word`] writes that in such lines.
@@ -20,6 +21,7 @@
 mod cause;
 mod explained;
 mod explaining;
+pub mod laws;
 mod paths;
 mod spot;
 mod subject;
@@ -28,6 +30,6 @@ mod writing;
 
 pub use cause::{Cause, Word, explain_word};
 pub use explained::{Explained, Explanation, RefusedField, Subject};
-pub use explaining::{explain, explain_refusal};
+pub use explaining::{explain, explain_all, explain_last, explain_refusal};
 pub use paths::{write_file_line, write_path};
 pub use writing::{write_refused_word, write_rule_of};

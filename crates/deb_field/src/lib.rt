@@ -40,4 +40,5 @@ pub use relation::RelationField;
 pub use source::SourceName;
 pub use text::{Line, Text};
 pub use value::{Value, ValueFault};
+pub use version::parse_version;
 pub use words::Words;

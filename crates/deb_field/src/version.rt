@@ -43,7 +43,7 @@ impl Canon for Version<'_> {
 
 /// The version that a body spells: `NotOneLine` is answered for a body of more than one line, else
 /// `BadVersion` for one that is no version.
-pub(crate) fn parse_version(body: &[u8]) -> Result<Version<'_>, Code>
+pub fn parse_version(body: &[u8]) -> Result<Version<'_>, Code>
     ensures ok { IfOk result (λ v. SpellsVersion body.now (meaning_of v)) }
     ensures refused { IfErr result (λ code. version_refusal body.now ≡ Some code) }
 {

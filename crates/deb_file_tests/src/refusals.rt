@@ -2,8 +2,9 @@
 //! file, for each kind of document.
 
 use deb_base::{Code, Input, Output, Refusal};
+use deb_control::{Refusals, Summary, check_all};
+use deb_explain::{explain_all, explain_last};
 use deb_field::Doc;
-use deb_refusals::{Refusals, Summary, check_all, explain_all};
 use std::test::Fail;
 
 const PACKAGES: &[u8] = b"Package: aa\nVersion: 1\nArchitecture: all\n\nPackage: bb\n\n\
@@ -99,15 +100,17 @@ fn refusals_one_after_another(rt: HostRuntime) -> Result<(), Fail> {
     ];
     let mut file = Input::new(PACKAGES);
     let mut reader = Refusals::new(rt.alloc(), Doc::Packages);
-    assert!(rt; reader.explanation()?.is_none());
+    assert!(rt; explain_last(rt.alloc(), &reader)?.is_none());
     for (code, line) in refusals {
         let refusal = Refusal { code, line };
         assert!(rt; reader.next(&mut file)? == Some(refusal));
-        let explanation = reader.explanation()?;
+        let explanation = explain_last(rt.alloc(), &reader)?;
         assert!(rt; explanation.is_some_and(|explanation| explanation.refusal == refusal));
     }
     for _ in 0..2 {
-        assert!(rt; reader.next(&mut file)?.is_none() && reader.explanation()?.is_none());
+        assert!(rt;
+            reader.next(&mut file)?.is_none() && explain_last(rt.alloc(), &reader)?.is_none()
+        );
     }
     let expected = Summary {
         passed: 1,

@@ -1,8 +1,6 @@
 pub mod Parts
 pub mod Commas
-pub mod KeptFields
 pub mod PackageBuilder
-pub mod ShownValues
 pub mod ListedValues
 pub mod Indexed
 pub mod ReadLines

@@ -1,5 +1,5 @@
 -- The values of a paragraph of an index of packages: which are there, and what the bodies of the fields mean.
-use Rattle.std.proofs.Common.{◌≡◌, ◌⊎◌, inl, inr, ℕ, ◌&&◌, Bool, true, false, is_some, List, [], Option, None, Some, IfSome, IsTrue, codes, refl, sym, ap, subst, ◌∙◌}
+use Rattle.std.proofs.Common.{◌≡◌, ◌<◌, ◌⊎◌, inl, inr, arith, ℕ, ◌&&◌, Bool, true, false, is_some, List, [], Option, None, Some, IfSome, IsTrue, codes, refl, sym, ap, subst, ◌∙◌}
 use Rattle.std.proofs.lemmas.Bool.{false≢true}
 use Rattle.std.specs.FinMap.{find}
 use Rattle.std.specs.Option.{option_map}
@@ -19,8 +19,10 @@ use Rattle.deb_base.specs.declared.doc.Doc.TheVariants.{Packages}
 use Rattle.deb_control.specs.Acceptance.{has_values}
 use Rattle.deb_control.specs.Checking.{is_judged}
 use Rattle.deb_control.specs.Documents.{rules_of}
+use Rattle.deb_control.specs.FieldWords.{groups_of, word_of}
 use Rattle.deb_control.specs.Visiting.{VisitsValues}
-use Rattle.deb_index.proofs.ShownValues.{shown-value}
+use Rattle.deb_control.specs.ShownValues.{shown_of}
+use Rattle.deb_control.proofs.ShownValues.{shown-value}
 use Rattle.deb_control.specs.Paragraphs.{AreValuesOf}
 use Rattle.deb_control.specs.PassingValues.{HasValue}
 use Rattle.deb_control.specs.Refusals.{value_refusal_of}
@@ -36,7 +38,7 @@ use Rattle.deb_relation.specs.Grammar.{SpellsRelation}
 use Rattle.deb_relation.specs.Regular.{IsRegularRelation}
 use Rattle.deb_relation.specs.Texts.{relation_text}
 use Rattle.deb_relation.proofs.Regular.{relation_regular}
-use Rattle.deb_index.specs.PackageBuilder.{KeepsPackage, KeepsVisited, shown_of, text_or_nothing}
+use Rattle.deb_index.specs.PackageBuilder.{KeepsPackage, KeepsVisited, multi_arch_of, texts_kept}
 use Rattle.deb_index.specs.declared.paragraph.PackageBuilder.{PackageBuilder}
 use Rattle.deb_index.specs.Listed.{Listed, Provision, provisions_in, provisions_of}
 use Rattle.deb_index.specs.Listing.{HasProvisions, SeenLists}
@@ -154,7 +156,7 @@ lists-read seen name version architecture multi_arch provisions named versioned 
 -- what was kept of its fields are the texts of that package
 pub record ListsKept (kept : PackageBuilder) (seen : Seen) : Type 0 where
   pub listed : Listed
-  pub keeps : KeepsPackage kept listed
+  pub keeps : KeepsPackage (texts_kept kept) listed
   pub lists : SeenLists seen listed
   pub spells : SpellsVersion (version_body seen.fields) listed.version
 
@@ -167,18 +169,29 @@ provides-regular : (o : Option Relation) → IfSome o IsSpelled → IsRegularRel
 provides-regular None is = record { groups = tt; ascend = tt }
 provides-regular (Some m) is = relation_regular is.0 m is.1
 
-provides-text : (o : Option Relation) → text_or_nothing relation_text o ≡ relation_text (relation_in o)
-provides-text None = refl
-provides-text (Some m) = refl
+provides-groups : (o : Option Relation) → groups_of (option_map RelationMeans o) ≡ relation_in o
+provides-groups None = refl
+provides-groups (Some m) = refl
 
 provides-provisions : (o : Option Relation) → provisions_in o ≡ provisions_of (relation_in o)
 provides-provisions None = refl
 provides-provisions (Some m) = refl
 
+-- the word of Multi-Arch is found again
+said-again : (o : Option MultiArch) → multi_arch_of (option_map MultiArchMeans o) ≡ o
+said-again None = refl
+said-again (Some word) = refl
+
+-- the table has these fields
+known : (known_row (codes "Package") < 54) × (known_row (codes "Version") < 54) × (known_row (codes "Architecture") < 54) × (known_row (codes "Provides") < 54)
+unfolding known_row
+known = (omega arith, omega arith, omega arith, omega arith)
+
 pub lists-kept : (kept : PackageBuilder) (seen : Seen) → VisitsValues KeepsVisited kept Packages seen → ListsKept kept seen
 lists-kept kept seen keeps =
     let shown = shown_of keeps.visited in
     let are = shown-value KeepsVisited kept Packages seen keeps in
+    let texts = keeps.visits.texts in
     let passes = keeps.passes in
     let name = name-said seen passes keeps.fields (shown (codes "Package")) (are (codes "Package")) in
     let version = version-said seen passes keeps.fields (shown (codes "Version")) (are (codes "Version")) in
@@ -195,12 +208,12 @@ lists-kept kept seen keeps =
       };
       keeps = record {
         relation = relation_in provides.0;
-        name = keeps.visits.name.follows (Some name.0) name.1;
-        version = keeps.visits.version.follows (Some version.0) version.1;
+        name = (texts.each (codes "Package") known.0).word ∙ ap word_of name.1;
+        version = (texts.each (codes "Version") known.1).word ∙ ap word_of version.1;
         spelled = canonical_text_spells (version_body seen.fields) version.0 version.2;
-        architecture = keeps.visits.architecture.follows (Some architecture.0) architecture.1;
+        architecture = (texts.each (codes "Architecture") known.2).word ∙ ap word_of architecture.1;
         multi_arch = refl;
-        provides = keeps.visits.provides.follows provides.0 provides.1 ∙ provides-text provides.0;
+        provides = (texts.each (codes "Provides") known.3).relation ∙ ap (λ o. relation_text (groups_of o)) provides.1 ∙ ap relation_text (provides-groups provides.0);
         regular = provides-regular provides.0 provides.2;
         provisions = provides-provisions provides.0;
       };
@@ -209,7 +222,7 @@ lists-kept kept seen keeps =
           (subst (HasValue Packages seen (codes "Package")) name.1 (are (codes "Package")))
           (subst (HasValue Packages seen (codes "Version")) version.1 (are (codes "Version")))
           (subst (HasValue Packages seen (codes "Architecture")) architecture.1 (are (codes "Architecture")))
-          (subst (HasValue Packages seen (codes "Multi-Arch")) (word.1 ∙ ap (option_map MultiArchMeans) (sym (keeps.visits.multi_arch.follows word.0 word.1))) (are (codes "Multi-Arch")))
+          (subst (HasValue Packages seen (codes "Multi-Arch")) (word.1 ∙ ap (option_map MultiArchMeans) (sym (keeps.visits.multi_arch ∙ ap multi_arch_of word.1 ∙ said-again word.0))) (are (codes "Multi-Arch")))
           (record { provides = provides.0; has = subst (HasValue Packages seen (codes "Provides")) provides.1 (are (codes "Provides")); are = refl });
       spells = version.2;
     }

@@ -1,6 +1,6 @@
 -- What is read of each paragraph of a file, such as the line at which it starts: of those that were read, and of those that are left.
 use Rattle.std.proofs.Common.{◌≡◌, ℕ, ◌+◌, ◌&&◌, not, nat_le, Bool, true, false, cond, List, [], ◌∷◌, ◌++◌, length, map, drop, Option, None, Some, Result, Ok, Err, refl, sym, ap, ◌∙◌, append-nil, arith, subst}
-use Rattle.deb_base.specs.Bodies.{paragraph_limit}
+use Rattle.deb_base.specs.Bodies.{paragraph_limit, file_limit}
 use Rattle.deb_base.specs.declared.code.Code.TheVariants.{FileTooLong, TooManyParagraphs}
 use Rattle.std.proofs.lemmas.List.{length-map}
 use Rattle.deb_base.specs.declared.doc.Doc.{Doc}
@@ -8,7 +8,7 @@ use Rattle.deb_base.specs.declared.refusal.Refusal.{Refusal}
 use Rattle.deb_syntax.specs.Answers.{Seen, answer_of_first, is_line, line_beyond, line_too_long, paragraph_answer, paragraphs_within, seen_from}
 use Rattle.deb_syntax.specs.Fields.{Field}
 use Rattle.deb_syntax.specs.Judging.{judged}
-use Rattle.deb_syntax.specs.Lines.{Paragraph, file_limit, paragraphs_of}
+use Rattle.deb_syntax.specs.Lines.{Paragraph, paragraphs_of}
 use Rattle.deb_syntax.specs.Meaning.{Entries}
 use Rattle.deb_control.specs.Canonical.{file_text}
 use Rattle.deb_control.specs.Refusals.{answer_behind, answer_of_seen, built, has_some, line_behind, within_file}

@@ -19,12 +19,11 @@ use Rattle.deb_field.specs.declared.flag.MultiArch.{MultiArch}
 use Rattle.std.proofs.Common.{Option, Some}
 use Rattle.deb_index.specs.Entries.{AppendsEntries, HasNoFault, HasNumber, IsFaultless, IsIn, Places, entry_name, entry_version, provision_at}
 use Rattle.deb_index.specs.Listed.{Listed, Provision, provisions_of}
-use Rattle.deb_index.specs.PackageBuilder.{KeepsPackage}
+use Rattle.deb_index.specs.PackageBuilder.{KeepsPackage, PackageTexts}
 use Rattle.deb_index.specs.ProvidedNames.{IsNotAfter}
 use Rattle.deb_index.specs.Spans.{part}
 use Rattle.deb_index.specs.Stores.{IsKept, IsSpelling, IsStore, IsVersionKept, KeepsOneMore, architecture_by, besides_by, entries_by, listed_by, listed_in, name_by, spelling_by, spellings_in, version_by}
 use Rattle.deb_index.specs.VersionSpellings.{spelling_or, text_besides}
-use Rattle.deb_index.specs.declared.paragraph.PackageBuilder.{PackageBuilder}
 use Rattle.deb_index.specs.declared.store.Record.{Record}
 use Rattle.deb_index.specs.declared.store.Store.{Store}
 use Rattle.deb_index.proofs.Parts.{part-append, part-behind}
@@ -162,17 +161,17 @@ no_packages store entries records = record {
 }
 
 -- the texts of one package more, one after another
-abbrev pub bytes_with : List ℕ → PackageBuilder → List ℕ → List ℕ
-bytes_with bytes kept besides = ((((bytes ++ kept.name.items) ++ kept.version.items) ++ besides) ++ kept.architecture.items) ++ kept.provides.items
+abbrev pub bytes_with : List ℕ → PackageTexts → List ℕ → List ℕ
+bytes_with bytes kept besides = ((((bytes ++ kept.name) ++ kept.version) ++ besides) ++ kept.architecture) ++ kept.provides
 
-abbrev pub record_with : List ℕ → PackageBuilder → List ℕ → ℕ → ℕ → ℕ → Record
+abbrev pub record_with : List ℕ → PackageTexts → List ℕ → ℕ → ℕ → ℕ → Record
 record_with bytes kept besides first entries_end line =
     record {
       start = length bytes;
-      name_end = length (bytes ++ kept.name.items);
-      version_end = length ((bytes ++ kept.name.items) ++ kept.version.items);
-      besides_end = length (((bytes ++ kept.name.items) ++ kept.version.items) ++ besides);
-      architecture_end = length ((((bytes ++ kept.name.items) ++ kept.version.items) ++ besides) ++ kept.architecture.items);
+      name_end = length (bytes ++ kept.name);
+      version_end = length ((bytes ++ kept.name) ++ kept.version);
+      besides_end = length (((bytes ++ kept.name) ++ kept.version) ++ besides);
+      architecture_end = length ((((bytes ++ kept.name) ++ kept.version) ++ besides) ++ kept.architecture);
       first = first;
       entries_end = entries_end;
       line = line;
@@ -182,70 +181,70 @@ record_with bytes kept besides first entries_end line =
 long-append : {A : Type 0} (xs ys : List A) → length xs ≤ length (xs ++ ys)
 long-append xs ys = omega (arith, length-append xs ys)
 
-module _ (bytes : List ℕ) (entries new : List Places) (kept : PackageBuilder) (text : List ℕ) (line : ℕ) (p : Listed) (keeps : KeepsPackage kept p) (spells : SpellsVersion text p.version) (number : ℕ) (cut : AppendsEntries (bytes_with bytes kept (text_besides kept.version.items text)) number entries new (provisions_of keeps.relation)) where
+module _ (bytes : List ℕ) (entries new : List Places) (kept : PackageTexts) (text : List ℕ) (line : ℕ) (p : Listed) (keeps : KeepsPackage kept p) (spells : SpellsVersion text p.version) (number : ℕ) (cut : AppendsEntries (bytes_with bytes kept (text_besides kept.version text)) number entries new (provisions_of keeps.relation)) where
   abbrev besides : List ℕ
-  besides = text_besides kept.version.items text
+  besides = text_besides kept.version text
 
   abbrev one : List ℕ
-  one = bytes ++ kept.name.items
+  one = bytes ++ kept.name
 
   abbrev two : List ℕ
-  two = one ++ kept.version.items
+  two = one ++ kept.version
 
   abbrev both : List ℕ
   both = two ++ besides
 
   abbrev three : List ℕ
-  three = both ++ kept.architecture.items
+  three = both ++ kept.architecture
 
   abbrev four : List ℕ
-  four = three ++ kept.provides.items
+  four = three ++ kept.provides
 
   abbrev r : Record
   r = record_with bytes kept besides (length entries) (length new) line
 
-  name_is : name_by four r ≡ kept.name.items
+  name_is : name_by four r ≡ kept.name
   name_is =
-      part-append (length bytes) (length one) three kept.provides.items (omega (arith, long-append one kept.version.items, long-append two besides, long-append both kept.architecture.items))
-      ∙ part-append (length bytes) (length one) both kept.architecture.items (omega (arith, long-append one kept.version.items, long-append two besides))
-      ∙ part-append (length bytes) (length one) two besides (long-append one kept.version.items)
-      ∙ part-append (length bytes) (length one) one kept.version.items (omega arith)
-      ∙ part-behind bytes kept.name.items
+      part-append (length bytes) (length one) three kept.provides (omega (arith, long-append one kept.version, long-append two besides, long-append both kept.architecture))
+      ∙ part-append (length bytes) (length one) both kept.architecture (omega (arith, long-append one kept.version, long-append two besides))
+      ∙ part-append (length bytes) (length one) two besides (long-append one kept.version)
+      ∙ part-append (length bytes) (length one) one kept.version (omega arith)
+      ∙ part-behind bytes kept.name
 
-  version_is : version_by four r ≡ kept.version.items
+  version_is : version_by four r ≡ kept.version
   version_is =
-      part-append (length one) (length two) three kept.provides.items (omega (arith, long-append two besides, long-append both kept.architecture.items))
-      ∙ part-append (length one) (length two) both kept.architecture.items (long-append two besides)
+      part-append (length one) (length two) three kept.provides (omega (arith, long-append two besides, long-append both kept.architecture))
+      ∙ part-append (length one) (length two) both kept.architecture (long-append two besides)
       ∙ part-append (length one) (length two) two besides (omega arith)
-      ∙ part-behind one kept.version.items
+      ∙ part-behind one kept.version
 
   besides_is : besides_by four r ≡ besides
   besides_is =
-      part-append (length two) (length both) three kept.provides.items (long-append both kept.architecture.items)
-      ∙ part-append (length two) (length both) both kept.architecture.items (omega arith)
+      part-append (length two) (length both) three kept.provides (long-append both kept.architecture)
+      ∙ part-append (length two) (length both) both kept.architecture (omega arith)
       ∙ part-behind two besides
 
   spelling_is : spelling_by four r ≡ text
   spelling_is =
       ap (λ t. spelling_or t (besides_by four r)) version_is
-      ∙ ap (spelling_or kept.version.items) besides_is
-      ∙ found_again kept.version.items p.version text spells
+      ∙ ap (spelling_or kept.version) besides_is
+      ∙ found_again kept.version p.version text spells
 
-  architecture_is : architecture_by four r ≡ kept.architecture.items
-  architecture_is = part-append (length both) (length three) three kept.provides.items (omega arith) ∙ part-behind both kept.architecture.items
+  architecture_is : architecture_by four r ≡ kept.architecture
+  architecture_is = part-append (length both) (length three) three kept.provides (omega arith) ∙ part-behind both kept.architecture
 
   entries_are : entries_by new r ≡ cut.more
   entries_are = ap (λ all. part (length entries) (length all) all) cut.appended ∙ part-behind entries cut.more
 
-  version_good : IsVersionKept kept.version.items
+  version_good : IsVersionKept kept.version
   version_good =
-      let same : version_in kept.version.items ≡ p.version = ap version_in keeps.version ∙ version_in-spelled (version_text p.version) p.version keeps.spelled in
+      let same : version_in kept.version ≡ p.version = ap version_in keeps.version ∙ version_in-spelled (version_text p.version) p.version keeps.spelled in
       record {
         faultless = ap first_fault keeps.version ∙ no_fault-from_spells (version_text p.version) p.version keeps.spelled;
         canonical = ap version_text same ∙ sym keeps.version;
       }
 
-  spelling_good : IsSpelling kept.version.items text
+  spelling_good : IsSpelling kept.version text
   spelling_good =
       record {
         faultless = no_fault-from_spells text p.version spells;
@@ -260,19 +259,19 @@ module _ (bytes : List ℕ) (entries new : List Places) (kept : PackageBuilder) 
   new-kept : IsKept four new r
   new-kept =
       record {
-        name_end = omega (arith, long-append one kept.version.items, long-append two besides, long-append both kept.architecture.items, long-append three kept.provides.items);
-        version_end = omega (arith, long-append two besides, long-append both kept.architecture.items, long-append three kept.provides.items);
-        besides_end = omega (arith, long-append both kept.architecture.items, long-append three kept.provides.items);
-        architecture_end = long-append three kept.provides.items;
+        name_end = omega (arith, long-append one kept.version, long-append two besides, long-append both kept.architecture, long-append three kept.provides);
+        version_end = omega (arith, long-append two besides, long-append both kept.architecture, long-append three kept.provides);
+        besides_end = omega (arith, long-append both kept.architecture, long-append three kept.provides);
+        architecture_end = long-append three kept.provides;
         entries_end = omega arith;
         version = subst IsVersionKept (sym version_is) version_good;
-        spelling = subst (λ t. IsSpelling t (spelling_by four r)) (sym version_is) (subst (IsSpelling kept.version.items) (sym spelling_is) spelling_good);
+        spelling = subst (λ t. IsSpelling t (spelling_by four r)) (sym version_is) (subst (IsSpelling kept.version) (sym spelling_is) spelling_good);
         ascend = subst (λ es. AllPairs IsNotAfter (map (entry_name four) es)) (sym entries_are) entries_ascend;
       }
 
   new-listed : listed_by four new r ≡ p
   new-listed =
-      let version : version_in kept.version.items ≡ p.version = ap version_in keeps.version ∙ version_in-spelled (version_text p.version) p.version keeps.spelled in
+      let version : version_in kept.version ≡ p.version = ap version_in keeps.version ∙ version_in-spelled (version_text p.version) p.version keeps.spelled in
       listed-same _ _ _ _ _ _ _ _ _ _
       (name_is ∙ keeps.name) (ap version_in version_is ∙ version) (architecture_is ∙ keeps.architecture) keeps.multi_arch
       (ap (map (provision_at four)) entries_are ∙ cut.provides ∙ sym keeps.provisions)
@@ -280,8 +279,8 @@ module _ (bytes : List ℕ) (entries new : List Places) (kept : PackageBuilder) 
   -- the store with the package
   pub keeps_one_more : (old store : Store) → old.bytes.items ≡ bytes → old.entries.items ≡ entries → store.bytes.items ≡ four → store.entries.items ≡ new → store.records.items ≡ old.records.items ++ r ∷ [] → number ≡ length old.records.items + 1 → IsStore old → KeepsOneMore old store p text
   keeps_one_more old store b e is_bytes is_entries is_records is_number is =
-      let more : List ℕ = kept.name.items ++ (kept.version.items ++ (besides ++ (kept.architecture.items ++ kept.provides.items))) in
-      let grown : four ≡ old.bytes.items ++ more = reordered bytes kept.name.items kept.version.items besides kept.architecture.items kept.provides.items ∙ ap (λ l. l ++ more) (sym b) in
+      let more : List ℕ = kept.name ++ (kept.version ++ (besides ++ (kept.architecture ++ kept.provides))) in
+      let grown : four ≡ old.bytes.items ++ more = reordered bytes kept.name kept.version besides kept.architecture kept.provides ∙ ap (λ l. l ++ more) (sym b) in
       let grown_entries : new ≡ old.entries.items ++ cut.more = cut.appended ∙ ap (λ l. l ++ cut.more) (sym e) in
       record {
         kept = record {

@@ -26,7 +26,6 @@ use Rattle.deb_index.specs.Kept.{line_of, listed_of, spelling_of}
 use Rattle.deb_index.specs.Listed.{Listed, Provision}
 use Rattle.deb_index.specs.Named.{AreNumbers}
 use Rattle.deb_index.specs.Offers.{number_of, offer_cmp, offered, standing}
-use Rattle.deb_index.specs.PackageBuilder.{itself}
 use Rattle.deb_index.specs.ProvidedNames.{IsNotAfter}
 use Rattle.deb_index.specs.Maps.{list_under, numbers_under, numbers_with}
 use Rattle.deb_index.specs.Reported.{answer_of, answers_left, found_of, report_of}
@@ -128,9 +127,6 @@ worked-passes : (alloc : Global)
     (two_packages alloc)) (0 ∷ 1 ∷ 2 ∷ 3 ∷ 4 ∷ [])
     ≡ false ∷ true ∷ false ∷ false ∷ true ∷ []
 worked-passes alloc = refl
-
-worked-itself : itself (codes "aa") ≡ codes "aa"
-worked-itself = refl
 
 -- aa for all with Multi-Arch `foreign`, which provides vv, and ww in a version
 abbrev listed : Provisions → (besides : List ℕ) → first_fault (codes "1.0") ≡ None

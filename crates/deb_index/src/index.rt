@@ -3,10 +3,10 @@
 ghost use Rattle.std.specs.Prelude.{◌≡◌, ◌-◌, ◌≤◌, ℕ, List, Some, Err, IfOk, IfErr, IfSome, IsTrue, length, map};
 ghost use Rattle.std.specs.List.{slice_get};
 ghost use Rattle.std.specs.Option.{option_map};
+ghost use Rattle.deb_base.specs.Bodies.{file_limit};
 ghost use Rattle.deb_base.specs.Devices.{read_failures_after, ReadFaultIffFailed};
 ghost use Rattle.deb_base.specs.Faults.{IsReadersFault};
 ghost use Rattle.deb_base.specs.Reading.{TakesNoMore};
-ghost use Rattle.deb_syntax.specs.Lines.{file_limit};
 ghost use Rattle.deb_control.specs.Calls.{IfRefused};
 ghost use Rattle.deb_control.specs.CheckedStates.{passing_judged};
 ghost use Rattle.deb_control.specs.Checking.{IsRefusalOfDocument};

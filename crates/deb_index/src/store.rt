@@ -5,7 +5,7 @@ ghost use Rattle.std.specs.List.{All, slice_get};
 ghost use Rattle.deb_index.specs.Entries.{IsIn};
 ghost use Rattle.deb_index.specs.Kept.{line_of, listed_of, spelling_of};
 ghost use Rattle.deb_index.specs.Listed.{Listed};
-ghost use Rattle.deb_index.specs.PackageBuilder.{KeepsPackage};
+ghost use Rattle.deb_index.specs.PackageBuilder.{KeepsPackage, texts_kept};
 ghost use Rattle.deb_index.specs.Spans.{part};
 ghost use Rattle.deb_index.specs.Stores.{IsKept, IsStore, KeepsOneMore, lines_in, listed_in, spellings_in};
 ghost use Rattle.deb_index.specs.VersionSpellings.{text_besides};
@@ -67,21 +67,22 @@ impl Store {
         spelled: &[u8],
         line: u64,
     ) -> Result<(), AllocError>
-        ensures kept { (p : Listed) → KeepsPackage kept.now p → SpellsVersion spelled.now p.version
-            → IsStore self.old → OnOk result (KeepsOneMore self.old self.new p spelled.now) }
+        ensures kept { (p : Listed) → KeepsPackage (texts_kept kept.now) p
+            → SpellsVersion spelled.now p.version → IsStore self.old
+            → OnOk result (KeepsOneMore self.old self.new p spelled.now) }
         ensures line { OnOk result (lines_in self.new ≡ lines_in self.old ++ line ∷ []) }
     {
         let start = offset(self.bytes.len())?;
-        self.bytes.extend_from_slice(&kept.name)?;
+        self.bytes.extend_from_slice(kept.name())?;
         let name_end = offset(self.bytes.len())?;
-        self.bytes.extend_from_slice(&kept.version)?;
+        self.bytes.extend_from_slice(kept.version())?;
         let version_end = offset(self.bytes.len())?;
         self.bytes
-            .extend_from_slice(text_besides(&kept.version, spelled))?;
+            .extend_from_slice(text_besides(kept.version(), spelled))?;
         let besides_end = offset(self.bytes.len())?;
-        self.bytes.extend_from_slice(&kept.architecture)?;
+        self.bytes.extend_from_slice(kept.architecture())?;
         let architecture_end = offset(self.bytes.len())?;
-        self.bytes.extend_from_slice(&kept.provides)?;
+        self.bytes.extend_from_slice(kept.provides())?;
         let first = offset(self.entries.len())?;
         let number = offset(self.records.len() + 1)?;
         let provides = architecture_end as usize;

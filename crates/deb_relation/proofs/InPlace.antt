@@ -1,5 +1,5 @@
 -- What is canonical where it is spelled, put together from its parts.
-use Rattle.std.proofs.Common.{◌≡◌, ℕ, ◌==◌, ◌||◌, ◌&&◌, Bool, true, false, List, [], ◌∷◌, ◌++◌, length, map, take, drop, Option, Some, None, Ok, refl, sym, ap, ◌∙◌, subst, append_assoc, append-nil, length-append, codes, arith}
+use Rattle.std.proofs.Common.{◌≡◌, ℕ, ◌==◌, ◌||◌, ◌&&◌, Bool, true, false, List, [], ◌∷◌, ◌++◌, ◌⊎◌, inl, inr, length, map, take, drop, Option, Some, None, Ok, refl, sym, ap, ◌∙◌, subst, append_assoc, append-nil, length-append, codes, arith}
 use Rattle.std.specs.List.{list_all}
 use Rattle.std.specs.Ordering.{is_lt}
 use Rattle.std.specs.declared.cmp.Ordering.{Ordering}
@@ -79,7 +79,7 @@ alternative_begins text name rest1 q rest2 equal rest e1 e2 b =
     reordered n q b rest = simp (append_assoc, append-nil) refl
 
 -- a group of one alternative, and of one more
-pub first_alternative : (text : List ℕ) (equal : Bool) (rest : List ℕ) → BeginsAlternative text equal rest → BeginsGroup text false equal rest
+first_alternative : (text : List ℕ) (equal : Bool) (rest : List ℕ) → BeginsAlternative text equal rest → BeginsGroup text false equal rest
 unfolding group_text
 first_alternative text equal rest a = record {
   group = a.alternative ∷ [];
@@ -107,7 +107,7 @@ module _ {A : Type 0} (text : A → List ℕ) where
   ascends-last (a ∷ []) y x ascends less = (ascends.0, (less, tt))
   ascends-last (a ∷ b ∷ before) y x ascends less = (ascends.0, ascends-last (b ∷ before) y x ascends.1 less)
 
-pub next_alternative : (text next : List ℕ) (two equals equal : Bool) (rest : List ℕ) → BeginsGroup text two equals (codes " | " ++ next) → BeginsAlternative next equal rest → BeginsGroup text true (equals && equal) rest
+next_alternative : (text next : List ℕ) (two equals equal : Bool) (rest : List ℕ) → BeginsGroup text two equals (codes " | " ++ next) → BeginsAlternative next equal rest → BeginsGroup text true (equals && equal) rest
 unfolding group_text
 next_alternative text next two equals equal rest g a = from g.group g.regular g.spelt g.equals_is
   where
@@ -126,6 +126,14 @@ next_alternative text next two equals equal rest g a = from g.group g.regular g.
       where
         reordered : (g t : List ℕ) → g ++ (codes " | " ++ (t ++ rest)) ≡ (g ++ (codes " | " ++ t)) ++ rest
         reordered g t = simp append_assoc refl
+
+-- what comes before an alternative: nothing, or alternatives and a bar
+abbrev pub PrecedesAlternative : List ℕ → Bool → Bool → List ℕ → Type 0
+PrecedesAlternative text two equals next = ((text ≡ next) × (two ≡ false) × (equals ≡ true)) ⊎ ((before : Bool) × BeginsGroup text before equals (codes " | " ++ next) × (two ≡ true))
+
+pub one_alternative : (text next : List ℕ) (two equals equal : Bool) (rest : List ℕ) → PrecedesAlternative text two equals next → BeginsAlternative next equal rest → BeginsGroup text two (equals && equal) rest
+one_alternative text next two equals equal rest (inl first) a = rw (first.0, first.1, first.2) (first_alternative next equal rest a)
+one_alternative text next two equals equal rest (inr more) a = rw more.2 (next_alternative text next more.0 equals equal rest more.1 a)
 
 pub less_is : (o : Ordering) → is_lt o ≡ true → o ≡ Less
 less_is Less e = refl

@@ -16,6 +16,7 @@ pub mod Inserting
 pub mod Joining
 pub mod ListOrder
 pub mod Mapped
+pub mod NameRuns
 pub mod Names
 pub mod Parsed
 pub mod ReadLists

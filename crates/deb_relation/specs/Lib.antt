@@ -7,6 +7,7 @@ pub mod Grammar
 pub mod Groups
 pub mod InPlace
 pub mod KeptTexts
+pub mod Lanes
 pub mod Laws
 pub mod Meaning
 pub mod PlaceLaws

@@ -92,15 +92,19 @@ fn front<'a>(text: &'a [u8], rest: &[u8]) -> &'a [u8]
 pub(crate) fn cut_group(text: &[u8]) -> Option<(&[u8], bool, bool, &[u8])>
     ensures { IfSome result (λ p. CutsGroup text.now p.0.now p.1 p.2 p.3.now) }
 {
-    let (mut only_equals, mut rest) = cut_alternative(text)?;
-    let mut has_two = false;
-    while let Some(next) = cut_bar(rest) {
-        let (is_equal, behind) = cut_alternative(next)?;
-        has_two = true;
+    let (mut has_two, mut only_equals, mut next) = (false, true, text);
+    // One call reads the first alternative and the others, so that it is compiled in place.
+    loop {
+        let (is_equal, rest) = cut_alternative(next)?;
         only_equals &= is_equal;
-        rest = behind;
+        match cut_bar(rest) {
+            Some(after) => {
+                has_two = true;
+                next = after;
+            }
+            None => return Some((front(text, rest), has_two, only_equals, rest)),
+        }
     }
-    Some((front(text, rest), has_two, only_equals, rest))
 }
 
 /// Whether some group has two alternatives, and whether no bound has an operator other than `=`,

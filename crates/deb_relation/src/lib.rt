@@ -34,6 +34,7 @@ mod list_order;
 mod lists;
 mod name;
 mod name_byte;
+mod name_run;
 mod operator;
 mod profile_list;
 mod relation;

@@ -1,26 +1,16 @@
 //! The name of a package, and its qualifier.
 
-ghost use Rattle.std.specs.Prelude.{◌≡◌, ◌≤◌, Ok, IfSome, length};
-ghost use Rattle.std.specs.List.{prefix_len};
+ghost use Rattle.std.specs.Prelude.{◌≡◌, Ok, IfSome};
 ghost use Rattle.std.specs.Option.{option_copied};
-ghost use Rattle.deb_base.specs.PackageNames.{begins_small_or_digit, is_package_byte};
+ghost use Rattle.deb_base.specs.PackageNames.{begins_small_or_digit};
 ghost use Rattle.deb_relation.specs.Reading.{read_name, read_qualifier};
 ghost use Rattle.deb_relation.specs.Stops.{Gives};
 ghost use Rattle.deb_relation.specs.Views.{text_behind};
 
 use crate::cursor::{begins, begins_name, cut_name};
 use crate::fault::{Reason, Stop};
-use crate::name_byte::is_package_byte;
+use crate::name_run::package_len;
 use deb_base::{is_arch_name, is_package_name};
-
-fn package_len(text: &[u8]) -> usize
-    ensures value { result ≡ prefix_len is_package_byte text.now }
-    ensures bound { result ≤ length text.now }
-{
-    text.iter()
-        .take_while(|byte| is_package_byte(**byte))
-        .count()
-}
 
 fn begins_small_or_digit(name: &[u8]) -> bool
     ensures { result ≡ begins_small_or_digit name.now }

@@ -2,11 +2,11 @@
 use Rattle.std.proofs.Common.{◌≡◌, ℕ, ◌+◌, ◌<◌, ◌≤◌, nat_le, Bool, true, false, cond, List, [], ◌∷◌, ◌++◌, length, take, get_or, map, Bor, Some, refl, sym, ap, ◌∙◌, arith}
 use Rattle.std.proofs.lemmas.Bool.{le-leb, leb-true}
 use Rattle.std.proofs.lemmas.List.{map-append, take_more}
-use Rattle.deb_base.specs.Bodies.{Line}
+use Rattle.deb_base.specs.Bodies.{Line, file_limit}
 use Rattle.deb_base.specs.declared.code.Code.TheVariants.{BadVersion, FileTooLong}
 use Rattle.deb_sort.specs.Refusals.{first_refusal, is_bad, line_behind, refusal_of}
 use Rattle.deb_sort.specs.VersionLines.{texts_of}
-use Rattle.deb_syntax.specs.Lines.{file_limit, lines_of}
+use Rattle.deb_syntax.specs.Lines.{lines_of}
 use Rattle.deb_version.specs.Kept.{text_of}
 use Rattle.deb_version.specs.declared.version_text.VersionText.{VersionText}
 

@@ -2,7 +2,7 @@
 use Rattle.std.proofs.Common.{◌≡◌, ℕ, Bool, List, ◌++◌, length, take, Option, Some, None, Result, Ok, Err, IfErr, inl, inr, refl, sym, ap, ◌∙◌, subst, arith, append-nil, length-append, is_some, true≢false}
 use Rattle.std.specs.Prelude.{⊤}
 use Rattle.std.proofs.lemmas.List.{take-append-le}
-use Rattle.deb_base.specs.Bodies.{Line, pieces_of}
+use Rattle.deb_base.specs.Bodies.{Line, pieces_of, file_limit}
 use Rattle.deb_base.specs.Devices.{Puts, read_failures_after, write_failures_after}
 use Rattle.deb_base.specs.Faults.{RefusedOrMemory}
 use Rattle.deb_base.specs.declared.code.Code.TheVariants.{FileTooLong}
@@ -13,7 +13,7 @@ use Rattle.deb_sort.specs.Files.{SortsFile}
 use Rattle.deb_sort.specs.Refusals.{refusal_of}
 use Rattle.deb_sort.specs.Sorting.{Sorts}
 use Rattle.deb_sort.proofs.Refusals.{beyond}
-use Rattle.deb_syntax.specs.Lines.{file_limit, lines_of, with_newlines}
+use Rattle.deb_syntax.specs.Lines.{lines_of, with_newlines}
 
 -- what was read has the refusal of the whole file
 refusal_of_read : (text read : List ℕ) → IsEnough file_limit text read → refusal_of text ≡ refusal_of read

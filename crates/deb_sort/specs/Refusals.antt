@@ -1,10 +1,10 @@
 -- Why a file of versions is refused: a line that is no version (Debian Policy 5.6.12), or its
 -- length. The numbers of the lines, and the limit, are this project's own.
 use Rattle.std.specs.Prelude.{◌≡◌, ℕ, ◌+◌, Bool, List, [], ◌∷◌, length, map, take, nat_le, Option, Some, None, is_some, if◌then◌else◌, codes, refl}
-use Rattle.deb_base.specs.Bodies.{Line, pieces_of}
+use Rattle.deb_base.specs.Bodies.{Line, pieces_of, file_limit}
 use Rattle.deb_base.specs.declared.code.Code.TheVariants.{BadVersion, FileTooLong}
 use Rattle.deb_base.specs.declared.refusal.Refusal.{Refusal}
-use Rattle.deb_syntax.specs.Lines.{file_limit, lines_of}
+use Rattle.deb_syntax.specs.Lines.{lines_of}
 use Rattle.deb_version.specs.Faults.{first_fault}
 
 -- the line is no version

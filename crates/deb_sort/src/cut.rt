@@ -1,14 +1,13 @@
 //! Cuts a text into lines that are versions, or returns the first line that isn't one.
 
 ghost use Rattle.std.specs.Prelude.{◌≡◌, None, Some, map, length, take, IfOk, IfErr};
-ghost use Rattle.deb_base.specs.Bodies.{pieces_of};
+ghost use Rattle.deb_base.specs.Bodies.{pieces_of, file_limit};
 ghost use Rattle.deb_base.specs.Faults.{RefusedOrMemory};
-ghost use Rattle.deb_syntax.specs.Lines.{lines_of, file_limit};
+ghost use Rattle.deb_syntax.specs.Lines.{lines_of};
 ghost use Rattle.deb_sort.specs.Refusals.{first_refusal, refusal_of, line_behind};
 ghost use Rattle.deb_sort.specs.VersionLines.{texts_of};
 
-use deb_base::{Code, Fault, Refusal};
-use deb_syntax::FILE_LIMIT;
+use deb_base::{Code, FILE_LIMIT, Fault, Refusal};
 use deb_version::VersionText;
 use std::alloc::{AllocError, Global};
 

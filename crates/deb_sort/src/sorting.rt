@@ -1,16 +1,16 @@
 //! Sorts the lines of a file: from a source to a sink. `cut` reads the versions.
 
 ghost use Rattle.std.specs.Prelude.{◌≡◌, ℕ, List, Some, OnOk, IfErr};
+ghost use Rattle.deb_base.specs.Bodies.{file_limit};
 ghost use Rattle.deb_base.specs.Devices.{write_failures_after, Puts};
 ghost use Rattle.deb_base.specs.Reading.{TakesNoMore};
-ghost use Rattle.deb_syntax.specs.Lines.{file_limit, with_newlines};
+ghost use Rattle.deb_syntax.specs.Lines.{with_newlines};
 ghost use Rattle.deb_sort.specs.Files.{SortsFile};
 ghost use Rattle.deb_sort.specs.Sorting.{Sorts};
 ghost use Rattle.deb_sort.specs.VersionLines.{texts_of};
 
 use crate::cut::version_lines;
-use deb_base::{Fault, Sink, Source, put_pieces, read_text};
-use deb_syntax::FILE_LIMIT;
+use deb_base::{FILE_LIMIT, Fault, Sink, Source, put_pieces, read_text};
 use deb_version::VersionText;
 use std::alloc::{AllocError, Global};
 

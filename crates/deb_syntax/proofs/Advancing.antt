@@ -1,11 +1,10 @@
 -- What the calls of a reader of paragraphs say of a text that fits, from what its walk finds ahead.
 use Rattle.deb_syntax.proofs.Common.{seen_from, ◌≡◌, ℕ, ◌+◌, ◌<◌, ◌≤◌, ◌&&◌, Bool, false, List, [], ◌∷◌, ◌++◌, Option, Some, None, Result, Ok, Err, length, take, refl, sym, ap, ◌∙◌, subst, arith, rules, IsTrue, length-append, IfNone, IfSome, IsSome, Shown, lt-leb, and_from, Line, pieces_of, is_blank, is_all_blank, line_length, ParagraphTooLong, Fault, Refused, Memory, Read, Write, Refusal, Extent, IsNear, TakesNoMore, IsExtentOf, Seen, next_answer, next_begin, CursorState, cursor_state, buffer_of, start_of, piece_limit, left_count, Takes, are_fields, are_numbered, FileCursor, FieldSpan, list_all, judged, paragraphs_of, State, state_from, Fits, passed_count, GivesLine, BeginsHere, Answers, IsRefusalOfText, Moment, Advances, Begins, KeepsErrors, tells_end, IsReadersFault, IsFaultOf, fields_at, lies_within, stands_within, HidesLong}
-use Rattle.deb_base.specs.Bodies.{paragraph_limit}
+use Rattle.deb_base.specs.Bodies.{paragraph_limit, file_limit}
 use Rattle.std.specs.List.{slice_range}
 use Rattle.deb_syntax.proofs.CursorLemmas.{front_of_unread, unread_within}
 use Rattle.deb_syntax.proofs.FieldTests.{are_fields-judged, are_numbered-judged}
 use Rattle.deb_syntax.proofs.SpansWithin.{within_test}
-use Rattle.deb_syntax.specs.Lines.{file_limit}
 use Rattle.deb_syntax.proofs.JudgingLawsRefusals.{judged-refusal}
 use Rattle.deb_syntax.proofs.Faults.{readers_fault}
 use Rattle.deb_syntax.proofs.NextLines.{near-short}

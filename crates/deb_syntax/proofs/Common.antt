@@ -36,7 +36,7 @@ pub use Rattle.deb_base.proofs.FieldBytes.{IsUtf8-after_all_ascii, IsUtf8-before
 pub use Rattle.deb_base.proofs.LaterPieces.{later_pieces-append}
 pub use Rattle.deb_base.proofs.TextLines.{IsUtf8-after_ascii, IsUtf8-joined, IsUtf8-lines}
 pub use Rattle.deb_base.proofs.Trims.{IsTrimmed, trimmed-between, trimmed_cut}
-pub use Rattle.deb_base.specs.Bodies.{HasNoNewline, IsBody, Line, begins_with_blank, ends_with_blank, is_all_blank, is_blank, is_blank_byte, is_body, is_body_shape, is_continuation, joined, line_length, newline, paragraph_limit, pieces_of, with_byte}
+pub use Rattle.deb_base.specs.Bodies.{HasNoNewline, IsBody, Line, begins_with_blank, ends_with_blank, is_all_blank, is_blank, is_blank_byte, is_body, is_body_shape, is_continuation, joined, line_length, newline, paragraph_limit, pieces_of, with_byte, file_limit}
 pub use Rattle.deb_base.specs.Devices.{Shown, read_failures_after}
 pub use Rattle.deb_base.specs.Faults.{IsReadersFault}
 pub use Rattle.deb_base.specs.FieldNames.{colon, is_name, is_name_byte, may_begin_name}
@@ -60,7 +60,7 @@ pub use Rattle.deb_syntax.specs.Cursors.{Comes, CursorState, IsEnd, PassesOn, Se
 pub use Rattle.deb_syntax.specs.Fields.{AreDistinct, Field, IsShort, SpellsField, SpellsFields, SpellsParagraph, are_fields, are_numbered, has_name, is_field}
 pub use Rattle.deb_syntax.specs.Judging.{begins_armour, begins_comment, begun, continuation_line, continued, ended, field_line, has_colon, is_named, judged, line_judged, lines_judged, with_text}
 pub use Rattle.deb_syntax.specs.Laws.{AreRuns, IsFirstRefusal, IsLineRefusal, IsRefusalWithin, IsRun, IsTextRefusal, StandsAmong, body_at, body_of, with_last_newline}
-pub use Rattle.deb_syntax.specs.Lines.{IsClosed, Paragraph, begins_blank, ends_blank, ends_line, file_limit, lines_of, paragraphs_from, paragraphs_of, total_length, with_line, with_newlines}
+pub use Rattle.deb_syntax.specs.Lines.{IsClosed, Paragraph, begins_blank, ends_blank, ends_line, lines_of, paragraphs_from, paragraphs_of, total_length, with_line, with_newlines}
 pub use Rattle.deb_syntax.specs.Meaning.{Accepted, Entries, HaveMeanings, Means, byte_order, entries_after, entries_of}
 pub use Rattle.deb_syntax.specs.Paragraphs.{state_of}
 pub use Rattle.deb_syntax.specs.FieldSpans.{IsFaultOf, Keeps, KeepsNext, LastGoesOn, StandsAt, begun_at, begun_fields, ends_before, field_at, fields_at, has_row, has_stood, is_kept, lies_within, name_at}

@@ -1,6 +1,6 @@
 -- A file that is read by pieces: slices of its buffer, what a piece leaves of the text, and what is seen of it.
+use Rattle.deb_base.specs.Bodies.{file_limit}
 use Rattle.deb_syntax.proofs.Common.{◌≡◌, ℕ, ◌+◌, ◌-◌, ◌≤◌, List, [], ◌++◌, Option, Some, None, length, take, drop, slice_range, refl, sym, ap, ◌∙◌, arith, length-drop, take-add, drop-take, drop-drop, length-take-le, Consumes, IsAtEnd, cursor_state, buffer_of, start_of, FileCursor}
-use Rattle.deb_syntax.specs.Lines.{file_limit}
 use Rattle.deb_syntax.proofs.Slices.{take-slice_range}
 
 -- a slice of the first f bytes, which are the same

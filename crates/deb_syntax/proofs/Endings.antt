@@ -1,8 +1,7 @@
 -- Where the lines of a paragraph that are kept end, by the line after them.
 use Rattle.deb_syntax.proofs.Common.{◌≡◌, ◌≢◌, ℕ, ◌+◌, ◌-◌, ◌<◌, ◌≤◌, ◌⊎◌, inl, inr, List, [], ◌∷◌, ◌++◌, Option, Ok, Err, None, false, length, take, drop, sym, ap, ◌∙◌, subst, append_assoc, append-nil, drop-length, arith, length-append, length-take-le, take_all, IsTrue, true, ParagraphTooLong, FileTooLong, Fault, Result, Extent, Line, pieces_of, IsClosed, At, Blank, CutsLine, Ended, IsExtentOf, IsNextLine, KeepsCounts, KeepsLines, Overlong, SameCounts, CursorState, piece_limit, passed_of, AreNotBlank, lines_of, ends_line, ends_blank, passed_count, next_answer, total_length, state_from, IsReadersFault}
 use Rattle.std.proofs.lemmas.List.{take-take}
-use Rattle.deb_base.specs.Bodies.{paragraph_limit}
-use Rattle.deb_syntax.specs.Lines.{file_limit}
+use Rattle.deb_base.specs.Bodies.{paragraph_limit, file_limit}
 use Rattle.deb_syntax.specs.Resuming.{HasPassed, IsExtentAhead}
 use Rattle.deb_syntax.proofs.Boundaries.{few_lines, total-whole}
 use Rattle.deb_syntax.proofs.KeptLines.{cut_lines, ends_after, fresh_length, fresh_lines, keeps_open, keeps_open-line, passes_lines, refused_long}

@@ -1,7 +1,6 @@
 -- What is found of the first line that isn't blank, said of a text that fits.
 use Rattle.deb_syntax.proofs.Common.{◌≡◌, ℕ, ◌+◌, ◌-◌, ◌<◌, ◌≤◌, ◌⊎◌, inl, inr, Bool, true, false, List, [], ◌∷◌, ◌++◌, Option, Some, Ok, Err, length, take, drop, refl, sym, ap, ◌∙◌, subst, append_assoc, append-nil, take-append-drop, length-take-le, drop-length, arith, length-append, IsTrue, false≢true, get_or, Line, newline, HasNoNewline, is_blank, ParagraphTooLong, Fault, At, EndsOverlong, HidesLong, KeepsLine, KeepsLines, Skips, CursorState, passed_of, left_begin, part_within, lines_of, ends_line, paragraphs_of, passed_count, next_answer, Seen, Fits, BeginsHere, GivesNone, state_from, AreBlank, AreNotBlank}
-use Rattle.deb_base.specs.Bodies.{paragraph_limit}
-use Rattle.deb_syntax.specs.Lines.{file_limit}
+use Rattle.deb_base.specs.Bodies.{paragraph_limit, file_limit}
 use Rattle.deb_syntax.proofs.Advancing.{long_not_blank, same_count}
 use Rattle.deb_syntax.proofs.Boundaries.{ends_line-append}
 use Rattle.deb_syntax.proofs.KeptLines.{ended_lines, not_empty, visible_lines}

@@ -1,6 +1,6 @@
 -- The first line that isn't blank, and the blank lines before it that pass.
+use Rattle.deb_base.specs.Bodies.{file_limit}
 use Rattle.deb_syntax.proofs.Common.{Ended, IsTrue, Takes, had, take, ◌≡◌, ℕ, ◌+◌, ◌-◌, ◌≤◌, ◌⊎◌, inl, inr, List, [], ◌∷◌, ◌++◌, Option, Ok, Err, length, refl, sym, ap, ◌∙◌, subst, append_assoc, append-nil, arith, length-append, get_or, FileTooLong, newline, IsClosed, At, Blank, CutsLine, EndsLine, EndsOverlong, HasFirst, IsFirst, IsNear, IsNextLine, KeepsCounts, KeepsLine, Overlong, PassesOn, Skips, TooLong, Buffered, NoMore, Whole, CursorState, piece_limit, passed_of, lines_of, ends_blank, paragraphs_of, passed_count, next_answer, next_begin, AreBlank, Fault, FirstLine, IsReadersFault, Result}
-use Rattle.deb_syntax.specs.Lines.{file_limit}
 use Rattle.deb_syntax.proofs.KeptLines.{cut_lines, ended_lines, ending_short, ends_after, keeps_more, reads_takes}
 use Rattle.deb_syntax.proofs.LeftAnswers.{left-beyond, left-cut}
 use Rattle.deb_syntax.proofs.NextLines.{near-line, near-short}

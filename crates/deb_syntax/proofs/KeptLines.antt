@@ -1,7 +1,6 @@
 -- The lines of a paragraph that are kept, and what the line after them makes of them: one more, the paragraph, or a refusal.
 use Rattle.deb_syntax.proofs.Common.{Takes, had, ◌≡◌, ◌≢◌, ℕ, ◌+◌, ◌-◌, ◌<◌, ◌≤◌, ◌⊎◌, inl, inr, Bool, true, false, List, [], ◌∷◌, ◌++◌, Option, Some, None, Err, length, take, drop, refl, sym, ap, ◌∙◌, subst, append_assoc, append-nil, arith, length-append, drop-append_seam, take-append_seam, length-take-le, IsTrue, false≢true, Line, line_length, pieces_of, HasNoNewline, is_blank, All-append, ParagraphTooLong, At, EndsLine, KeepsLines, ReadsLine, left_answer, part_within, whole_lines, AreBlank, AreNotBlank, CursorState, piece_limit, passed_of, lines_of, ends_line, begins_blank, IsClosed, paragraphs_from, total_length, state_from, sum_by-append}
-use Rattle.deb_base.specs.Bodies.{paragraph_limit}
-use Rattle.deb_syntax.specs.Lines.{file_limit}
+use Rattle.deb_base.specs.Bodies.{paragraph_limit, file_limit}
 use Rattle.deb_syntax.specs.LineEnds.{ends_from, line_ends}
 use Rattle.deb_syntax.specs.Resuming.{HasPassed}
 use Rattle.deb_syntax.proofs.Boundaries.{lines_of-append, pieces_of-append, ends_line-append, total-whole}

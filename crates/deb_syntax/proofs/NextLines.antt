@@ -1,8 +1,7 @@
 -- A line that is looked for in what comes of a source, and what is answered of it.
 use Rattle.deb_syntax.proofs.Common.{◌≡◌, ◌≢◌, ℕ, ◌+◌, ◌-◌, ◌<◌, ◌≤◌, ◌⊎◌, inl, inr, true, List, [], ◌∷◌, ◌++◌, Option, Some, None, length, take, drop, slice_range, refl, sym, ap, ◌∙◌, subst, append_assoc, append-nil, arith, length-append, length-drop, length-take-le, take_all, drop_at, take_at, take-append-drop, take-append-le, drop-drop, drop_more, false≢true, IsTrue, IsFalse, All-append, Consumes, HasNoNewline, newline, Comes, CursorState, Sees, Takes, room_of, had, piece_limit, Dropped, NextLine, Visible, Blank, Cut, Ended, Overlong, Whole, CutsLine, Describes, DropsLong, IsEndedLine, IsNear, IsNewline, IsNextLine, KeepsCounts, ReadsLine, drop-length, drop_all, eq-eqb, get_or, length-take}
 use Rattle.std.proofs.lemmas.List.{get_or-take}
-use Rattle.deb_base.specs.Bodies.{paragraph_limit}
-use Rattle.deb_syntax.specs.Lines.{file_limit}
+use Rattle.deb_base.specs.Bodies.{paragraph_limit, file_limit}
 use Rattle.deb_syntax.proofs.KeptLines.{ending_some, no_elements, not_empty}
 use Rattle.deb_syntax.proofs.Slices.{drop-front, slice_range-front, slice_range-parts, slice_range-rest}
 use Rattle.deb_syntax.proofs.Takings.{consumes_takes, still, still-less, takes_more, takes_none, takes_then}

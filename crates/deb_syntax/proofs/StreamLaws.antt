@@ -1,9 +1,8 @@
 -- The answers of a reader are those of the stream of the file.
 use Rattle.deb_syntax.proofs.Common.{◌≡◌, ℕ, ◌+◌, ◌≤◌, Bool, true, false, cond, List, [], ◌∷◌, Option, Some, None, Err, length, drop, refl, sym, ap, ◌∙◌, arith, FileTooLong, Refusal, Paragraph, judged, seen_from}
 use Rattle.std.specs.Prelude.{zero, suc}
-use Rattle.deb_base.specs.Bodies.{paragraph_limit}
+use Rattle.deb_base.specs.Bodies.{paragraph_limit, file_limit}
 use Rattle.deb_syntax.specs.Answers.{answer_of_first_under, is_line, line_beyond, line_too_long, paragraph_answer, paragraphs_within}
-use Rattle.deb_syntax.specs.Lines.{file_limit}
 use Rattle.deb_syntax.specs.Streams.{Stream, AnswersAreOfStream, end_by, item_of, stream_answer, stream_from_under, with_item}
 
 at_first : (limit : ℕ) (beyond : Option ℕ) (p : Paragraph) (more : List Paragraph) → answer_of_first_under limit beyond (p ∷ more) ≡ paragraph_answer (line_too_long p.first limit p.lines) beyond p

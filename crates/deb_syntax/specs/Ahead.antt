@@ -3,7 +3,7 @@
 use Rattle.std.specs.Prelude.{◌≡◌, ℕ, ◌+◌, ◌-◌, ◌<◌, ◌≤◌, ◌⊎◌, true, false, List, [], ◌∷◌, ◌++◌, length, take, drop, Option, Some, None, Result, Ok, Err, IsTrue, codes, refl}
 use Rattle.std.specs.Str.{is_utf8, chars}
 use lib.Utf8.{encode}
-use Rattle.deb_base.specs.Bodies.{HasNoNewline, pieces_of, paragraph_limit}
+use Rattle.deb_base.specs.Bodies.{HasNoNewline, pieces_of, paragraph_limit, file_limit}
 use Rattle.deb_base.specs.Faults.{IsReadersFault}
 use Rattle.deb_base.specs.declared.code.Code.TheVariants.{FileTooLong}
 use Rattle.deb_base.specs.declared.fault.Fault.{Fault}
@@ -14,7 +14,7 @@ use Rattle.deb_syntax.specs.CurrentParagraphs.{EndsOverlong}
 use Rattle.deb_syntax.specs.Cursors.{CursorState}
 use Rattle.deb_syntax.specs.Extents.{AreNotBlank}
 use Rattle.deb_syntax.specs.LineEnds.{line_ends}
-use Rattle.deb_syntax.specs.Lines.{IsClosed, lines_of, ends_line, paragraphs_from, paragraphs_of, total_length, file_limit}
+use Rattle.deb_syntax.specs.Lines.{IsClosed, lines_of, ends_line, paragraphs_from, paragraphs_of, total_length}
 use Rattle.deb_syntax.specs.NextLines.{IsNear}
 use Rattle.deb_syntax.specs.declared.ending.Extent.{Extent}
 use Rattle.deb_syntax.specs.declared.first.FirstLine.{FirstLine}

@@ -6,8 +6,8 @@ use Rattle.std.specs.Str.{is_utf8, chars}
 use lib.Utf8.{encode}
 use Rattle.deb_base.specs.declared.code.Code.TheVariants.{ParagraphTooLong, FileTooLong, NoColon}
 use Rattle.deb_base.specs.declared.refusal.Refusal.{Refusal}
-use Rattle.deb_base.specs.Bodies.{Line, newline, line_length, paragraph_limit}
-use Rattle.deb_syntax.specs.Lines.{Paragraph, lines_of, paragraphs_under, file_limit}
+use Rattle.deb_base.specs.Bodies.{Line, newline, line_length, paragraph_limit, file_limit}
+use Rattle.deb_syntax.specs.Lines.{Paragraph, lines_of, paragraphs_under}
 use Rattle.deb_syntax.specs.Fields.{Field}
 use Rattle.deb_syntax.specs.Judging.{judged}
 

@@ -4,7 +4,7 @@ use Rattle.std.specs.Prelude.{◌≡◌, ◌<◌, ◌≤◌, ◌+◌, [], length
 use Rattle.std.specs.Str.{is_utf8, chars}
 use lib.Utf8.{encode}
 use Rattle.std.specs.List.{list_all}
-use Rattle.deb_base.specs.Bodies.{newline, paragraph_limit}
+use Rattle.deb_base.specs.Bodies.{newline, paragraph_limit, file_limit}
 use Rattle.deb_base.specs.Kinds.{known_row}
 use Rattle.deb_base.specs.declared.known_fields.FieldId.{FieldId}
 use Rattle.deb_syntax.specs.declared.field_span.FieldSpan.{FieldSpan}
@@ -12,7 +12,6 @@ use Rattle.deb_syntax.specs.declared.paragraphs.CurrentParagraph.{CurrentParagra
 use Rattle.deb_syntax.specs.Answers.{Seen}
 use Rattle.deb_syntax.specs.Cursors.{CursorState}
 use Rattle.deb_syntax.specs.Fields.{are_fields, are_numbered}
-use Rattle.deb_syntax.specs.Lines.{file_limit}
 use Rattle.deb_syntax.specs.FieldSpans.{fields_at, lies_within}
 
 -- what is in a buffer, with its fields in the spans

@@ -2,11 +2,11 @@
 -- (this project's own).
 use Rattle.std.specs.Prelude.{◌≡◌, ℕ, ◌+◌, ◌-◌, ◌<◌, ◌≤◌, Bool, false, List, [], ◌++◌, length, take, drop, slice_range, vec_len, Option, Some, None, IsSome, Result, OnOk, OnErr, IfErr, IsErrOf, IsTrue, IsFalse, codes, refl}
 use Rattle.std.specs.Io.KnownBytes.{Consumes, IsAtEnd}
+use Rattle.deb_base.specs.Bodies.{file_limit}
 use Rattle.deb_base.specs.Devices.{Shown, read_failures_after}
 use Rattle.deb_base.specs.Reading.{piece_limit, IsMemoryOrRead}
 use Rattle.deb_base.specs.declared.fault.Fault.{Fault}
 use Rattle.deb_base.specs.declared.fault.Fault.TheVariants.{Memory}
-use Rattle.deb_syntax.specs.Lines.{file_limit}
 use Rattle.deb_syntax.specs.declared.read_buffer.ReadBuffer.{ReadBuffer}
 use Rattle.deb_syntax.specs.declared.file_cursor.FileCursor.{FileCursor}
 use Rattle.deb_syntax.specs.declared.file_cursor.Visible.{Visible}

@@ -4,7 +4,7 @@ use Rattle.std.specs.Prelude.{◌≡◌, ℕ, ◌-◌, ◌≤◌, Bool, true, fa
 use Rattle.std.specs.Str.{is_utf8, chars}
 use lib.Utf8.{encode}
 use Rattle.std.proofs.Common.{arith}
-use Rattle.deb_base.specs.Bodies.{Line, paragraph_limit, pieces_of}
+use Rattle.deb_base.specs.Bodies.{Line, paragraph_limit, pieces_of, file_limit}
 use Rattle.deb_base.specs.Codes.{number_of}
 use Rattle.deb_base.specs.Faults.{IsReadersFault}
 use Rattle.deb_base.specs.declared.code.Code.{Code}
@@ -14,7 +14,7 @@ use Rattle.deb_base.specs.declared.refusal.Refusal.{Refusal}
 use Rattle.deb_syntax.specs.Answers.{Seen, next_answer, paragraphs_within}
 use Rattle.deb_syntax.specs.FieldSpans.{fields_at}
 use Rattle.deb_syntax.specs.Judging.{judged}
-use Rattle.deb_syntax.specs.Lines.{Paragraph, file_limit}
+use Rattle.deb_syntax.specs.Lines.{Paragraph}
 use Rattle.deb_syntax.specs.declared.field_span.FieldSpan.{FieldSpan}
 use Rattle.deb_syntax.specs.declared.paragraphs.CurrentParagraph.{CurrentParagraph}
 

@@ -8,9 +8,9 @@ use Rattle.std.specs.FinMap.{find}
 use Rattle.deb_base.specs.Names.{folded, canonical_name}
 use Rattle.deb_base.specs.Codes.{number_of}
 use Rattle.deb_base.specs.declared.refusal.Refusal.{Refusal}
-use Rattle.deb_base.specs.Bodies.{Line, newline, HasNoNewline, is_blank, pieces_of, joined}
+use Rattle.deb_base.specs.Bodies.{Line, newline, HasNoNewline, is_blank, pieces_of, joined, file_limit}
 use Rattle.deb_syntax.specs.Answers.{next_answer}
-use Rattle.deb_syntax.specs.Lines.{with_newlines, begins_blank, Paragraph, lines_of, paragraphs_from, paragraphs_of, file_limit}
+use Rattle.deb_syntax.specs.Lines.{with_newlines, begins_blank, Paragraph, lines_of, paragraphs_from, paragraphs_of}
 use Rattle.deb_syntax.specs.Fields.{Field, AreDistinct, IsShort, SpellsParagraph}
 use Rattle.deb_syntax.specs.Judging.{judged}
 use Rattle.deb_syntax.specs.Meaning.{Entries, byte_order, entries_of, Means, Accepted}

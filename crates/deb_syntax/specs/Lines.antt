@@ -12,10 +12,6 @@ abbrev pub with_newlines : List Line → List ℕ
 with_newlines [] = []
 with_newlines (line ∷ lines) = line ++ newline ∷ with_newlines lines
 
--- the most bytes that a file may have (this project's own)
-unfoldable pub file_limit : ℕ
-file_limit = 4294967295
-
 -- lines that follow one another, and the number of the first
 pub record Paragraph : Type 0 where
   pub first : ℕ
@@ -129,6 +125,6 @@ added_lengths = (refl, refl)
 limits_of_lines : (n : ℕ) (lines : List Line)
     → (begins_blank lines ≡ begins_blank_under 16777216 lines)
     × (ends_blank lines ≡ ends_blank_under 16777216 lines)
-    × (paragraphs_from n lines ≡ paragraphs_under 16777216 n lines) × (file_limit ≡ 4294967295)
-unfolding paragraph_limit file_limit
-limits_of_lines n lines = (refl, refl, refl, refl)
+    × (paragraphs_from n lines ≡ paragraphs_under 16777216 n lines)
+unfolding paragraph_limit
+limits_of_lines n lines = (refl, refl, refl)

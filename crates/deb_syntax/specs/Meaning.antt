@@ -4,8 +4,9 @@ use Rattle.std.specs.Ordering.{nat_cmp}
 use Rattle.std.specs.Cmp.Lexicographic.{slice_cmp}
 use Rattle.std.specs.declared.cmp.Ordering.{Ordering}
 use Rattle.std.specs.BTreeMap.{insert_entry}
+use Rattle.deb_base.specs.Bodies.{file_limit}
 use Rattle.deb_base.specs.Names.{canonical_name}
-use Rattle.deb_syntax.specs.Lines.{Paragraph, paragraphs_of, file_limit}
+use Rattle.deb_syntax.specs.Lines.{Paragraph, paragraphs_of}
 use Rattle.std.specs.List.{AllByRecursion}
 use Rattle.deb_syntax.specs.Fields.{Field, IsShort, SpellsParagraph}
 

@@ -2,10 +2,9 @@
 -- limits are this project's own.
 use Rattle.std.specs.Prelude.{◌≡◌, ◌≢◌, ℕ, ◌+◌, ◌<◌, ◌≤◌, ◌⊎◌, Bool, true, false, List, [], ◌∷◌, ◌++◌, length, take, drop, slice_index, slice_range, Option, IsTrue}
 use Rattle.std.specs.Io.KnownBytes.{Consumes, IsAtEnd}
-use Rattle.deb_base.specs.Bodies.{newline, HasNoNewline, is_all_blank, is_blank, paragraph_limit}
+use Rattle.deb_base.specs.Bodies.{newline, HasNoNewline, is_all_blank, is_blank, paragraph_limit, file_limit}
 use Rattle.deb_base.specs.Reading.{piece_limit}
 use Rattle.deb_syntax.specs.Cursors.{CursorState, KeepsFirst}
-use Rattle.deb_syntax.specs.Lines.{file_limit}
 use Rattle.deb_syntax.specs.declared.line.Dropped.{Dropped}
 use Rattle.deb_syntax.specs.declared.line.NextLine.{NextLine}
 use Rattle.deb_syntax.specs.declared.line.NextLine.TheVariants.{Blank, Whole, Overlong, Cut, Ended}

@@ -3,7 +3,7 @@
 use Rattle.std.specs.Prelude.{◌≡◌, ℕ, ◌+◌, ◌≤◌, ◌⊎◌, Bool, true, false, List, [], ◌∷◌, ◌++◌, length, Option, Some, None, IfSome, IfNone, Result, Ok, Err, IfOk, IfErr, MatchResult, IsTrue, codes, refl}
 use Rattle.std.proofs.Common.{inl, inr, subst}
 use Rattle.std.proofs.lemmas.Bool.{false≢true}
-use Rattle.deb_base.specs.Bodies.{HasNoNewline, paragraph_limit}
+use Rattle.deb_base.specs.Bodies.{HasNoNewline, paragraph_limit, file_limit}
 use Rattle.deb_base.specs.Codes.{number_of}
 use Rattle.deb_base.specs.Devices.{Shown, read_failures_after}
 use Rattle.deb_base.specs.Faults.{IsReadersFault}
@@ -17,7 +17,7 @@ use Rattle.deb_syntax.specs.Answers.{Seen, paragraphs_within, next_answer, next_
 use Rattle.deb_syntax.specs.Cursors.{CursorState}
 use Rattle.deb_syntax.specs.Fields.{IsShort}
 use Rattle.deb_syntax.specs.Judging.{judged}
-use Rattle.deb_syntax.specs.Lines.{lines_of, IsClosed, Paragraph, paragraphs_of, file_limit}
+use Rattle.deb_syntax.specs.Lines.{lines_of, IsClosed, Paragraph, paragraphs_of}
 
 -- A reader of paragraphs: the bytes of its buffer that haven't passed, the buffer's length, how
 -- many bytes and lines have passed, how many bytes of the first line that hasn't passed aren't

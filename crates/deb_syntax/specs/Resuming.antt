@@ -1,7 +1,7 @@
 -- How a reader of paragraphs goes on after a paragraph with a refused line. Debian Policy
 -- 5.1; this project's own.
 use Rattle.std.specs.Prelude.{◌≡◌, ◌≢◌, ℕ, ◌+◌, ◌≤◌, Bool, true, false, List, [], ◌∷◌, ◌++◌, length, take, Option, Some, None, IfSome, Result, Ok, Err, codes, refl}
-use Rattle.deb_base.specs.Bodies.{Line, paragraph_limit, pieces_of}
+use Rattle.deb_base.specs.Bodies.{Line, paragraph_limit, pieces_of, file_limit}
 use Rattle.deb_base.specs.Faults.{IsReadersFault}
 use Rattle.deb_base.specs.Reading.{piece_limit}
 use Rattle.deb_base.specs.declared.fault.Fault.{Fault}
@@ -14,7 +14,7 @@ use Rattle.deb_syntax.specs.Extents.{AreBlank}
 use Rattle.deb_syntax.specs.Fields.{IsShort}
 use Rattle.deb_syntax.specs.Judged.{ShowsJudged}
 use Rattle.deb_syntax.specs.Judging.{judged}
-use Rattle.deb_syntax.specs.Lines.{Paragraph, IsClosed, file_limit, lines_of, paragraphs_of}
+use Rattle.deb_syntax.specs.Lines.{Paragraph, IsClosed, lines_of, paragraphs_of}
 use Rattle.deb_syntax.specs.Reading.{Answers, Fits, State, passed_count, state_from}
 use Rattle.deb_syntax.specs.declared.ending.Extent.{Extent}
 

@@ -6,11 +6,11 @@ use Rattle.std.specs.Str.{is_utf8, chars}
 use lib.Utf8.{encode}
 use Rattle.deb_base.specs.declared.code.Code.TheVariants.{ParagraphTooLong, FileTooLong, NoColon}
 use Rattle.deb_base.specs.declared.refusal.Refusal.{Refusal}
-use Rattle.deb_base.specs.Bodies.{Line, paragraph_limit}
+use Rattle.deb_base.specs.Bodies.{Line, paragraph_limit, file_limit}
 use Rattle.deb_syntax.specs.Answers.{Seen, is_line, line_beyond, line_too_long, next_answer, paragraphs_within_under, seen_from}
 use Rattle.deb_syntax.specs.Fields.{Field}
 use Rattle.deb_syntax.specs.Judging.{judged}
-use Rattle.deb_syntax.specs.Lines.{Paragraph, file_limit}
+use Rattle.deb_syntax.specs.Lines.{Paragraph}
 
 -- An item of a stream: the number of its first line, its lines, and the fields of a paragraph or
 -- the refusal of a run of lines.

@@ -1,6 +1,7 @@
 //! Finds the end of the next paragraph (Debian Policy 5.1).
 
 ghost use Rattle.std.specs.Prelude.{◌≡◌, ◌+◌, ℕ, List, [], take, IfOk, IfErr, IsTrue};
+ghost use Rattle.deb_base.specs.Bodies.{file_limit};
 ghost use Rattle.deb_base.specs.Devices.{read_failures_after};
 ghost use Rattle.deb_base.specs.Faults.{IsReadersFault};
 ghost use Rattle.deb_base.specs.Reading.{piece_limit};
@@ -8,7 +9,6 @@ ghost use Rattle.deb_syntax.specs.Ahead.{At, IsExtentOf, KeepsLine, SameCounts};
 ghost use Rattle.deb_syntax.specs.Cursors.{cursor_state, had, Takes};
 ghost use Rattle.deb_syntax.specs.Judged.{IsRefusalOfLength};
 ghost use Rattle.deb_syntax.specs.LineEnds.{piece_ends};
-ghost use Rattle.deb_syntax.specs.Lines.{file_limit};
 ghost use Rattle.deb_syntax.specs.Resuming.{IsExtentAhead};
 
 use crate::file_cursor::FileCursor;

@@ -1,14 +1,11 @@
 //! The unread bytes of a file that is read in pieces, up to the limit of a file.
 
+ghost use Rattle.deb_base.specs.Bodies.{file_limit};
 ghost use Rattle.std.specs.Prelude.{◌≡◌, ◌+◌, ◌<◌, ◌≤◌, ◌^◌, vec_len, length};
-ghost use Rattle.deb_syntax.specs.Lines.{file_limit};
 
 use crate::read_buffer::ReadBuffer;
-use deb_base::{Fault, PARAGRAPH_LIMIT, Source};
+use deb_base::{FILE_LIMIT, Fault, PARAGRAPH_LIMIT, Source};
 use std::alloc::Global;
-
-/// The most bytes that a file may have, and its canonical text (this project's own).
-pub const FILE_LIMIT: u64 = 4_294_967_295;
 
 /// How the unread bytes that may be looked at end.
 #[derive(Clone, Copy)]
@@ -111,7 +108,7 @@ impl FileCursor {
 
     /// The unread bytes that may be looked at, where `overlong_len` bytes of the file are among
     /// them that aren't kept.
-    #[tactic(auto, unfolding(crate::specs::Lines::file_limit))]
+    #[tactic(auto, unfolding(deb_base::specs::Bodies::file_limit))]
     pub(crate) fn visible(&self, overlong_len: u64) -> Visible<'_>
         requires { (cursor_state self.now).bytes + overlong_len ≤ file_limit }
         ensures { Sees (cursor_state self.now) overlong_len result }
@@ -153,7 +150,7 @@ impl FileCursor {
     }
 
     /// Passes the first `skip` unread bytes, which are so many bytes and lines of the file.
-    #[tactic(auto, unfolding(crate::specs::Lines::file_limit))]
+    #[tactic(auto, unfolding(deb_base::specs::Bodies::file_limit))]
     pub(crate) fn consume(&mut self, skip: usize, bytes: u64, lines: u64)
         requires skip { skip ≤ length (cursor_state self.old).unread }
         requires bytes { (cursor_state self.old).bytes + bytes ≤ file_limit }

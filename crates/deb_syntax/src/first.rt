@@ -1,13 +1,13 @@
 //! Finds the first line that isn't blank (Debian Policy 5.1).
 
 ghost use Rattle.std.specs.Prelude.{◌≡◌, ◌+◌, ◌≤◌, ℕ, List, [], IfErr, IsTrue};
+ghost use Rattle.deb_base.specs.Bodies.{file_limit};
 ghost use Rattle.deb_base.specs.Devices.{read_failures_after};
 ghost use Rattle.deb_base.specs.Faults.{IsReadersFault};
 ghost use Rattle.deb_base.specs.Reading.{piece_limit};
 ghost use Rattle.deb_syntax.specs.Ahead.{At, HasFirst, IsFirst};
 ghost use Rattle.deb_syntax.specs.Cursors.{cursor_state, had, Takes};
 ghost use Rattle.deb_syntax.specs.Judged.{IsRefusalOfLength};
-ghost use Rattle.deb_syntax.specs.Lines.{file_limit};
 ghost use Rattle.deb_syntax.specs.NextLines.{IsNear};
 
 use crate::file_cursor::FileCursor;

@@ -28,6 +28,5 @@ mod raw;
 mod read_buffer;
 mod seen_names;
 
-pub use file_cursor::FILE_LIMIT;
 pub use paragraphs::Paragraphs;
 pub use raw::{Fields, Raw, RawField};

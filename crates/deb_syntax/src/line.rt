@@ -2,11 +2,10 @@
 //! 5.1).
 
 ghost use Rattle.std.specs.Prelude.{◌≡◌, ◌+◌, ◌<◌, ◌≤◌, ◌^◌, ◌++◌, ℕ, List, length, drop, IfOk, IfErr, IfSome, IfNone, IsTrue};
-ghost use Rattle.deb_base.specs.Bodies.{HasNoNewline, is_blank};
+ghost use Rattle.deb_base.specs.Bodies.{HasNoNewline, is_blank, file_limit};
 ghost use Rattle.deb_base.specs.Devices.{read_failures_after};
 ghost use Rattle.deb_base.specs.Reading.{IsMemoryOrRead, piece_limit};
 ghost use Rattle.deb_syntax.specs.Cursors.{cursor_state, had, Takes};
-ghost use Rattle.deb_syntax.specs.Lines.{file_limit};
 ghost use Rattle.deb_syntax.specs.NextLines.{Describes, DropsLong, IsEndedLine, IsNear, IsNewline, IsNextLine, KeepsCounts};
 
 use crate::file_cursor::{End, FileCursor};

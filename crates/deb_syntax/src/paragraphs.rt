@@ -1,12 +1,12 @@
 //! The reader of paragraphs (Debian Policy 5.1; deb822(5)).
 
 ghost use Rattle.std.specs.Prelude.{◌≡◌, ◌+◌, ◌≤◌, ◌⊎◌, ℕ, List, [], Some, None, true, false, length, option_map, Option, IsTrue, IfErr, IfOk, IfSome, OnOk};
+ghost use Rattle.deb_base.specs.Bodies.{file_limit};
 ghost use Rattle.deb_base.specs.Reading.{piece_limit};
 ghost use Rattle.deb_syntax.specs.Ahead.{At, KeepsLine, passed_of};
 ghost use Rattle.deb_syntax.specs.NextLines.{IsNear};
 ghost use Rattle.deb_syntax.specs.Cursors.{cursor_state, buffer_of, had, Takes};
 ghost use Rattle.deb_syntax.specs.Judged.{lines_standing, IsRefusalOfLength, JudgesFields, JudgesLines};
-ghost use Rattle.deb_syntax.specs.Lines.{file_limit};
 ghost use Rattle.deb_syntax.specs.Resuming.{AnswersFault, HasPassed, TellsNext, is_resumable};
 ghost use Rattle.deb_syntax.specs.CurrentParagraphs.{HidesLong, stands_within};
 ghost use Rattle.deb_base.specs.Devices.{read_failures_after};
@@ -15,11 +15,11 @@ ghost use Rattle.deb_syntax.specs.Reading.{IsRefusalOfText, state_from};
 
 use crate::ending::paragraph_extent;
 use crate::field_span::FieldSpan;
-use crate::file_cursor::{FILE_LIMIT, FileCursor};
+use crate::file_cursor::FileCursor;
 use crate::first::{FirstLine, first_line};
 use crate::judge::judge;
 use crate::raw::Raw;
-use deb_base::{Code, Fault, Refusal, Source};
+use deb_base::{Code, FILE_LIMIT, Fault, Refusal, Source};
 use std::alloc::Global;
 
 /// Where a paragraph's bytes begin and end in the buffer, and the number of its first line.

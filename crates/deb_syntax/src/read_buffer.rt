@@ -10,6 +10,9 @@ use std::alloc::Global;
 /// The most bytes that the buffer has: those of a paragraph, and one piece.
 const MOST_HELD: usize = PARAGRAPH_LIMIT + PIECE_LIMIT;
 
+/// The bytes that it has first, which are cleared: most files that are no index are shorter.
+const FIRST_HELD: usize = 8_192;
+
 /// The part of a file that is in memory. `buffer[start..filled]` are its unread bytes. Those before
 /// them have passed; after them is room: bytes of no meaning, which are written once, when the
 /// buffer grows, and are never cleared again.
@@ -148,7 +151,7 @@ impl ReadBuffer {
         self.filled = filled - start;
     }
 
-    /// Doubles the buffer, to at least two pieces and at most what it may have.
+    /// Makes the first buffer, or doubles it, to at least two pieces and at most what it may have.
     fn grow(&mut self) -> Result<(), Fault>
         requires { vec_len self.old.buffer < MOST_HELD }
         ensures unread { unread_of self.new ≡ unread_of self.old }
@@ -156,8 +159,10 @@ impl ReadBuffer {
         ensures filled { self.new.filled ≡ self.old.filled }
         ensures fault { IfErr result (λ fault. fault ≡ Fault.Memory) }
     {
-        let held = self.buffer.len();
-        let wanted = (2 * held).max(2 * PIECE_LIMIT).min(MOST_HELD);
+        let wanted = match self.buffer.len() {
+            0 => FIRST_HELD,
+            held => (2 * held).max(2 * PIECE_LIMIT).min(MOST_HELD),
+        };
         if grown(&mut self.buffer, wanted) {
             Ok(())
         } else {

@@ -7,7 +7,6 @@ use Rattle.deb_base.specs.declared.fault.Fault.{Fault}
 use Rattle.deb_base.specs.declared.fault.Fault.TheVariants.{Refused, Memory, Read, Write}
 use Rattle.deb_base.proofs.Writes.{AppendsFront-then}
 use Rattle.deb_syntax.specs.Answers.{Seen, next_answer}
-use Rattle.deb_syntax.specs.Fields.{Field}
 use Rattle.deb_field.specs.Values.{ValueMeaning}
 use Rattle.deb_control.specs.Calls.{IfCutOff, IfRefused, IfWriteFailed}
 use Rattle.deb_control.specs.Documents.{Meaning}
@@ -20,8 +19,9 @@ use Rattle.deb_control.proofs.GivenValues.{accepted-given, pairwise-length, pair
 use Rattle.deb_control.proofs.ShownSoFar.{ShownAll, ShownFront, ShownRefused}
 use Rattle.deb_unmet.specs.Asked.{doc_of}
 use Rattle.deb_unmet.specs.Asking.{PutsLines}
+use Rattle.deb_unmet.specs.Fields.{paragraph_lines}
 use Rattle.deb_unmet.specs.Files.{Asks, WritesFront, WritesLines, WritesRead, WritesRefused, WritesSome, WritesUnmet, is_nothing, lines_from, lines_of}
-use Rattle.deb_unmet.specs.Spelled.{fields_of_seen}
+use Rattle.deb_unmet.specs.Spelled.{fields_of_seen, version_word}
 use Rattle.deb_unmet.specs.declared.asking.Summary.{Summary}
 
 -- the lines of paragraphs that were given after so many
@@ -74,27 +74,27 @@ module _ {asks : Asks} {old held : Option (List ℕ)} {empty : Bool} {given : Li
   }
 
   -- one paragraph more
-  module _ (seen : Seen) (values : ValueEntries ValueMeaning) (are : AreValuesOf (doc_of asks.asked) seen values) (fields : List Field) (same : fields ≡ seen.fields) (count : ℕ) (counted : length given ≡ count) where
+  module _ (seen : Seen) (values : ValueEntries ValueMeaning) (are : AreValuesOf (doc_of asks.asked) seen values) (count : ℕ) (counted : length given ≡ count) where
     from_start : 0 + length given ≡ count
     from_start = omega (arith, counted)
 
-    more_is : lines_given asks 0 (given ++ seen ∷ []) (has.values ++ values ∷ []) ≡ lines_given asks 0 given has.values ++ lines_of asks (count + 1) fields values
-    more_is = lines_given-push asks 0 given has.values seen values same_length ∙ ap (λ k. lines_given asks 0 given has.values ++ lines_of asks (k + 1) seen.fields values) from_start ∙ ap (λ f. lines_given asks 0 given has.values ++ lines_of asks (count + 1) f values) (sym same)
+    more_is : lines_given asks 0 (given ++ seen ∷ []) (has.values ++ values ∷ []) ≡ lines_given asks 0 given has.values ++ lines_of asks (count + 1) seen.fields values
+    more_is = lines_given-push asks 0 given has.values seen values same_length ∙ ap (λ k. lines_given asks 0 given has.values ++ lines_of asks (k + 1) seen.fields values) from_start
 
     more_are : Pairwise (AreValuesOf (doc_of asks.asked)) (given ++ seen ∷ []) (has.values ++ values ∷ [])
     more_are = pairwise-push (AreValuesOf (doc_of asks.asked)) given has.values seen values has.are are
 
-    pub one_asked : (writes : Option (List ℕ)) (one all : Bool) → PutsLines asks (count + 1) fields values (Ok one) held writes → all ≡ (empty && one) → HasAsked asks old writes all (given ++ seen ∷ [])
+    pub one_asked : (writes : Option (List ℕ)) (one all : Bool) → PutsLines (lines_of asks (count + 1) seen.fields values) (Ok one) held writes → all ≡ (empty && one) → HasAsked asks old writes all (given ++ seen ∷ [])
     one_asked writes one all puts all_is = record {
       values = has.values ++ values ∷ [];
       are = more_are;
       written = subst (Appends old writes) (sym more_is) (Appends-trans old held writes _ _ has.written puts.0);
       is_empty = all_is ∙ ap (λ b. b && one) has.is_empty ∙ ap (λ b. is_nothing (lines_given asks 0 given has.values) && b) puts.1
-          ∙ sym (nothing-both (lines_given asks 0 given has.values) (lines_of asks (count + 1) fields values)) ∙ ap is_nothing (sym more_is);
+          ∙ sym (nothing-both (lines_given asks 0 given has.values) (lines_of asks (count + 1) seen.fields values)) ∙ ap is_nothing (sym more_is);
     }
 
     -- or a front of its lines
-    asked_front : {text : List ℕ} (writes : Option (List ℕ)) → AppendsFront held writes (lines_of asks (count + 1) fields values) → AreNext text 0 (given ++ seen ∷ []) → WritesFront asks text (map (bodies_seen (doc_of asks.asked)) (given ++ seen ∷ [])) old writes
+    asked_front : {text : List ℕ} (writes : Option (List ℕ)) → AppendsFront held writes (lines_of asks (count + 1) seen.fields values) → AreNext text 0 (given ++ seen ∷ []) → WritesFront asks text (map (bodies_seen (doc_of asks.asked)) (given ++ seen ∷ [])) old writes
     asked_front {text} writes put next = record {
       values = has.values ++ values ∷ [];
       are = spelled-given (doc_of asks.asked) (given ++ seen ∷ []) (has.values ++ values ∷ []) more_are;
@@ -102,15 +102,15 @@ module _ {asks : Asks} {old held : Option (List ℕ)} {empty : Bool} {given : Li
           (AppendsFront-then old held writes _ _ has.written put);
     }
 
-    pub failed_after : (text : List ℕ) (writes : Option (List ℕ)) (fault : Fault) → PutsLines asks (count + 1) fields values (Err fault) held writes → ShownFront (doc_of asks.asked) text (given ++ seen ∷ []) → IfWriteFailed {T = Summary} (Err fault) (WritesSome asks text old writes)
-    failed_after text writes (Refused refusal) puts shown = tt
-    failed_after text writes Memory puts shown = tt
-    failed_after text writes Read puts shown = tt
-    failed_after text writes Write puts shown = record {
+    pub failed_after : (text : List ℕ) (writes : Option (List ℕ)) (version : List ℕ) (fault : Fault) → version ≡ version_word asks.versions seen.fields values → PutsLines (paragraph_lines asks.asked asks.environment asks.packages (count + 1) version values) (Err fault) held writes → ShownFront (doc_of asks.asked) text (given ++ seen ∷ []) → IfWriteFailed {T = Summary} (Err fault) (WritesSome asks text old writes)
+    failed_after text writes version (Refused refusal) is puts shown = tt
+    failed_after text writes version Memory is puts shown = tt
+    failed_after text writes version Read is puts shown = tt
+    failed_after text writes version Write is puts shown = record {
       first = map (bodies_seen (doc_of asks.asked)) (given ++ seen ∷ []);
       more = shown.more;
       passed = shown.passed;
-      lines = asked_front writes puts shown.next;
+      lines = asked_front writes (subst (λ v. AppendsFront held writes (paragraph_lines asks.asked asks.environment asks.packages (count + 1) v values)) is puts) shown.next;
     }
 
   -- there is no further paragraph
@@ -145,8 +145,8 @@ module _ {asks : Asks} {old held : Option (List ℕ)} {empty : Bool} {given : Li
   }
 
 -- out of memory before anything of its lines was written
-pub cut_after : (asks : Asks) (text : List ℕ) (old held writes : Option (List ℕ)) (number : ℕ) (fields : List Field) (values : ValueEntries ValueMeaning) (fault : Fault) → PutsLines asks number fields values (Err fault) held writes → WritesRead asks text old held → IfCutOff {T = Summary} (Err fault) (WritesRead asks text old writes)
-cut_after asks text old held writes number fields values (Refused refusal) puts read = tt
-cut_after asks text old held writes number fields values Memory puts read = subst (WritesRead asks text old) puts read
-cut_after asks text old held writes number fields values Read puts read = absurd puts
-cut_after asks text old held writes number fields values Write puts read = tt
+pub cut_after : (asks : Asks) (text lines : List ℕ) (old held writes : Option (List ℕ)) (fault : Fault) → PutsLines lines (Err fault) held writes → WritesRead asks text old held → IfCutOff {T = Summary} (Err fault) (WritesRead asks text old writes)
+cut_after asks text lines old held writes (Refused refusal) puts read = tt
+cut_after asks text lines old held writes Memory puts read = subst (WritesRead asks text old) puts read
+cut_after asks text lines old held writes Read puts read = absurd puts
+cut_after asks text lines old held writes Write puts read = tt

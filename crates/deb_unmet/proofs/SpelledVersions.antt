@@ -4,7 +4,7 @@ use Rattle.std.proofs.lemmas.Bool.{false≢true}
 use Rattle.std.specs.FinMap.{find}
 use Rattle.std.specs.List.{AllByRecursion}
 use Rattle.std.specs.Str.{bytes_eq}
-use Rattle.deb_base.specs.Bodies.{paragraph_limit}
+use Rattle.deb_base.specs.Bodies.{paragraph_limit, file_limit}
 use Rattle.deb_base.specs.Kinds.{kind_at, kind_of, known_row, required}
 use Rattle.deb_base.specs.Names.{canonical_name, folded}
 use Rattle.deb_base.specs.declared.kind.Kind.TheVariants.{Version}
@@ -13,7 +13,7 @@ use Rattle.deb_syntax.specs.Answers.{answer_of_first, next_answer, paragraph_ans
 use Rattle.deb_syntax.specs.Fields.{AreDistinct, Field, IsShort}
 use Rattle.deb_syntax.specs.Judging.{judged}
 use Rattle.deb_syntax.specs.Laws.{IsRun, body_of}
-use Rattle.deb_syntax.specs.Lines.{Paragraph, file_limit, paragraphs_of}
+use Rattle.deb_syntax.specs.Lines.{Paragraph, paragraphs_of}
 use Rattle.deb_syntax.specs.Meaning.{Entries, HaveMeanings, byte_order, entries_of}
 use Rattle.deb_syntax.specs.Raw.{field_named}
 use Rattle.deb_syntax.proofs.JudgingLaws.{judged-complete}
@@ -41,7 +41,8 @@ use Rattle.deb_index.specs.Listed.{Listed}
 use Rattle.deb_relation.specs.Applying.{Environment}
 use Rattle.deb_unmet.specs.Asked.{doc_of, request_for}
 use Rattle.deb_unmet.specs.Asking.{asks_of}
-use Rattle.deb_unmet.specs.Fields.{paragraph_lines, word_in, word_of, word_under}
+use Rattle.deb_control.specs.FieldWords.{word_in, word_of, word_under}
+use Rattle.deb_unmet.specs.Fields.{paragraph_lines}
 use Rattle.deb_unmet.specs.Files.{Asks, lines_from, lines_of}
 use Rattle.deb_unmet.specs.Laws.{SpelledVersionsAreEqual, lines_with}
 use Rattle.deb_unmet.specs.Spelled.{fields_after, fields_of_seen, spelled_in, text_in, version_word}

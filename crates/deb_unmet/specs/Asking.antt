@@ -6,20 +6,16 @@ use Rattle.deb_base.specs.Devices.{AppendsFront}
 use Rattle.deb_base.specs.declared.fault.Fault.{Fault}
 use Rattle.deb_base.specs.declared.fault.Fault.TheVariants.{Refused, Memory, Read, Write}
 use Rattle.deb_base.specs.declared.version_text.VersionText.TheVariants.{Canonical}
-use Rattle.deb_syntax.specs.Fields.{Field}
 use Rattle.deb_relation.specs.Applying.{Environment}
-use Rattle.deb_relation.specs.Environments.{environment_of, environment_with}
+use Rattle.deb_relation.specs.Environments.{environment_with}
 use Rattle.deb_relation.specs.Texts.{group_text}
-use Rattle.deb_field.specs.Values.{ValueMeaning, NameMeans, RelationMeans}
-use Rattle.deb_control.specs.ValueFiles.{ValueEntries}
+use Rattle.deb_field.specs.Values.{NameMeans, RelationMeans}
 use Rattle.deb_index.specs.Alternatives.{alone}
-use Rattle.deb_index.specs.Indexes.{packages_of}
 use Rattle.deb_index.specs.Listed.{Listed}
 use Rattle.deb_unmet.specs.Asked.{request_for}
 use Rattle.deb_unmet.specs.Files.{Asks, is_nothing, lines_of}
 use Rattle.deb_unmet.specs.declared.asked.Request.{Request}
 use Rattle.deb_unmet.specs.declared.asked.Asked.TheVariants.{Sources}
-use Rattle.deb_unmet.specs.declared.group.Question.{Question}
 
 abbrev pub asks_of : Request → Environment → List Listed → Asks
 asks_of request environment packages =
@@ -30,22 +26,14 @@ asks_of request environment packages =
       packages = packages;
     }
 
-abbrev pub asks_with : Request → Question → Asks
-asks_with request question =
-    asks_of request (environment_of question.environment.now) (packages_of question.index.now)
-
--- Ok: they were written, and it says whether there is none. Out of memory: nothing was. A failed
--- write: a front was.
-abbrev pub PutsLines : Asks → ℕ → List Field → ValueEntries ValueMeaning → Result Bool Fault
-    → Option (List ℕ) → Option (List ℕ) → Type 0
-PutsLines asks number fields values (Ok is_empty) old new =
-    Appends old new (lines_of asks number fields values)
-    × (is_empty ≡ is_nothing (lines_of asks number fields values))
-PutsLines asks number fields values (Err (Refused refusal)) old new = ⊥
-PutsLines asks number fields values (Err Memory) old new = old ≡ new
-PutsLines asks number fields values (Err Read) old new = ⊥
-PutsLines asks number fields values (Err Write) old new =
-    AppendsFront old new (lines_of asks number fields values)
+-- Ok: these lines were written, and it says whether there is none. Out of memory: nothing was. A
+-- failed write: a front was.
+abbrev pub PutsLines : List ℕ → Result Bool Fault → Option (List ℕ) → Option (List ℕ) → Type 0
+PutsLines lines (Ok is_empty) old new = Appends old new lines × (is_empty ≡ is_nothing lines)
+PutsLines lines (Err (Refused refusal)) old new = ⊥
+PutsLines lines (Err Memory) old new = old ≡ new
+PutsLines lines (Err Read) old new = ⊥
+PutsLines lines (Err Write) old new = AppendsFront old new lines
 
 -- out of memory or a failed write
 abbrev pub IsWritersFault : {T : Type 0} → Result T Fault → Type 0
@@ -55,17 +43,7 @@ IsWritersFault (Err Memory) = Unit {0}
 IsWritersFault (Err Read) = ⊥
 IsWritersFault (Err Write) = Unit {0}
 
--- what is asked of a question, and the lines of a paragraph without a package's version
-asked_of_question : (question : Question)
-    → asks_with (request_for Sources Canonical) question
-    ≡ record {
-      asked = Sources;
-      versions = Canonical;
-      environment = environment_of question.environment.now;
-      packages = packages_of question.index.now;
-    }
-asked_of_question question = refl
-
+-- the lines of a paragraph without a package's version
 worked-lines : lines_of
     (asks_of (request_for Sources Canonical) (environment_with (codes "amd64") []) []) 3 []
     ((codes "Build-Depends", RelationMeans ((alone (codes "aa") ∷ []) ∷ []))

@@ -1,19 +1,15 @@
 -- The lines of one paragraph, by its values. Debian Policy 5.6, 7.2 and 7.7; the form of the lines
 -- is this project's own.
 use Rattle.std.specs.Prelude.{◌≡◌, ℕ, false, cond, ◌&&◌, List, [], ◌∷◌, ◌++◌, map, Option, Some, None, codes, refl}
-use Rattle.std.specs.FinMap.{find}
 use Rattle.std.specs.Fmt.{decimal, digits}
 use Rattle.std.specs.List.{concat, flat_map}
-use Rattle.deb_base.specs.Names.{canonical_name}
-use Rattle.deb_syntax.specs.Meaning.{byte_order}
-use Rattle.deb_version.specs.Canonical.{version_text}
 use Rattle.deb_version.specs.Places.{version_in}
 use Rattle.deb_relation.specs.Applying.{Environment}
 use Rattle.deb_relation.specs.Environments.{environment_with}
-use Rattle.deb_relation.specs.Meaning.{Relation}
 use Rattle.deb_relation.specs.Targets.{is_target}
 use Rattle.deb_relation.specs.Texts.{group_text}
-use Rattle.deb_field.specs.Values.{ValueMeaning, NameMeans, SourceMeans, VersionMeans, ArchitectureMeans, ArchitecturesMean, FlagMeans, MultiArchMeans, NumberMeans, LineMeans, FoldedMeans, RelationMeans, TextMeans}
+use Rattle.deb_field.specs.Values.{ValueMeaning, NameMeans, SourceMeans, VersionMeans, ArchitectureMeans, ArchitecturesMean, RelationMeans}
+use Rattle.deb_control.specs.FieldWords.{groups_of, value_under, word_under}
 use Rattle.deb_control.specs.ValueFiles.{ValueEntries}
 use Rattle.deb_index.specs.Alternatives.{alone, with_list}
 use Rattle.deb_index.specs.Listed.{Listed}
@@ -22,51 +18,6 @@ use Rattle.deb_unmet.specs.Troubles.{group_lines}
 use Rattle.deb_unmet.specs.declared.asked.Asked.{Asked}
 use Rattle.deb_unmet.specs.declared.asked.Asked.TheVariants.{Packages, Sources, Source}
 use Rattle.deb_unmet.specs.declared.asked.Strength.TheVariants.{Depends, Recommends}
-
--- the value of the field with a name, without ASCII case
-abbrev pub value_under : List ℕ → ValueEntries ValueMeaning → Option ValueMeaning
-value_under name values = find byte_order (canonical_name name) values
-
--- the groups of a relationship field; none if there is no field
-abbrev pub groups_in : ValueMeaning → Relation
-groups_in (NameMeans x) = []
-groups_in (SourceMeans x) = []
-groups_in (VersionMeans x) = []
-groups_in (ArchitectureMeans x) = []
-groups_in (ArchitecturesMean x) = []
-groups_in (FlagMeans x) = []
-groups_in (MultiArchMeans x) = []
-groups_in (NumberMeans x) = []
-groups_in (LineMeans x) = []
-groups_in (FoldedMeans x) = []
-groups_in (RelationMeans groups) = groups
-groups_in (TextMeans x) = []
-
-abbrev pub groups_of : Option ValueMeaning → Relation
-groups_of None = []
-groups_of (Some value) = groups_in value
-
--- a name, of a source package too, a version or an architecture, as a line has it
-abbrev pub word_in : ValueMeaning → List ℕ
-word_in (NameMeans name) = name
-word_in (SourceMeans source) = source.name
-word_in (VersionMeans version) = version_text version
-word_in (ArchitectureMeans name) = name
-word_in (ArchitecturesMean x) = []
-word_in (FlagMeans x) = []
-word_in (MultiArchMeans x) = []
-word_in (NumberMeans x) = []
-word_in (LineMeans x) = []
-word_in (FoldedMeans x) = []
-word_in (RelationMeans x) = []
-word_in (TextMeans x) = []
-
-abbrev pub word_of : Option ValueMeaning → List ℕ
-word_of None = []
-word_of (Some value) = word_in value
-
-abbrev pub word_under : List ℕ → ValueEntries ValueMeaning → List ℕ
-word_under name values = word_of (value_under name values)
 
 -- the architecture of a binary package, and `source` for a source package
 abbrev pub architecture_of : Asked → ValueEntries ValueMeaning → List ℕ
@@ -200,15 +151,6 @@ worked-source : paragraph_lines Source environment packages 1 (codes "2") source
 unfolding group_text digits
 worked-source = refl
 
--- a name is looked up without case; fields that aren't there have no line and no word
-worked-values : (value_under (codes "pACKAGE") source ≡ Some (NameMeans (codes "xx")))
-    × (groups_of (value_under (codes "Pre-Depends") source) ≡ [])
-    × (word_under (codes "Priority") source ≡ [])
-    × (paragraph_lines Sources environment packages 1 [] [] ≡ [])
-worked-values = (refl, refl, refl, refl)
-
--- the name of a source package with a version, as in `Source: ss (2)`: the name alone
-worked-source_name : word_in
-    (SourceMeans (record { name = codes "ss"; version = Some (version_in (codes "2")) }))
-    ≡ codes "ss"
-worked-source_name = refl
+-- fields that aren't there have no line
+worked-none : paragraph_lines Sources environment packages 1 [] [] ≡ []
+worked-none = refl

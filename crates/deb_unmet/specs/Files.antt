@@ -4,13 +4,13 @@ use Rattle.std.specs.Fmt.{digits}
 use Rattle.std.specs.Str.{is_utf8, chars}
 use lib.Utf8.{encode}
 use Rattle.std.specs.Io.KnownBytes.{Appends}
-use Rattle.deb_base.specs.Bodies.{paragraph_limit}
+use Rattle.deb_base.specs.Bodies.{paragraph_limit, file_limit}
 use Rattle.deb_base.specs.Devices.{AppendsFront}
 use Rattle.deb_base.specs.declared.refusal.Refusal.{Refusal}
 use Rattle.deb_base.specs.declared.version_text.VersionText.{VersionText}
 use Rattle.deb_base.specs.declared.version_text.VersionText.TheVariants.{Canonical, Spelled}
 use Rattle.deb_syntax.specs.Fields.{Field}
-use Rattle.deb_syntax.specs.Lines.{IsClosed, file_limit}
+use Rattle.deb_syntax.specs.Lines.{IsClosed}
 use Rattle.deb_syntax.specs.Meaning.{Entries}
 use Rattle.deb_syntax.specs.Reading.{passed_count}
 use Rattle.deb_relation.specs.Applying.{Environment}

@@ -1,24 +1,28 @@
 //! Writes the lines of a file.
 
 ghost use Rattle.std.specs.Prelude.{◌≡◌, ℕ, List, Some, IfOk};
+ghost use Rattle.std.specs.Option.{option_map};
+ghost use Rattle.deb_base.specs.Bodies.{file_limit};
 ghost use Rattle.deb_base.specs.Devices.{read_failures_after, write_failures_after, ReadFaultIffFailed, WriteFaultIffFailed};
 ghost use Rattle.deb_base.specs.Reading.{TakesNoMore};
-ghost use Rattle.deb_syntax.specs.Lines.{file_limit};
 ghost use Rattle.deb_control.specs.Calls.{IfRefused, IfCutOff, IfWriteFailed};
 ghost use Rattle.deb_control.specs.Checking.{IsRefusalOfDocument};
+ghost use Rattle.deb_control.specs.FieldTexts.{HasTexts};
 ghost use Rattle.deb_control.specs.ValueFiles.{ValueEntries};
 ghost use Rattle.deb_field.specs.Values.{ValueMeaning};
 ghost use Rattle.deb_relation.specs.Environments.{environment_of};
 ghost use Rattle.deb_index.specs.Indexes.{packages_of};
-ghost use Rattle.deb_unmet.specs.Asking.{IsWritersFault, PutsLines, asks_of, asks_with};
+ghost use Rattle.deb_unmet.specs.Asking.{IsWritersFault, PutsLines, asks_of};
+ghost use Rattle.deb_unmet.specs.Fields.{paragraph_lines};
 ghost use Rattle.deb_unmet.specs.Files.{WritesRead, WritesRefused, WritesSome, WritesUnmet};
-ghost use Rattle.deb_unmet.specs.Paragraphs.{HasValues, fields_in};
+ghost use Rattle.deb_unmet.specs.Paragraphs.{fields_in, spelled_for, version_in};
 
 use crate::asked::Request;
 use crate::group::Question;
-use crate::paragraph::append_paragraph;
-use deb_base::{Fault, Sink, Source, put_all};
-use deb_control::{Checked, CheckedView, NoVisitor};
+use crate::lines::append_lines;
+use crate::paragraph::Paragraph;
+use deb_base::{Fault, Sink, Source, VersionText, put_all};
+use deb_control::{Checked, CheckedView, FieldTexts};
 use deb_index::Index;
 use deb_relation::Env;
 use std::alloc::Global;
@@ -94,22 +98,43 @@ pub fn unmet<R: Source, W: Sink>(
 {
     let question = Question { index, environment };
     let mut checked = Checked::new(alloc, request.asked.doc());
+    let mut texts = FieldTexts::new(alloc);
     let mut is_empty = true;
     for count in 0..u64::MAX {
-        if !checked.advance(&mut NoVisitor, reader)? {
+        if !checked.advance(&mut texts, reader)? {
             return Ok(Summary {
                 paragraphs: count,
                 is_empty,
             });
         }
-        let Some(paragraph) = checked.current() else {
+        let Some(view) = checked.current() else {
             unreachable!()
         };
-        let is_met = write_paragraph(alloc, &question, request, count + 1, &paragraph, writer)?;
+        let paragraph = Paragraph {
+            asked: request.asked,
+            number: count + 1,
+            spelled: spelled_for(request.versions, &view),
+            texts: &texts,
+        };
+        let is_met = write_paragraph(alloc, &question, &paragraph, writer)?;
         is_empty = is_empty && is_met;
     }
     // No file has so many paragraphs.
     unreachable!()
+}
+
+/// Returns the text by which the file spells the version of a paragraph, if its lines have that.
+fn spelled_for<'a>(versions: VersionText, paragraph: &CheckedView<'a>) -> Option<&'a [u8]>
+    ensures { option_map (λ text. text.now) result
+        ≡ spelled_for versions (fields_in paragraph.now) }
+{
+    match versions {
+        VersionText::Canonical => None,
+        VersionText::Spelled => match paragraph.get(b"Version") {
+            Some(field) => Some(field.body),
+            None => Some(b""),
+        },
+    }
 }
 
 /// Writes the lines of a paragraph, and returns whether there is none.
@@ -120,20 +145,20 @@ pub fn unmet<R: Source, W: Sink>(
 fn write_paragraph<W: Sink>(
     alloc: Global,
     question: &Question<'_>,
-    request: Request,
-    number: u64,
-    paragraph: &CheckedView<'_>,
+    paragraph: &Paragraph<'_>,
     writer: &mut W,
 ) -> Result<bool, Fault>
-    ensures puts { (values : ValueEntries ValueMeaning) → HasValues paragraph.now values
-        → PutsLines (asks_with request question.now) number (fields_in paragraph.now) values
-        result (W.held writer.old) (W.held writer.new) }
+    ensures puts { (values : ValueEntries ValueMeaning) → HasTexts paragraph.now.texts.now values
+        → PutsLines (paragraph_lines paragraph.now.asked
+        (environment_of question.now.environment.now) (packages_of question.now.index.now)
+        paragraph.now.number (version_in paragraph.now) values) result (W.held writer.old)
+        (W.held writer.new) }
     ensures counts_failure { W.failures writer.new ≡ write_failures_after
         (W.failures writer.old) result }
     ensures fault { IsWritersFault result }
 {
     let mut lines = Vec::new(alloc);
-    append_paragraph(alloc, &mut lines, question, request, number, paragraph)?;
+    append_lines(alloc, &mut lines, question, paragraph)?;
     put_all(writer, &lines)?;
     Ok(lines.is_empty())
 }

@@ -8,11 +8,13 @@ ghost use Rattle.deb_relation.specs.Relations.{relation_of};
 ghost use Rattle.deb_relation.specs.Views.{alternative_of};
 ghost use Rattle.deb_index.specs.CanonicalTexts.{OfGroup, OfRelation};
 ghost use Rattle.deb_index.specs.Indexes.{packages_of};
+ghost use Rattle.deb_unmet.specs.Paragraphs.{heading_in};
 ghost use Rattle.deb_unmet.specs.Readings.{applies_by, may};
 ghost use Rattle.deb_unmet.specs.SoFar.{trouble_by, unless_met, with_alternative};
 ghost use Rattle.deb_unmet.specs.Troubles.{group_lines, is_met, trouble, trouble_line, trouble_word};
 
 use crate::applying::{Applies, applies_by};
+use crate::paragraph::Paragraph;
 use crate::trouble::Trouble;
 use deb_index::{Index, cut_group, next_alternative, only_alternative};
 use deb_relation::{Alternative, Env, Relation};
@@ -25,24 +27,24 @@ pub(crate) struct Question<'a> {
     pub(crate) environment: &'a Env,
 }
 
-/// Appends the line of each group that has one, of the relation with a canonical text, after a
-/// heading and the name of the field.
+/// Appends the line of each group that has one, of the relation with a canonical text in a field of
+/// a paragraph.
 pub(crate) fn append_groups(
     alloc: Global,
     out: &mut Vec<u8>,
     question: &Question<'_>,
-    heading: &[u8],
+    paragraph: &Paragraph<'_>,
     field: &[u8],
     text: &[u8],
 ) -> Result<(), AllocError>
     ensures { OfRelation text.now (λ m. OnOk result (out.new.items ≡ out.old.items ++ flat_map
         (group_lines (environment_of question.now.environment.now)
-        (packages_of question.now.index.now) heading.now field.now) m)) }
+        (packages_of question.now.index.now) (heading_in paragraph.now) field.now) m)) }
 {
     let mut rest = text;
     while !rest.is_empty() {
         let (group, others) = cut_group(rest);
-        append_group(alloc, out, question, heading, field, group)?;
+        append_group(alloc, out, question, paragraph, field, group)?;
         rest = others;
     }
     Ok(())
@@ -53,32 +55,32 @@ fn append_group(
     alloc: Global,
     out: &mut Vec<u8>,
     question: &Question<'_>,
-    heading: &[u8],
+    paragraph: &Paragraph<'_>,
     field: &[u8],
     group: &[u8],
 ) -> Result<(), AllocError>
     ensures { OfGroup group.now (λ g. OnOk result (out.new.items ≡ out.old.items ++ group_lines
         (environment_of question.now.environment.now) (packages_of question.now.index.now)
-        heading.now field.now g)) }
+        (heading_in paragraph.now) field.now g)) }
 {
     let why = trouble_of(alloc, question, group)?;
-    append_line(out, why, heading, field, group)
+    append_line(out, why, paragraph, field, group)
 }
 
 /// Appends the line of the group with this text, if there is a reason for one.
 fn append_line(
     out: &mut Vec<u8>,
     why: Option<Trouble>,
-    heading: &[u8],
+    paragraph: &Paragraph<'_>,
     field: &[u8],
     group: &[u8],
 ) -> Result<(), AllocError>
     ensures { OnOk result (out.new.items
-        ≡ out.old.items ++ trouble_line why heading.now field.now group.now) }
+        ≡ out.old.items ++ trouble_line why (heading_in paragraph.now) field.now group.now) }
 {
     if let Some(why) = why {
         out.extend_from_slice(word_of(why))?;
-        out.extend_from_slice(heading)?;
+        paragraph.append_heading(out)?;
         out.extend_from_slice(field)?;
         out.push(b' ')?;
         out.extend_from_slice(group)?;

@@ -17,6 +17,7 @@ mod asked;
 mod asking;
 mod group;
 pub mod laws;
+mod lines;
 mod paragraph;
 mod trouble;
 

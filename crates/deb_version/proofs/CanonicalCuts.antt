@@ -42,13 +42,6 @@ pub joined_after : (after : List ℕ) → joined (cuts_after after) ≡ after
 joined_after [] = refl
 joined_after (b ∷ after) = joined-cuts_of (b ∷ after)
 
-pub rest_text-none : (after : List ℕ) → (length after == 0) ≡ true → rest_text after ≡ after
-rest_text-none after e = let none = nil_of_length after e in ap rest_text none ∙ sym none
-
-pub rest_text-some : (after : List ℕ) → (length after == 0) ≡ false → component_text (parts_of after) ≡ after → rest_text after ≡ after
-rest_text-some [] e itself = refl
-rest_text-some (b ∷ after) e itself = itself
-
 -- A component is its own canonical text where the number of its first cut is spelled so, and the rest is too.
 pub component_text-itself : (bytes after : List ℕ) (cut : Cut) → cuts_of bytes ≡ cut ∷ cuts_after after
     → number_text cut (length after == 0) ≡ cut.1 → rest_text after ≡ after → component_text (parts_of bytes) ≡ bytes

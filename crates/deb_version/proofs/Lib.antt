@@ -13,7 +13,6 @@ pub mod KeptVersions
 pub mod FirstPlace
 pub mod Runs
 pub mod FirstCut
-pub mod FrontCut
 pub mod NumberOrder
 pub mod Emptiness
 pub mod Choices
@@ -21,6 +20,7 @@ pub mod LeadingZeros
 pub mod CanonicalDigits
 pub mod CanonicalComponent
 pub mod VersionBytes
+pub mod CanonicalStates
 pub mod CanonicalTexts
 pub mod CanonicalCuts
 pub mod CanonicalWritten

@@ -7,6 +7,7 @@ pub mod Lent
 pub mod GrammarLaws
 pub mod PlaceLaws
 pub mod OrderLaws
+pub mod States
 pub mod Version
 pub mod Pieces
 pub mod Kept

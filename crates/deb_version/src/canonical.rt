@@ -1,15 +1,15 @@
 //! Writes the canonical text of a version, and computes its length.
 
-ghost use Rattle.std.specs.Prelude.{◌≡◌, ◌+◌, ◌*◌, ◌≤◌, ◌==◌, ◌++◌, length, take, drop, IfSome, IsTrue, OnOk, OnErr, if◌then◌else◌};
-ghost use Rattle.std.specs.List.{prefix_len};
+ghost use Rattle.std.specs.Prelude.{◌≡◌, ◌+◌, ◌*◌, ◌≤◌, ◌==◌, ◌++◌, length, IsTrue, OnOk, OnErr, if◌then◌else◌};
 ghost use Rattle.std.specs.Option.{option_copied, option_map};
 ghost use Rattle.deb_version.specs.Cuts.{cut_of};
 ghost use Rattle.deb_version.specs.Parts.{part_of, value_of, parts_of};
 ghost use Rattle.deb_version.specs.Canonical.{digits_of, ends_in_letter, last_digits_of, component_text, is_no_revision, canonical_epoch, canonical_revision, version_text, Extends};
-ghost use Rattle.deb_version.specs.Grammar.{is_revision_byte, spelling};
+ghost use Rattle.deb_version.specs.Grammar.{spelling};
 ghost use Rattle.deb_version.specs.Version.{components_of, meaning_of};
 
-use crate::cut::{Cut, text_len};
+use crate::component::canonical_component;
+use crate::cut::Cut;
 use crate::run::without_zeros;
 use crate::version::Version;
 use std::alloc::AllocError;
@@ -146,44 +146,6 @@ fn is_canonical(component: &[u8]) -> bool
     ensures { IsTrue result → component_text (parts_of component.now) ≡ component.now }
 {
     matches!(canonical_component(component), Some(len) if len == component.len())
-}
-
-/// The length of the component that a text begins with, if it is spelled as its canonical text: it
-/// ends before the first byte that isn't allowed in a revision.
-pub(crate) fn canonical_component(text: &[u8]) -> Option<usize>
-    ensures bound { IfSome result (λ n. n ≤ length text.now) }
-    ensures run { IfSome result (λ n. n ≡ prefix_len is_revision_byte text.now) }
-    ensures canonical { IfSome result
-        (λ n. component_text (parts_of (take n text.now)) ≡ take n text.now) }
-{
-    let mut rest = text;
-    let mut len = text_len(rest);
-    loop {
-        let (cut, after) = Cut::front(rest, len);
-        let next_len = text_len(after);
-        if !has_canonical_digits(cut, next_len == 0) {
-            return None;
-        }
-        if next_len == 0 {
-            return Some(text.len() - after.len());
-        }
-        rest = after;
-        len = next_len;
-    }
-}
-
-/// Whether the number of a cut is spelled as in canonical text.
-fn has_canonical_digits(cut: Cut<'_>, is_last: bool) -> bool
-    ensures { IsTrue result →
-        (if is_last then last_digits_of (part_of (cut_of cut.entry)) else digits_of
-        (value_of cut.entry.run.now)) ≡ cut.entry.run.now }
-{
-    let leaves_out_zero = is_last && ends_in_letter(cut.text);
-    match cut.run.first() {
-        None => leaves_out_zero,
-        Some(b'0') => cut.run.len() == 1 && !leaves_out_zero,
-        Some(_) => true,
-    }
 }
 
 /// The number of a cut without leading zeros; in the last cut the number 0 is left out exactly if

@@ -3,10 +3,10 @@
 ghost use Rattle.std.specs.Prelude.{◌≡◌, ◌^◌, ◌<◌, length, option_copied};
 ghost use Rattle.std.specs.List.{position};
 ghost use Rattle.std.specs.Result.{result_err};
-ghost use Rattle.deb_version.specs.Grammar.{components_with, epoch_text, spelling, is_upstream_byte, is_revision_byte, is_empty, some_passes, is_bad_in_upstream, is_bad_in_revision, first_of, epoch_faults, rest_faults};
+ghost use Rattle.deb_version.specs.Grammar.{components_with, epoch_text, spelling, is_upstream_byte, is_empty, some_passes, is_bad_in_upstream, is_bad_in_revision, first_of, epoch_faults, rest_faults};
 ghost use Rattle.deb_version.specs.Places.{epoch_in, rest_in, upstream_in, revision_in};
 
-use crate::cut::is_text_byte;
+use crate::component::is_allowed_in_revision;
 use crate::fault::BadVersion;
 
 // The epoch, which ends at the first colon, if there is a colon; and what follows it.
@@ -29,12 +29,6 @@ fn cut_revision(rest: &[u8]) -> (&[u8], Option<&[u8]>)
         Some(at) => (&rest[..at], Some(&rest[at + 1..])),
         None => (rest, None),
     }
-}
-
-pub(crate) fn is_allowed_in_revision(b: u8) -> bool
-    ensures { result ≡ is_revision_byte b }
-{
-    is_text_byte(b) || b.is_ascii_digit()
 }
 
 fn is_allowed_in_upstream(has_epoch: bool, b: u8) -> bool

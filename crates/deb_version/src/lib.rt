@@ -23,6 +23,7 @@
 
 mod canonical;
 mod canonical_version;
+mod component;
 mod components;
 mod cut;
 mod fault;

@@ -8,7 +8,8 @@ ghost use Rattle.deb_version.specs.Faults.{first_fault};
 ghost use Rattle.deb_version.specs.Grammar.{is_upstream_byte};
 ghost use Rattle.deb_version.specs.Places.{version_in};
 
-use crate::canonical::{canonical_component, is_no_revision};
+use crate::canonical::is_no_revision;
+use crate::component::canonical_component;
 
 /// Returns the length in bytes of the version that a text begins with, if this version is its own
 /// canonical text.

@@ -4,7 +4,7 @@ use Rattle.std.specs.Prelude.{◌==◌, if◌then◌else◌}
 use Rattle.std.specs.Io.KnownBytes.{Appends}
 use Rattle.deb_base.specs.declared.doc.Doc.{Doc}
 use Rattle.deb_base.specs.declared.refusal.Refusal.{Refusal}
-use Rattle.deb_refusals.specs.Lines.{refusals_of}
+use Rattle.deb_control.specs.AllRefusals.{refusals_of}
 use Rattle.debctl_commands.specs.AllJobs.{WritesRefusals}
 
 abbrev status_of : ℕ → ℕ

@@ -1,7 +1,7 @@
 -- A file that is too long has the refusal of its beginning, if that is too long already.
 use Rattle.std.proofs.Common.{◌≡◌, ℕ, ◌+◌, ◌<◌, ◌&&◌, Bool, true, false, cond, List, [], ◌∷◌, ◌++◌, length, take, Option, Some, None, Result, Ok, Err, inl, inr, refl, sym, ap, ap₂, ◌∙◌, arith, append-nil, length-append}
 use Rattle.std.proofs.lemmas.List.{take-append-le}
-use Rattle.deb_base.specs.Bodies.{paragraph_limit}
+use Rattle.deb_base.specs.Bodies.{paragraph_limit, file_limit}
 use Rattle.deb_base.specs.Reading.{IsEnough}
 use Rattle.deb_base.specs.declared.code.Code.TheVariants.{FileTooLong, TooManyParagraphs}
 use Rattle.deb_base.specs.declared.doc.Doc.{Doc}
@@ -12,7 +12,7 @@ use Rattle.deb_control.specs.Rules.{Rules}
 use Rattle.deb_syntax.specs.Answers.{is_line, line_beyond, line_too_long, paragraph_answer, part_within, seen_from, whole_lines}
 use Rattle.deb_syntax.specs.Fields.{Field}
 use Rattle.deb_syntax.specs.Judging.{judged}
-use Rattle.deb_syntax.specs.Lines.{Paragraph, file_limit, lines_of, paragraphs_under}
+use Rattle.deb_syntax.specs.Lines.{Paragraph, lines_of, paragraphs_under}
 use Rattle.deb_syntax.specs.Meaning.{Entries}
 use Rattle.deb_syntax.proofs.Parts.{line_beyond-some, part_within-some}
 

@@ -1,9 +1,8 @@
 -- What was read of the file of a relation.
 use Rattle.std.proofs.Common.{◌≡◌, ◌⊎◌, ◌<◌, ◌≤◌, ◌++◌, ℕ, List, Option, Some, length, inl, inr, ap, ◌∙◌, refl, sym, subst, arith, append-nil, length-append}
 use Rattle.std.proofs.Math.Dec.{lit≤}
-use Rattle.deb_base.specs.Bodies.{paragraph_limit}
+use Rattle.deb_base.specs.Bodies.{paragraph_limit, file_limit}
 use Rattle.deb_base.specs.Reading.{ReadsEnough, TakesNoMore}
-use Rattle.deb_syntax.specs.Lines.{file_limit}
 use Rattle.deb_index.specs.Questions.{Question, RefusesQuery}
 use Rattle.debctl_commands.specs.QueryFrom.{AreRefusedFrom, IsRead, RefusesLong, ReportsRefusalFrom, long_relation}
 use Rattle.debctl_commands.specs.QueryJob.{AreRefused, ReportsQueryRefusal}

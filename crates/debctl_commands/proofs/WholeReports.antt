@@ -1,6 +1,6 @@
 -- From what is read of a file, and answered of that, to what is answered of the file.
 use Rattle.std.proofs.Common.{◌≡◌, ℕ, zero, suc, ◌==◌, ◌||◌, true, false, not, List, [], ◌∷◌, ◌++◌, length, get_or, Option, Some, Result, Ok, Err, IfErr, inl, inr, refl, sym, ap, subst, ◌∙◌, arith, append-nil}
-use Rattle.deb_base.specs.Bodies.{newline}
+use Rattle.deb_base.specs.Bodies.{newline, file_limit}
 use Rattle.deb_base.specs.Devices.{one_more, read_failures_after}
 use Rattle.deb_base.specs.Faults.{IsReadersFault, RefusedOrMemory}
 use Rattle.deb_base.specs.Reading.{IsEnough, IsMemoryOrRead, ReadsEnough, TakesNoMore}
@@ -10,7 +10,7 @@ use Rattle.deb_base.specs.declared.fault.Fault.TheVariants.{Refused, Memory, Rea
 use Rattle.deb_control.specs.Calls.{HasParagraphs, IfRefused}
 use Rattle.deb_control.specs.Checking.{IsRefusalOfDocument}
 use Rattle.deb_control.specs.Documents.{refusal_of}
-use Rattle.deb_syntax.specs.Lines.{ends_line, file_limit}
+use Rattle.deb_syntax.specs.Lines.{ends_line}
 use Rattle.debctl_commands.specs.Taking.{TakesFile}
 use Rattle.debctl_commands.specs.Verdicts.{verdict_by, AnswersFile}
 use Rattle.debctl_commands.specs.declared.verdict.Verdict.{Verdict}

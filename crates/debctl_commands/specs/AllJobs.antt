@@ -8,10 +8,10 @@ use Rattle.deb_base.specs.declared.doc.Doc.{Doc}
 use Rattle.deb_base.specs.declared.fault.Fault.{Fault}
 use Rattle.deb_base.specs.declared.refusal.Refusal.{Refusal}
 use Rattle.deb_control.specs.Calls.{IfCutOff, IfWriteFailed}
-use Rattle.deb_refusals.specs.Explained.{explained_lines}
-use Rattle.deb_refusals.specs.Lines.{file_lines, refusals_of}
-use Rattle.deb_refusals.specs.Written.{ExplainsAll, ExplainsFirst, IsNoRefusal, WritesAll, WritesFirst}
-use Rattle.deb_refusals.specs.declared.summary.Summary.{Summary}
+use Rattle.deb_control.specs.AllRefusals.{file_lines, refusals_of}
+use Rattle.deb_control.specs.WrittenRefusals.{IsNoRefusal, WritesAll, WritesFirst}
+use Rattle.deb_control.specs.declared.summary.Summary.{Summary}
+use Rattle.deb_explain.specs.AllExplanations.{ExplainsAll, ExplainsFirst, explained_lines}
 
 -- the status by how many runs of lines are refused: 0 if none is, else 2
 abbrev pub summary_status : Summary → ℕ

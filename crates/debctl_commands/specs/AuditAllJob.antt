@@ -17,8 +17,8 @@ use Rattle.deb_base.specs.declared.fault.Fault.TheVariants.{Refused, Memory, Rea
 use Rattle.deb_base.specs.declared.refusal.Refusal.{Refusal}
 use Rattle.deb_explain.specs.Escapes.{escaped_byte}
 use Rattle.deb_explain.specs.Paths.{is_hidden, path_byte}
-use Rattle.deb_refusals.specs.Lines.{passed_of, refusals_of, total_line}
-use Rattle.deb_refusals.specs.declared.summary.Summary.{Summary}
+use Rattle.deb_control.specs.AllRefusals.{passed_of, refusals_of, total_line}
+use Rattle.deb_control.specs.declared.summary.Summary.{Summary}
 use Rattle.debctl_commands.specs.AuditJob.{audit_path, audit_record, record_end}
 use Rattle.debctl_commands.specs.Taking.{TakesFile}
 use Rattle.debctl_commands.specs.declared.unopened.Unopened.{Unopened}

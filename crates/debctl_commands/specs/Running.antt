@@ -11,8 +11,8 @@ use Rattle.deb_base.specs.declared.version_text.VersionText.{VersionText}
 use Rattle.deb_control.specs.Calls.{WritesCanonical}
 use Rattle.deb_control.specs.declared.side.SideFault.{SideFault}
 use Rattle.deb_sort.specs.Files.{SortsFile, WritesSorted}
-use Rattle.deb_refusals.specs.Lines.{file_lines}
-use Rattle.deb_refusals.specs.declared.summary.Summary.{Summary}
+use Rattle.deb_control.specs.AllRefusals.{file_lines}
+use Rattle.deb_control.specs.declared.summary.Summary.{Summary}
 use Rattle.debctl_commands.specs.AllJobs.{ChecksAll, WritesRefusals, WritesUnrefused, summary_status}
 use Rattle.debctl_commands.specs.DiffJob.{IsRefusedOld, ReportsDiff, ReportsRefusalOfDiff}
 use Rattle.debctl_commands.specs.DiffJob.{WritesChanges, form_asked}

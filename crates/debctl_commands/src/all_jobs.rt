@@ -2,9 +2,9 @@
 
 ghost use Rattle.std.specs.Prelude.{◌≡◌, ◌<◌, ℕ, List, Some, Result};
 ghost use Rattle.deb_base.specs.declared.fault.Fault.{Fault};
-ghost use Rattle.deb_refusals.specs.Explained.{explained_lines};
-ghost use Rattle.deb_refusals.specs.Lines.{file_lines};
-ghost use Rattle.deb_refusals.specs.declared.summary.Summary.{Summary};
+ghost use Rattle.deb_control.specs.AllRefusals.{file_lines};
+ghost use Rattle.deb_control.specs.declared.summary.Summary.{Summary};
+ghost use Rattle.deb_explain.specs.AllExplanations.{explained_lines};
 ghost use Rattle.debctl_commands.specs.AllJobs.{summary_status, ChecksAll, ExplainsEach};
 ghost use Rattle.debctl_commands.specs.AllJobs.{WritesRefusals, WritesUnrefused};
 ghost use Rattle.debctl_commands.specs.Reporting.{Reports};
@@ -12,8 +12,9 @@ ghost use Rattle.debctl_commands.specs.Taking.{TakesFile};
 
 use crate::reporting::report_fault;
 use deb_base::{Sink, Source};
+use deb_control::{Summary, check_all};
+use deb_explain::explain_all;
 use deb_field::Doc;
-use deb_refusals::{Summary, check_all, explain_all};
 use std::alloc::Global;
 
 /// Writes to `out` a line for each refusal of a file as a document of a kind, and a last one with

@@ -13,7 +13,7 @@ use crate::opens::Opens;
 use crate::reporting::{FAULT_STATUS, report_fault};
 use crate::unopened::Unopened;
 use deb_base::{Fault, Sink, Source, put_pieces};
-use deb_refusals::{Refusals, Summary};
+use deb_control::{Refusals, Summary};
 use debctl_args::LineEnd;
 use itoa::Buffer;
 use std::alloc::Global;

@@ -16,10 +16,9 @@ ghost use Rattle.debctl_commands.specs.declared.verdict.Verdict.{Verdict};
 use crate::document_jobs::put_ok_line;
 use crate::reporting::{FAULT_STATUS, report_fault};
 use crate::verdict::{Verdict, ends_line};
-use deb_base::{Fault, Sink, SliceSource, Source, read_text};
+use deb_base::{FILE_LIMIT, Fault, Sink, SliceSource, Source, read_text};
 use deb_control::check;
 use deb_field::Doc;
-use deb_syntax::FILE_LIMIT;
 use debctl_args::Demands;
 use std::alloc::Global;
 

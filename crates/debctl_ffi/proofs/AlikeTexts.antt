@@ -1,9 +1,10 @@
 -- Texts that have the same answers, whatever follows them.
 use Rattle.std.proofs.Common.{◌≡◌, ℕ, ◌+◌, ◌-◌, ◌<◌, ◌≤◌, ◌∙◌, ◌⊎◌, inl, inr, true, List, [], ◌∷◌, ◌++◌, length, drop, map, Option, Some, None, Ok, refl, sym, ap, subst, append_assoc, append-nil, arith}
 use Rattle.std.proofs.lemmas.List.{append_cancel_right, length-append, length-map}
+use Rattle.deb_base.specs.Bodies.{file_limit}
 use Rattle.deb_base.specs.declared.doc.Doc.{Doc}
 use Rattle.deb_syntax.specs.Answers.{Seen, answer_of_first, line_beyond, next_answer, paragraphs_within, part_within}
-use Rattle.deb_syntax.specs.Lines.{IsClosed, file_limit, lines_of, paragraphs_from, paragraphs_of}
+use Rattle.deb_syntax.specs.Lines.{IsClosed, lines_of, paragraphs_from, paragraphs_of}
 use Rattle.deb_syntax.specs.Meaning.{Entries}
 use Rattle.deb_syntax.proofs.Boundaries.{lines_of-append}
 use Rattle.deb_syntax.proofs.LeftAnswers.{left-paragraphs}

@@ -2,12 +2,12 @@
 use Rattle.std.proofs.Common.{◌≡◌, ℕ, zero, suc, ◌+◌, ◌-◌, ◌<◌, ◌≤◌, ◌==◌, ◌⊎◌, inl, inr, Bool, true, false, cond, List, [], ◌∷◌, ◌++◌, length, drop, nat_le, Option, Some, None, Ok, Err, IfSome, refl, sym, ap, ◌∙◌, subst, append_assoc, arith}
 use Rattle.std.specs.List.{AllByRecursion}
 use Rattle.std.proofs.lemmas.List.{length-append, length-map}
-use Rattle.deb_base.specs.Bodies.{Line, is_blank, paragraph_limit}
+use Rattle.deb_base.specs.Bodies.{Line, is_blank, paragraph_limit, file_limit}
 use Rattle.deb_base.specs.declared.doc.Doc.{Doc}
 use Rattle.deb_base.specs.declared.code.Code.TheVariants.{FileTooLong}
 use Rattle.deb_syntax.specs.Answers.{Seen, answer_of_first, is_line, line_beyond, line_too_long, next_answer, paragraph_answer, paragraphs_within, part_within, seen_from}
 use Rattle.deb_syntax.specs.Judging.{judged}
-use Rattle.deb_syntax.specs.Lines.{IsClosed, Paragraph, ends_blank, file_limit, lines_of, paragraphs_from, with_line}
+use Rattle.deb_syntax.specs.Lines.{IsClosed, Paragraph, ends_blank, lines_of, paragraphs_from, with_line}
 use Rattle.deb_syntax.specs.Meaning.{Entries}
 use Rattle.deb_syntax.proofs.LeftAnswers.{left-paragraphs}
 use Rattle.deb_syntax.proofs.Parts.{line_beyond-append}

@@ -1,12 +1,12 @@
 -- Texts that differ only in bytes of a line that is longer than a paragraph may be have the same answers.
 use Rattle.std.proofs.Common.{◌≡◌, ℕ, ◌+◌, ◌-◌, ◌<◌, ◌≤◌, ◌&&◌, ◌∙◌, ◌⊎◌, inl, inr, true, cond, List, [], ◌∷◌, ◌++◌, length, drop, Option, Some, None, Result, Ok, Err, refl, sym, ap, subst, append_assoc, arith}
 use Rattle.std.proofs.lemmas.List.{length-append}
-use Rattle.deb_base.specs.Bodies.{HasNoNewline, Line, paragraph_limit}
+use Rattle.deb_base.specs.Bodies.{HasNoNewline, Line, paragraph_limit, file_limit}
 use Rattle.deb_base.specs.declared.code.Code.TheVariants.{TooManyParagraphs}
 use Rattle.deb_base.specs.declared.refusal.Refusal.{Refusal}
 use Rattle.deb_base.proofs.AllElements.{All-append}
 use Rattle.deb_syntax.specs.Answers.{answer_of_first, line_beyond, line_too_long, paragraph_answer, paragraphs_within, part_within}
-use Rattle.deb_syntax.specs.Lines.{Paragraph, ends_line, file_limit, lines_of, paragraphs_from}
+use Rattle.deb_syntax.specs.Lines.{Paragraph, ends_line, lines_of, paragraphs_from}
 use Rattle.deb_syntax.specs.Meaning.{Entries}
 use Rattle.deb_syntax.proofs.Boundaries.{lines_of-append}
 use Rattle.deb_syntax.proofs.Parts.{line_beyond-none, line_beyond-some, part_within-append}

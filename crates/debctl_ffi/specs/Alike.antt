@@ -1,9 +1,9 @@
 -- Texts in place of others that have the same answers: Debian Policy 5.1. That a reader reads them
 -- is this project's own.
 use Rattle.std.specs.Prelude.{◌≡◌, ℕ, ◌≤◌, List, ◌++◌, length}
+use Rattle.deb_base.specs.Bodies.{file_limit}
 use Rattle.deb_base.specs.declared.doc.Doc.{Doc}
 use Rattle.deb_syntax.specs.Answers.{next_answer}
-use Rattle.deb_syntax.specs.Lines.{file_limit}
 use Rattle.deb_syntax.specs.Meaning.{Entries}
 use Rattle.deb_control.specs.Documents.{rules_of}
 use Rattle.deb_control.specs.Refusals.{next_checked, outcome}

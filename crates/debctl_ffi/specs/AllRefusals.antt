@@ -5,20 +5,19 @@ use Rattle.std.specs.Fmt.{digits}
 use Rattle.std.specs.List.{flat_map}
 use Rattle.std.specs.Str.{is_utf8, chars}
 use lib.Utf8.{encode}
-use Rattle.deb_base.specs.Bodies.{paragraph_limit}
+use Rattle.deb_base.specs.Bodies.{paragraph_limit, file_limit}
 use Rattle.deb_base.specs.Codes.{number_of}
 use Rattle.deb_base.specs.declared.code.Code.TheVariants.{NotUtf8, NoColon, NoParagraph}
 use Rattle.deb_base.specs.declared.doc.Doc.{Doc}
 use Rattle.deb_base.specs.declared.doc.Doc.TheVariants.{Binary, Packages}
 use Rattle.deb_base.specs.declared.refusal.Refusal.{Refusal}
-use Rattle.deb_syntax.specs.Lines.{file_limit}
 use Rattle.deb_control.specs.Calls.{HasParagraphs}
 use Rattle.deb_control.specs.Documents.{refusal_of}
 use Rattle.deb_explain.specs.Explanations.{WhyRefused}
 use Rattle.deb_explain.specs.Subjects.{AboutWhole}
 use Rattle.deb_explain.specs.Texts.{file_line}
-use Rattle.deb_refusals.specs.Explained.{explained_block, explained_lines, explanations_of}
-use Rattle.deb_refusals.specs.Lines.{passed_of, refusals_of, total_line}
+use Rattle.deb_explain.specs.AllExplanations.{explained_block, explained_lines, explanations_of}
+use Rattle.deb_control.specs.AllRefusals.{passed_of, refusals_of, total_line}
 use Rattle.debctl_ffi.specs.Answers.{counting, refusing_some}
 use Rattle.debctl_ffi.specs.Buffers.{Gives, GivesNothing, LacksRoom}
 use Rattle.debctl_ffi.specs.Documents.{kind_number}

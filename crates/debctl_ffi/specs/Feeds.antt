@@ -4,10 +4,10 @@ use Rattle.std.specs.Prelude.{◌≡◌, ◌≢◌, ◌⊎◌, ℕ, ◌+◌, ◌
 use base.Fml.{Fml, Lft, Share, flft}
 use denote.RawPtr.{Ptr}
 use denote.Struct.Lending.{lent_at}
+use Rattle.deb_base.specs.Bodies.{file_limit}
 use Rattle.deb_base.specs.declared.doc.Doc.{Doc}
 use Rattle.deb_base.specs.declared.refusal.Refusal.{Refusal}
 use Rattle.deb_syntax.specs.Answers.{Seen}
-use Rattle.deb_syntax.specs.Lines.{file_limit}
 use Rattle.deb_control.specs.Checking.{CheckedState, HasChecked}
 use Rattle.deb_control.specs.CheckedStates.{checked_state, doc_read}
 use Rattle.deb_control.specs.Calls.{HasParagraphs}

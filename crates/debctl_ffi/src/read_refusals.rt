@@ -3,17 +3,19 @@
 ghost use Rattle.std.specs.Prelude.{◌≡◌, ◌++◌, ◌∷◌, [], ℕ, List, None, Ok, Option, Some, IfErr, IfOk, IsSome, OnOk};
 ghost use Rattle.deb_base.specs.Devices.{read_failures_after};
 ghost use Rattle.deb_base.specs.Reading.{IsMemoryOrRead};
-ghost use Rattle.deb_explain.specs.Explanations.{WhyRefused};
-ghost use Rattle.deb_refusals.specs.Given.{HasGiven, given_last};
-ghost use Rattle.deb_refusals.specs.Lines.{total_line};
+ghost use Rattle.deb_control.specs.AllRefusals.{total_line};
+ghost use Rattle.deb_control.specs.GivenRefusals.{HasGiven, given_last};
+ghost use Rattle.deb_control.specs.SeenRefusals.{SeenRefusal};
+ghost use Rattle.deb_explain.specs.Explanations.{why_refused};
 ghost use Rattle.debctl_ffi.specs.AllRefusals.{ExplainsFile, TablesFile, answer_to_all, block_lines};
 
 use crate::answer::{Answer, some_refused, yes};
 use crate::explanation::lines_of;
 use crate::refusal_row::{RefusalRow, row_of};
 use deb_base::{Fault, Refusal, SliceSource, Source, VecSink};
+use deb_control::{Refusals, Summary};
+use deb_explain::explain_last;
 use deb_field::Doc;
-use deb_refusals::{Refusals, Summary};
 use std::alloc::{AllocError, Global};
 
 /// The answer for all refusals of a file in memory, and the rows of these.
@@ -103,11 +105,11 @@ fn read_explanations<R: Source>(
 /// Appends the lines that explain the refusal that was read last, and an empty line.
 fn push_block(alloc: Global, refusals: &Refusals, lines: &mut Vec<u8>) -> Result<(), AllocError>
     requires given { IsSome (given_last refusals.now) }
-    ensures { (doc : Doc) (text : List ℕ) (left : Option (List ℕ)) (done : List WhyRefused)
-        (why : WhyRefused) → HasGiven doc text refusals.now left (done ++ why ∷ [])
-        → OnOk result (lines.new.items ≡ lines.old.items ++ block_lines why) }
+    ensures { (doc : Doc) (text : List ℕ) (left : Option (List ℕ)) (done : List SeenRefusal)
+        (seen : SeenRefusal) → HasGiven doc text refusals.now left (done ++ seen ∷ [])
+        → OnOk result (lines.new.items ≡ lines.old.items ++ block_lines (why_refused doc seen)) }
 {
-    let Some(explanation) = refusals.explanation()? else {
+    let Some(explanation) = explain_last(alloc, refusals)? else {
         unreachable!()
     };
     lines.extend_from_slice(&lines_of(alloc, &explanation)?)?;

@@ -16,10 +16,9 @@ use crate::kind::kind_of;
 use crate::pieces::{LastPiece, Piece};
 use crate::reading::{read_all, read_some};
 use crate::run_scan::{RunScan, ended_runs};
-use deb_base::Fault;
+use deb_base::{FILE_LIMIT, Fault};
 use deb_control::Checked;
 use deb_field::Doc;
-use deb_syntax::FILE_LIMIT;
 use std::alloc::{AllocError, Global};
 
 /// After how many further bytes a reader looks for those that it need only count.

@@ -1,5 +1,5 @@
+use Rattle.deb_base.specs.Bodies.{file_limit}
 use Rattle.deb_control.proofs.Common.{◌∙◌, ◌+◌, None, Some, all_pass, ap, arith, err_from_is_err_and}
-use Rattle.deb_syntax.specs.Lines.{file_limit}
 use Rattle.deb_control.proofs.CheckedSoFar.{goes_on, all_checked, count_all}
 use Rattle.deb_control.proofs.Checks.{few-totals}
 use Rattle.deb_control.proofs.ReadingOn.{reads-none, reads-ok, reads-err}

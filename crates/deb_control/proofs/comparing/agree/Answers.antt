@@ -1,6 +1,6 @@
+use Rattle.deb_base.specs.Bodies.{file_limit}
 use Rattle.deb_control.proofs.Common.{◌≡◌, ◌∙◌, ◌+◌, Bool, true, false, Option, None, Some, ap, sym, refl, subst, arith, not, is_none, false≢true, bytes_eq-Decides, bytes_eq, passing_of, Agrees, CheckedText}
 use Rattle.std.specs.Option.{option_map}
-use Rattle.deb_syntax.specs.Lines.{file_limit}
 use Rattle.deb_control.proofs.CheckedSoFar.{goes_on}
 use Rattle.deb_control.proofs.Checks.{few-totals}
 use Rattle.deb_control.proofs.ComparedSoFar.{start_agreed, compared}

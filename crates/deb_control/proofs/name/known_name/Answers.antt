@@ -3,7 +3,7 @@ use Rattle.std.proofs.lemmas.Bool.{ltb-true}
 use Rattle.std.proofs.lemmas.List.{get_or-map, length-map}
 use Rattle.deb_base.specs.Kinds.{known_row}
 use Rattle.deb_control.specs.CanonTexts.{known_names}
-use Rattle.deb_control.proofs.Rows.{known_names-row}
+use Rattle.deb_control.proofs.KnownNames.{known_names-row}
 use Rattle.deb_control.proofs.name.known_name.Goals as goal
 
 pub returns : goal.returns

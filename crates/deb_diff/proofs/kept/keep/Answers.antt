@@ -1,6 +1,7 @@
 -- The words are those of the paragraph, one after another.
 use Rattle.std.proofs.Common.{◌≡◌, length, refl, sym, ap, ◌∙◌, rules}
-use Rattle.deb_diff.specs.Items.{item_of, word_under}
+use Rattle.deb_control.specs.FieldWords.{word_under}
+use Rattle.deb_diff.specs.Items.{item_of}
 use Rattle.deb_diff.specs.Kepts.{fields_in, marked}
 use Rattle.deb_diff.specs.Spelled.{spelled_in}
 use Rattle.deb_diff.proofs.KeptValues.{text_kept, words_kept}

@@ -1,48 +1,34 @@
-use Rattle.std.proofs.Common.{map}
-use Rattle.deb_control.specs.Checking.{all_pass, passing_seen}
-use Rattle.deb_control.specs.CheckedStates.{checked_state, lines_checked}
-use Rattle.deb_control.specs.GivenParagraphs.{bodies_seen}
-use Rattle.deb_control.proofs.CheckedSoFar.{failed_on}
-use Rattle.deb_control.proofs.RefusedLines.{without_error}
-use Rattle.deb_control.proofs.ShownSoFar.{goes, shows-next, shows-none, shows-paragraphs, shows-taken}
-use Rattle.deb_explain.proofs.Refusing.{is_explanation}
+use Rattle.std.proofs.Common.{[], sym, subst}
+use Rattle.deb_control.specs.GivenRefusals.{HasGiven}
+use Rattle.deb_control.proofs.AcceptedStreams.{nothing_refused}
+use Rattle.deb_explain.proofs.Explanations.{is_explanation}
 use Rattle.deb_explain.proofs.explaining.explain.Goals as goal
 
-pub loop-count-init : goal.loop-count-init
-loop-count-init g c = shows-none _ tt c.new-checked.ensures.doc c.new-checked.ensures.sound c.new-checked.ensures.none c.new-checked.ensures.fits
+pub returns-in_default-clause-accepted : goal.returns-in_default-clause-accepted
+returns-in_default-clause-accepted g c = λ text left.
+    let starts = subst (λ l. HasGiven c.args.doc text c.new-refusals.result l []) (sym left) (c.new-refusals.ensures.starts text) in
+    let gives = rw c.in_default.is at (c.in_ok-next.ensures.gives c.args.doc text [] starts) in
+    rw c.summary.ensures (nothing_refused c.args.doc text _ gives.refusals gives.passed)
 
-pub returns-in-Ok-false-clause-accepted : goal.returns-in-Ok-false-clause-accepted
-returns-in-Ok-false-clause-accepted g c =
-    shows-paragraphs c.loop-count.invariant (rw (c.in-Ok-false.is, c.in-Ok-false.field-0-test) at c.advance.ensures.passes.checks)
+pub returns-clause-refused : goal.returns-clause-refused
+returns-clause-refused g c = λ text left.
+    let starts = subst (λ l. HasGiven c.args.doc text c.new-refusals.result l []) (sym left) (c.new-refusals.ensures.starts text) in
+    let gives = rw c.in-Some.is at (c.in_ok-next.ensures.gives c.args.doc text [] starts) in
+    let told = rw c.in-Some-2.is at (c.in_ok-explanation.ensures.explains c.args.doc text _ _ gives.given) in
+    is_explanation c.args.doc text gives.seen _ gives.given.first told
 
-pub returns-in-Err-Refused-clause-refused : goal.returns-in-Err-Refused-clause-refused
-returns-in-Err-Refused-clause-refused g c = λ text told.
-    let so_far = c.loop-count.invariant in
-    let passes = rw (c.in-Err-Refused.is, c.in-Err-Refused.field-0-is, so_far.reads) at c.advance.ensures.passes in
-    let lines = rw (c.in-Err-Refused.is, c.in-Err-Refused.field-0-is, so_far.reads) at c.advance.ensures.lines in
-    let given = map (bodies_seen c.args.doc) so_far.given in
-    let fits = (so_far.files text told).fits in
-    let checks = goes so_far (rw (c.in-Err-Refused.is, c.in-Err-Refused.field-0-is) at c.advance.ensures.passes.checks) in
-    is_explanation c.args.doc text given _ (checked_state c.advance.new.self) _ _ c.in-Err-Refused.refusal _ (lines_checked c.advance.new.self) _ _ fits (checks.answers text (all_pass given) fits) (checks.refused text (all_pass given) fits)
-    (without_error _ _ so_far.sound lines text (all_pass given) fits)
-    (failed_on _ _ _ _ so_far.sound passes.checks) c.in-Err-Refused.refusal-is c.in_ok-told-in-Err-Refused.ensures.explains c.line-line.ensures c.refused.ensures
+pub returns-in_err-next-clause-reads_at_most : goal.returns-in_err-next-clause-reads_at_most
+returns-in_err-next-clause-reads_at_most g c = λ text left.
+    c.next.ensures.reads_at_most c.args.doc text [] (subst (λ l. HasGiven c.args.doc text c.new-refusals.result l []) (sym left) (c.new-refusals.ensures.starts text))
 
-pub loop-count-preserved : goal.loop-count-preserved
-loop-count-preserved g c =
-    let passes = rw (c.in-Ok-true.is, c.in-Ok-true.field-0-test) at c.advance.ensures.passes in
-    shows-next c.loop-count.invariant (passing_seen _ passes.given) passes.checks c.advance.ensures.doc tt
+pub returns-in_default-clause-reads_at_most : goal.returns-in_default-clause-reads_at_most
+returns-in_default-clause-reads_at_most g c = λ text left.
+    c.next.ensures.reads_at_most c.args.doc text [] (subst (λ l. HasGiven c.args.doc text c.new-refusals.result l []) (sym left) (c.new-refusals.ensures.starts text))
 
-pub returns-in-Ok-false-clause-reads_at_most : goal.returns-in-Ok-false-clause-reads_at_most
-returns-in-Ok-false-clause-reads_at_most g c = shows-taken c.loop-count.invariant c.advance.ensures.passes.checks
+pub returns-in_err-explanation-clause-reads_at_most : goal.returns-in_err-explanation-clause-reads_at_most
+returns-in_err-explanation-clause-reads_at_most g c = λ text left.
+    c.next.ensures.reads_at_most c.args.doc text [] (subst (λ l. HasGiven c.args.doc text c.new-refusals.result l []) (sym left) (c.new-refusals.ensures.starts text))
 
-pub returns-in_err-told-in-Err-Refused-clause-reads_at_most : goal.returns-in_err-told-in-Err-Refused-clause-reads_at_most
-returns-in_err-told-in-Err-Refused-clause-reads_at_most g c = shows-taken c.loop-count.invariant c.advance.ensures.passes.checks
-
-pub returns-in-Err-Refused-clause-reads_at_most : goal.returns-in-Err-Refused-clause-reads_at_most
-returns-in-Err-Refused-clause-reads_at_most g c = shows-taken c.loop-count.invariant c.advance.ensures.passes.checks
-
-pub returns-in-Err-Memory-clause-reads_at_most : goal.returns-in-Err-Memory-clause-reads_at_most
-returns-in-Err-Memory-clause-reads_at_most g c = shows-taken c.loop-count.invariant c.advance.ensures.passes.checks
-
-pub returns-in-Err-Read-clause-reads_at_most : goal.returns-in-Err-Read-clause-reads_at_most
-returns-in-Err-Read-clause-reads_at_most g c = shows-taken c.loop-count.invariant c.advance.ensures.passes.checks
+pub returns-clause-reads_at_most : goal.returns-clause-reads_at_most
+returns-clause-reads_at_most g c = λ text left.
+    c.next.ensures.reads_at_most c.args.doc text [] (subst (λ l. HasGiven c.args.doc text c.new-refusals.result l []) (sym left) (c.new-refusals.ensures.starts text))

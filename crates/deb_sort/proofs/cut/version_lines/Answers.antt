@@ -1,10 +1,11 @@
 -- A text that isn't too long is judged by its lines.
 use Rattle.std.proofs.Common.{◌≡◌, ◌≤◌, ℕ, List, Bor, Some, None, map, length, sym, ap, ◌∙◌, subst, IfOk, IfErr, arith, length-take-le}
+use Rattle.deb_base.specs.Bodies.{file_limit}
 use Rattle.deb_base.specs.Faults.{RefusedOrMemory}
 use Rattle.deb_base.specs.declared.code.Code.TheVariants.{FileTooLong}
 use Rattle.deb_sort.specs.Refusals.{first_refusal, refusal_of}
 use Rattle.deb_sort.proofs.Refusals.{beyond, within}
-use Rattle.deb_syntax.specs.Lines.{file_limit, lines_of}
+use Rattle.deb_syntax.specs.Lines.{lines_of}
 use Rattle.deb_sort.proofs.cut.version_lines.Goals as goal
 
 pub slice_bounds-count_pieces-end : goal.slice_bounds-count_pieces-end

@@ -1,6 +1,5 @@
 use Rattle.deb_syntax.proofs.Common.{◌≡◌, ◌∙◌, ◌++◌, ◌∷◌, ◌+◌, ℕ, [], Ok, Err, Code, Refused, FileTooLong, ParagraphTooLong, Extent, sym, ap, subst, arith, length, length-append, take, cursor_state, IsNextLine, lines_of, next_answer, passed_count, passed_of}
-use Rattle.deb_base.specs.Bodies.{paragraph_limit}
-use Rattle.deb_syntax.specs.Lines.{file_limit}
+use Rattle.deb_base.specs.Bodies.{paragraph_limit, file_limit}
 use Rattle.deb_syntax.specs.LineEnds.{ends_from}
 use Rattle.deb_syntax.proofs.CursorLemmas.{cursor_small}
 use Rattle.deb_syntax.proofs.Endings.{ahead_blank, ahead_ended, extent_blank, extent_ended, extent_from, kept_pieces, refused_cut, refused_overlong}

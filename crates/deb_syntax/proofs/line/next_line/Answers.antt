@@ -1,6 +1,5 @@
 use Rattle.deb_syntax.proofs.Common.{◌∙◌, ◌-◌, length, drop, true, refl, sym, ap, subst, arith, false≢true, length-take, length-drop, take_rest, cursor_state, IsEnd}
-use Rattle.deb_base.specs.Bodies.{paragraph_limit}
-use Rattle.deb_syntax.specs.Lines.{file_limit}
+use Rattle.deb_base.specs.Bodies.{paragraph_limit, file_limit}
 use Rattle.deb_syntax.proofs.NextLines.{drops_short, failed-takes, line_at_end, line_cut, line_found, reads-takes, scanned-less, scanned-more, scanned-start, seen_short, seen_within}
 use Rattle.deb_syntax.proofs.Takings.{takes_none}
 use Rattle.deb_syntax.proofs.line.next_line.Goals as goal

@@ -1,6 +1,6 @@
+use Rattle.deb_base.specs.Bodies.{file_limit}
 use Rattle.deb_syntax.proofs.Common.{err_from_is_err_and, ◌∙◌, ◌≡◌, ◌+◌, Ok, IsTrue, List, ℕ, take, refl, sym, ap, subst, arith, list_all, pieces_of, cursor_state, buffer_of, judged, IsFaultOf, fields_at, lies_within, passed_of}
 use Rattle.deb_syntax.proofs.Advancing.{judged_fault, judged_is_readers, stands_test, standing_bytes}
-use Rattle.deb_syntax.specs.Lines.{file_limit}
 use Rattle.deb_syntax.proofs.CursorLemmas.{cursor_few, cursor_small}
 use Rattle.deb_syntax.proofs.JudgedLines.{judged_code, length_is_text, lines_stand, standing_passed}
 use Rattle.deb_syntax.proofs.LineEnds.{few_ends}

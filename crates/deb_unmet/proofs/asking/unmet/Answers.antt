@@ -1,4 +1,4 @@
-use Rattle.std.proofs.Common.{◌≡◌, ◌&&◌, [], Some, refl, sym, ap, ◌∙◌, subst}
+use Rattle.std.proofs.Common.{◌≡◌, ◌&&◌, [], Ok, Some, refl, sym, ap, ◌∙◌, subst}
 use Rattle.std.proofs.lemmas.Result.{err_from_is_err_and}
 use Rattle.deb_control.specs.Checking.{FitsChecked, passing_seen}
 use Rattle.deb_control.specs.CheckedStates.{checked_state}
@@ -6,7 +6,7 @@ use Rattle.deb_control.proofs.CheckedSoFar.{cut_off}
 use Rattle.deb_control.proofs.ShownSoFar.{shows-end, shows-front, shows-front_next, shows-next, shows-none, shows-refused, shows-taken}
 use Rattle.deb_unmet.specs.declared.asking.Summary.{Summary}
 use Rattle.deb_unmet.proofs.AskedFiles.{all_asked, asked_read, asked_refused, cut_after, failed_after, none_asked, one_asked}
-use Rattle.deb_unmet.proofs.Values.{given_values}
+use Rattle.deb_unmet.proofs.ParagraphLines.{given_texts}
 use Rattle.deb_unmet.proofs.asking.unmet.Goals as goal
 use Rattle.deb_unmet.proofs.asking.unmet.Goals.{then-is_empty, else-is_empty}
 
@@ -45,8 +45,9 @@ returns-in_err-is_met-clause-cut_off g c = λ text told.
     let p = err_from_is_err_and c.from_residual-in_err-is_met.result c.from_residual-in_err-is_met.ensures.1 in
     let so_far = c.loop-count.invariant.shown in
     let current = rw c.if-not-branch.false at c.in_ok-advance.ensures.passes.current in
-    let given = given_values c.in-Some.paragraph _ _ _ c.in-Some.ensures.seen current c.in-Some.ensures.doc in
-    rw (p.1, p.2) (cut_after _ text _ _ _ _ _ given.values c.in_err-is_met.field-0.0 (c.in_err-is_met.ensures.puts given.values given.has) (asked_read so_far.holds text (shows-front so_far text told)))
+    let visits = rw so_far.reads at c.in_ok-advance.ensures.passes.keeps (ap Ok c.if-not-branch.false) in
+    let given = given_texts _ _ _ _ _ c.in-Some.view _ c.in-Some.ensures.seen current c.spelled_for.ensures visits in
+    rw (p.1, p.2) (cut_after _ text _ _ _ _ c.in_err-is_met.field-0.0 (c.in_err-is_met.ensures.puts given.values given.has) (asked_read so_far.holds text (shows-front so_far text told)))
 
 pub returns-in_err-is_met-clause-write : goal.returns-in_err-is_met-clause-write
 returns-in_err-is_met-clause-write g c = λ text told.
@@ -54,8 +55,9 @@ returns-in_err-is_met-clause-write g c = λ text told.
     let so_far = c.loop-count.invariant.shown in
     let seen = c.in_ok-advance.ensures.passes.given in
     let current = rw c.if-not-branch.false at c.in_ok-advance.ensures.passes.current in
-    let given = given_values c.in-Some.paragraph _ _ _ c.in-Some.ensures.seen current (c.in-Some.ensures.doc ∙ c.in_ok-advance.ensures.doc ∙ so_far.reads) in
-    rw (p.1, p.2) (failed_after so_far.holds seen given.values given.are _ given.fields c.loop-count.count so_far.numbered text _ c.in_err-is_met.field-0.0 (c.in_err-is_met.ensures.puts given.values given.has) (shows-front_next so_far (passing_seen _ seen) (rw c.if-not-branch.false at c.in_ok-advance.ensures.passes.checks) text told))
+    let visits = rw so_far.reads at c.in_ok-advance.ensures.passes.keeps (ap Ok c.if-not-branch.false) in
+    let given = given_texts _ _ _ _ _ c.in-Some.view _ c.in-Some.ensures.seen current c.spelled_for.ensures visits in
+    rw (p.1, p.2) (failed_after so_far.holds seen given.values given.are c.loop-count.count so_far.numbered text _ _ c.in_err-is_met.field-0.0 given.version (c.in_err-is_met.ensures.puts given.values given.has) (shows-front_next so_far (passing_seen _ seen) (rw c.if-not-branch.false at c.in_ok-advance.ensures.passes.checks) text told))
 
 pub returns-in_err-is_met-clause-reads_at_most : goal.returns-in_err-is_met-clause-reads_at_most
 returns-in_err-is_met-clause-reads_at_most g c = shows-taken c.loop-count.invariant.shown c.in_ok-advance.ensures.passes.checks
@@ -65,7 +67,9 @@ loop-count-preserved g c =
     let so_far = c.loop-count.invariant.shown in
     let seen = c.in_ok-advance.ensures.passes.given in
     let current = rw c.if-not-branch.false at c.in_ok-advance.ensures.passes.current in
-    let given = given_values c.in-Some.paragraph _ _ _ c.in-Some.ensures.seen current (c.in-Some.ensures.doc ∙ c.in_ok-advance.ensures.doc ∙ so_far.reads) in
+    let visits = rw so_far.reads at c.in_ok-advance.ensures.passes.keeps (ap Ok c.if-not-branch.false) in
+    let given = given_texts _ _ _ _ _ c.in-Some.view _ c.in-Some.ensures.seen current c.spelled_for.ensures visits in
+    let puts = rw given.version at c.in_ok-is_met.ensures.puts given.values given.has in
     let all_is : c.if-is_empty.is_empty ≡ (c.loop-count.is_empty && c.in_ok-is_met.is_met) =
     elim c.if-is_empty.branch [
       | then-is_empty w ↦ w.is_empty-is ∙ ap (λ b. b && c.in_ok-is_met.is_met) (sym w.if-is_empty.true)
@@ -73,6 +77,6 @@ loop-count-preserved g c =
     ] in
     record {
       shown = shows-next so_far (passing_seen _ seen) (rw c.if-not-branch.false at c.in_ok-advance.ensures.passes.checks) c.in_ok-advance.ensures.doc
-          (one_asked so_far.holds seen given.values given.are _ given.fields c.loop-count.count so_far.numbered _ c.in_ok-is_met.is_met c.if-is_empty.is_empty (c.in_ok-is_met.ensures.puts given.values given.has) all_is);
+          (one_asked so_far.holds seen given.values given.are c.loop-count.count so_far.numbered _ c.in_ok-is_met.is_met c.if-is_empty.is_empty puts all_is);
       writes = c.in_ok-is_met.ensures.counts_failure ∙ c.loop-count.invariant.writes;
     }

@@ -3,7 +3,7 @@ use Rattle.std.specs.Prelude.{⊤}
 use Rattle.std.proofs.lemmas.Result.{err_from_is_err_and}
 use Rattle.deb_base.specs.Devices.{read_failures_after, write_failures_after}
 use Rattle.deb_base.specs.declared.fault.Fault.TheVariants.{Memory}
-use Rattle.deb_refusals.specs.declared.summary.Summary.{Summary}
+use Rattle.deb_control.specs.declared.summary.Summary.{Summary}
 use Rattle.debctl_commands.specs.AuditAllJob.{whole}
 use Rattle.debctl_commands.proofs.AuditAllReports.{at_end, at_fault, at_many, cut_off, ended, more_so_far, none_so_far, unended}
 use Rattle.debctl_commands.proofs.audit_all_job.report_file.Goals as goal

@@ -1,5 +1,5 @@
 use Rattle.std.proofs.Common.{◌≡◌, None}
-use Rattle.deb_refusals.specs.Given.{failure_of}
+use Rattle.deb_control.specs.GivenRefusals.{failure_of}
 use Rattle.debctl_commands.proofs.AuditAllReports.{SoFar}
 use Rattle.debctl_commands.proofs.audit_all_job.report_file.Given as goal
 

@@ -23,5 +23,5 @@ loop-preserved g c = record {
   text = λ text left.
       let has = c.loop.invariant.text text left in
       let gives = rw c.in-Some.is at (c.in_ok-refusal.ensures.gives c.args.doc text has.done has.given) in
-      rw c.or-first.ensures (one_block _ text _ _ _ _ _ _ _ _ has gives (c.in_ok-push_block.ensures c.args.doc text _ has.done gives.why gives.given));
+      rw c.or-first.ensures (one_block _ text _ _ _ _ _ _ _ _ has gives (c.in_ok-push_block.ensures c.args.doc text _ has.done gives.seen gives.given));
 }

@@ -1,5 +1,5 @@
 use Rattle.std.proofs.Common.{◌≡◌, ℕ, List, None, Some}
-use Rattle.deb_refusals.specs.Given.{failure_of}
+use Rattle.deb_control.specs.GivenRefusals.{failure_of}
 use Rattle.debctl_ffi.proofs.RefusalsSoFar.{HasRows}
 use Rattle.debctl_ffi.proofs.read_refusals.read_refusals.Given as goal
 

@@ -1,4 +1,4 @@
-use Rattle.std.proofs.Common.{◌≡◌, [], ◌∷◌, ◌++◌, Ok, Some, sym, ap, subst, ◌∙◌}
+use Rattle.std.proofs.Common.{◌≡◌, [], ◌∷◌, ◌++◌, Ok, Some, ap, ◌∙◌}
 use Rattle.std.proofs.lemmas.Result.{err_from_is_err_and}
 use Rattle.deb_base.specs.declared.doc.Doc.TheVariants.{Packages}
 use Rattle.deb_control.specs.CheckedStates.{passing_judged}
@@ -61,7 +61,7 @@ loop-count-preserved g c =
     let so_far = c.loop-count.invariant.shown in
     let given = c.in_ok-advance.ensures.passes.given in
     let checks = rw c.if-not-branch.false at c.in_ok-advance.ensures.passes.checks in
-    let keeps = rw so_far.reads at c.in_ok-advance.ensures.passes.visits (ap Ok c.if-not-branch.false) in
+    let keeps = rw so_far.reads at c.in_ok-advance.ensures.passes.keeps (ap Ok c.if-not-branch.false) in
     let listed = lists-kept _ given keeps in
     let current = rw c.if-not-branch.false at c.in_ok-advance.ensures.passes.current in
     let seen : Some (passing_judged c.in-Some.paragraph).seen ≡ Some given = c.in-Some.ensures.seen ∙ current in

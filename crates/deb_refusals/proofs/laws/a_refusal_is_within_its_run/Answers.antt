@@ -1,5 +1,0 @@
-use Rattle.deb_refusals.proofs.Ascending.{runs_are_in_order}
-use Rattle.deb_refusals.proofs.laws.a_refusal_is_within_its_run.Goals as goal
-
-pub returns : goal.returns
-returns c = runs_are_in_order

@@ -1,5 +1,0 @@
-use Rattle.deb_refusals.proofs.Accepted.{accepted_has_one_line}
-use Rattle.deb_refusals.proofs.laws.an_accepted_file_has_its_last_line_alone.Goals as goal
-
-pub returns : goal.returns
-returns c = accepted_has_one_line

@@ -1,5 +1,0 @@
-use Rattle.deb_refusals.proofs.Counts.{each_has_one_explanation}
-use Rattle.deb_refusals.proofs.laws.each_refusal_has_one_explanation.Goals as goal
-
-pub returns : goal.returns
-returns c = each_has_one_explanation

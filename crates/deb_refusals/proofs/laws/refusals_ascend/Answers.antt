@@ -1,5 +1,0 @@
-use Rattle.deb_refusals.proofs.Ascending.{refusals_ascend}
-use Rattle.deb_refusals.proofs.laws.refusals_ascend.Goals as goal
-
-pub returns : goal.returns
-returns c = refusals_ascend

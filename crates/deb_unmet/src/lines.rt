@@ -1,0 +1,99 @@
+//! Lines of a paragraph.
+
+ghost use Rattle.std.specs.Prelude.{◌≡◌, ◌++◌, IfOk, OnOk};
+ghost use Rattle.std.specs.Option.{option_map};
+ghost use Rattle.deb_control.specs.FieldTexts.{HasTexts};
+ghost use Rattle.deb_control.specs.ValueFiles.{ValueEntries};
+ghost use Rattle.deb_field.specs.Values.{ValueMeaning};
+ghost use Rattle.deb_relation.specs.Environments.{environment_of};
+ghost use Rattle.deb_relation.specs.Views.{names_of};
+ghost use Rattle.deb_index.specs.Indexes.{packages_of};
+ghost use Rattle.deb_unmet.specs.Fields.{fields_lines, own_environment, own_or, paragraph_lines};
+ghost use Rattle.deb_unmet.specs.Paragraphs.{heading_in, version_in};
+
+use crate::asked::Asked;
+use crate::group::{Question, append_groups};
+use crate::paragraph::Paragraph;
+use deb_base::FieldId;
+use deb_relation::{Env, EnvFault};
+use std::alloc::{AllocError, Global};
+
+/// Appends the lines of a paragraph.
+pub(crate) fn append_lines(
+    alloc: Global,
+    out: &mut Vec<u8>,
+    question: &Question<'_>,
+    paragraph: &Paragraph<'_>,
+) -> Result<(), AllocError>
+    ensures { (values : ValueEntries ValueMeaning) → HasTexts paragraph.now.texts.now values
+        → OnOk result (out.new.items ≡ out.old.items ++ paragraph_lines paragraph.now.asked
+        (environment_of question.now.environment.now) (packages_of question.now.index.now)
+        paragraph.now.number (version_in paragraph.now) values) }
+{
+    let own = own_environment(
+        alloc,
+        paragraph.asked,
+        question.environment,
+        paragraph.architecture(),
+    )?;
+    let own_question = Question {
+        index: question.index,
+        environment: own_or(own.as_ref(), question.environment),
+    };
+    append_fields(
+        alloc,
+        out,
+        &own_question,
+        paragraph,
+        paragraph.asked.fields(),
+    )
+}
+
+/// Returns the own environment, if there is one, and else the other.
+fn own_or<'a>(own: Option<&'a Env>, environment: &'a Env) -> &'a Env
+    ensures { environment_of result.now
+        ≡ own_or (option_map (λ e. environment_of e.now) own.entry)
+        (environment_of environment.now) }
+{
+    own.unwrap_or(environment)
+}
+
+/// Returns the environment of a binary package's own architecture, if that can be a target.
+fn own_environment(
+    alloc: Global,
+    asked: Asked,
+    environment: &Env,
+    architecture: &[u8],
+) -> Result<Option<Env>, AllocError>
+    ensures { IfOk result (λ own. option_map environment_of own
+        ≡ own_environment asked (environment_of environment.now) architecture.now) }
+{
+    if !asked.is_binary() {
+        return Ok(None);
+    }
+    match environment.for_target(alloc, architecture) {
+        Ok(own) => Ok(Some(own)),
+        Err(EnvFault::BadEnvironment) => Ok(None),
+        Err(EnvFault::Memory) => Err(AllocError),
+    }
+}
+
+/// Appends the lines of fields.
+fn append_fields(
+    alloc: Global,
+    out: &mut Vec<u8>,
+    question: &Question<'_>,
+    paragraph: &Paragraph<'_>,
+    fields: &[&[u8]],
+) -> Result<(), AllocError>
+    ensures { (values : ValueEntries ValueMeaning) → HasTexts paragraph.now.texts.now values
+        → OnOk result (out.new.items ≡ out.old.items ++ fields_lines
+        (environment_of question.now.environment.now) (packages_of question.now.index.now)
+        (heading_in paragraph.now) values (names_of fields.now)) }
+{
+    for field in fields {
+        let text = paragraph.texts.relation(FieldId::of(field).row());
+        append_groups(alloc, out, question, paragraph, field, text)?;
+    }
+    Ok(())
+}
