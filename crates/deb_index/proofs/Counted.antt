@@ -60,16 +60,7 @@ numbers_put k test packages p is =
     ∙ ap (λ j. cond (test p) (numbers_of test packages ++ j ∷ []) (numbers_of test packages)) own
     ∙ ap (λ l. cond (test p) l (numbers_of test packages)) (sym (put_above (k + 1) (numbers_of test packages) below))
 
--- the numbers of a front of a list with one more element
-pub numbers_next : {X : Type 0} (view : X → Listed) (test : Listed → Bool) (xs : List X) (i : ℕ) (x : X) → i < length xs → x ≡ get_or xs i x
-    → numbers_of test (map view (take (i + 1) xs)) ≡ cond (test (view x)) (put_last (i + 1) (numbers_of test (map view (take i xs)))) (numbers_of test (map view (take i xs)))
-numbers_next view test xs i x within is =
-    let long : i ≡ length (map view (take i xs)) = grind (arith, common_steps) in
-    ap (λ l. numbers_of test (map view l)) (take_more xs i x within ∙ ap (λ y. take i xs ++ y ∷ []) (sym is))
-    ∙ ap (numbers_of test) (map-append view (take i xs) (x ∷ []))
-    ∙ numbers_put i test (map view (take i xs)) (view x) long
-
--- the same by the place of an element
+-- the numbers of a front of a list with one more element, by its place
 pub numbers_at : {X : Type 0} (view : X → Listed) (test : Listed → Bool) (xs : List X) (i : ℕ) (d : X) → i < length xs
     → numbers_of test (map view (take (i + 1) xs)) ≡ cond (test (view (get_or xs i d))) (put_last (i + 1) (numbers_of test (map view (take i xs)))) (numbers_of test (map view (take i xs)))
 numbers_at view test xs i d within =

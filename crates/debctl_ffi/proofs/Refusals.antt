@@ -40,7 +40,3 @@ wildcard_refused q text (Refused refusal) good packages lists is =
 wildcard_refused q text Memory good packages lists is = tt
 wildcard_refused q text Read good packages lists is = absurd is
 wildcard_refused q text Write good packages lists is = absurd is
-
--- out of memory refuses nothing
-pub memory_refused : (Fact : Refusal → Type 0) (fault : Fault) → fault ≡ Memory → RefusedOrMemory fault Fact
-memory_refused Fact fault is = subst (λ f. RefusedOrMemory f Fact) (sym is) tt
