@@ -68,7 +68,8 @@ pub fn an_end_behind_paragraphs_is_of_the_file()
     ensures { EndBehindIsOfTheFile }
 {}
 
-/// The first refusal of the stream of a file, if it has one, is the refusal of the file.
+/// The first refusal of the stream of a file, if it has one, is the refusal of the file, which
+/// `check` returns.
 pub fn the_first_refusal_is_of_the_file()
     ensures { FirstIsTheRefusal }
 {}
@@ -99,11 +100,6 @@ pub fn the_end_ends_the_stream()
 /// A file has no line of a refusal exactly if it is accepted with some meaning.
 pub fn no_line_is_acceptance()
     ensures { NoLineIsAccepted }
-{}
-
-/// The first refusal of a file, if it has one, is the one that `check` returns.
-pub fn the_first_line_is_that_of_check()
-    ensures { FirstIsTheRefusal }
 {}
 
 /// For a kind of document that has exactly one paragraph, the only refusal, if there is one, is the
