@@ -1,5 +1,5 @@
 -- The texts of fields that are appended one after another, and the first whose value is refused.
-use Rattle.deb_control.proofs.Common.{◌≡◌, ℕ, ◌+◌, ◌<◌, List, ◌∷◌, ◌++◌, length, drop, get_or, slice_get, option_map, Option, None, Some, IsSome, add-one, suc, is_some, false≢true, All-drop, sym, ap, ◌∙◌, subst, append_assoc, flat_map, All-from_recursion, AllByRecursion, canonical_name, Code, Field, field_of, RawField, Doc, kind_of, kind_refusal, value_text, behind_colon, rules_of, IsGood, no_field, picked, text_under}
+use Rattle.deb_control.proofs.Common.{◌≡◌, ℕ, ◌+◌, ◌<◌, List, ◌∷◌, ◌++◌, length, drop, get_or, slice_get, option_map, Some, IsSome, add-one, suc, is_some, false≢true, All-drop, sym, ap, ◌∙◌, subst, append_assoc, flat_map, AllByRecursion, canonical_name, Field, field_of, RawField, Doc, kind_of, kind_refusal, value_text, rules_of, IsGood, no_field, picked, text_under}
 use Rattle.std.proofs.lemmas.Option.{get_or_from_slice_get}
 use Rattle.std.proofs.Math.Seq.{drop-cons}
 use Rattle.std.proofs.lemmas.List.{drop-map}

@@ -1,9 +1,8 @@
 -- The fields of a paragraph in the order of their canonical names: how they are put in order, and what their texts are together.
-use Rattle.deb_control.proofs.Common.{◌≡◌, ℕ, zero, suc, ◌+◌, ◌<◌, ◌||◌, Bool, true, false, List, [], ◌∷◌, ◌++◌, length, map, take, drop, get_or, slice_get, Option, None, Some, IsSome, Less, refl, sym, ap, ◌∙◌, subst, arith, false≢true, bytes_eq-Decides, bytes_eq, flat_map, IsPermutation, All-from_recursion, All-permutation, recursion_from_All, AllByRecursion, IsSortedBy, folded, canonical_name, folded-from_canonical_name, Field, has_name, AreDistinct, byte_order, Refusal, distinct-permutation, entries_of-permutation, paragraph_text, canonical_entries, canonical_field, refusal_or, value_refusal_of, Rules, AreRows, ArePlaced, IsGood, IsListOf, IsOrderOf, IsRow, NamesAscend, comes_first, known_names, no_field, numbers_in, picked, text_under}
+use Rattle.deb_control.proofs.Common.{◌≡◌, ℕ, zero, suc, ◌+◌, ◌<◌, ◌||◌, Bool, true, false, List, [], ◌∷◌, ◌++◌, length, map, take, drop, get_or, Option, None, Some, IsSome, Less, refl, sym, ap, ◌∙◌, subst, arith, false≢true, bytes_eq-Decides, bytes_eq, flat_map, IsPermutation, All-from_recursion, All-permutation, recursion_from_All, AllByRecursion, IsSortedBy, folded, canonical_name, folded-from_canonical_name, Field, has_name, AreDistinct, byte_order, Refusal, distinct-permutation, entries_of-permutation, paragraph_text, canonical_entries, canonical_field, refusal_or, value_refusal_of, Rules, AreRows, ArePlaced, IsGood, IsListOf, IsOrderOf, NamesAscend, comes_first, known_names, no_field, numbers_in, picked, text_under}
 use Rattle.std.proofs.Common.{set}
 use Rattle.std.proofs.lemmas.List.{take-append-drop, take_all, length-take-le}
-use Rattle.std.proofs.lemmas.List.Sorted.{IsPermutation-append_left, IsPermutation-cons, IsPermutation-map, IsPermutation-middle, IsPermutation-refl, IsPermutation-sym, IsPermutation-to_front, IsPermutation-trans}
-use Rattle.std.proofs.lemmas.Option.{get_or_from_slice_get, slice_get_within}
+use Rattle.std.proofs.lemmas.List.Sorted.{IsPermutation-cons, IsPermutation-map, IsPermutation-middle, IsPermutation-refl, IsPermutation-sym, IsPermutation-to_front, IsPermutation-trans}
 use Rattle.std.proofs.Math.Seq.{drop-cons, take-append-add}
 use Rattle.deb_base.specs.Kinds.{known_fields, known_row}
 use Rattle.deb_syntax.proofs.DistinctNames.{has_name-distinct}

@@ -1,5 +1,5 @@
 -- The words and relations of fields in spans of a buffer, and that they are those of the paragraph's values.
-use Rattle.deb_control.proofs.Common.{◌≡◌, ℕ, ◌<◌, ◌≤◌, ◌==◌, Bool, true, false, List, [], ◌∷◌, ◌++◌, length, map, get_or, Option, None, Some, IfSome, refl, sym, ap, ◌∙◌, subst, arith, append_assoc, length-append, false≢true, find, canonical_name, Seen, byte_order, entries_of, Doc, kind_of_canonical_name, value_law, SpellsKind, SpellsValue, ValueMeaning, value_text, AreValuesOf, ValueEntries, Visit, VisitsValues, drop, take}
+use Rattle.deb_control.proofs.Common.{◌≡◌, ℕ, ◌<◌, ◌≤◌, ◌==◌, Bool, true, false, List, [], ◌∷◌, ◌++◌, length, map, get_or, Option, None, Some, IfSome, refl, sym, ap, ◌∙◌, subst, arith, append_assoc, length-append, false≢true, find, canonical_name, Seen, byte_order, entries_of, Doc, kind_of_canonical_name, value_law, SpellsKind, SpellsValue, ValueMeaning, value_text, AreValuesOf, ValueEntries, Visit, VisitsValues, drop}
 use Rattle.std.proofs.Common.{nat_lt, set}
 use Rattle.std.proofs.lemmas.Bool.{eq-eqb, eqb-true, ltb-false, ltb-true}
 use Rattle.std.proofs.lemmas.List.{drop_at, get_or-map, get_or-set_other, get_or_past, length-set, take-append-le, take_all}

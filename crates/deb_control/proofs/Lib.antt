@@ -55,3 +55,4 @@ pub mod Renumbered
 pub mod RemainingLines
 pub mod Remaining
 pub mod Ascending
+pub mod SpelledAlike

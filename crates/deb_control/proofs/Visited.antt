@@ -1,5 +1,5 @@
 -- The fields that were visited so far, and the values that were visited with them.
-use Rattle.deb_control.proofs.Common.{◌≡◌, ℕ, ◌+◌, ◌≤◌, ◌||◌, min, List, [], ◌∷◌, ◌++◌, length, map, slice_get, option_map, Option, None, Some, refl, sym, ap, ◌∙◌, arith, bytes_eq, sum_by-append, sum_by-cons, AllByRecursion, folded, canonical_name, Seen, Field, has_name, AreDistinct, entries_of, field_of, RawField, Doc, kind_of, rules_of, HoldsFound, seen_found, canonical_field, canonical_entries, Visit, IsVisit, fields_visited, canonical_visit, visit_text, VisitsField, VisitsFields, VisitsValues, texts_length, most}
+use Rattle.deb_control.proofs.Common.{◌≡◌, ℕ, ◌+◌, ◌≤◌, ◌||◌, min, List, [], ◌∷◌, ◌++◌, length, map, slice_get, option_map, Option, None, Some, refl, sym, ap, ◌∙◌, arith, bytes_eq, sum_by-append, sum_by-cons, AllByRecursion, folded, canonical_name, Seen, Field, has_name, AreDistinct, entries_of, field_of, RawField, Doc, kind_of, rules_of, HoldsFound, seen_found, canonical_field, canonical_entries, Visit, IsVisit, fields_visited, canonical_visit, visit_text, VisitsField, VisitsFields, texts_length, most}
 use Rattle.deb_control.proofs.DocumentRules.{document_rules}
 use Rattle.deb_control.proofs.FieldsRead.{HasRead, HasRead-next, HasRead-end}
 

@@ -39,3 +39,4 @@ pub mod GivenRefusals
 pub mod WrittenRefusals
 pub mod Ascending
 pub mod Remaining
+pub mod SpelledAlike

@@ -39,6 +39,14 @@ impl CanonText {
         }
     }
 
+    /// Replaces the text.
+    pub(crate) fn set(&mut self, text: &[u8]) -> Result<(), AllocError>
+        ensures { OnOk result (self.new.text.items ≡ text.now) }
+    {
+        self.text.clear();
+        self.text.extend_from_slice(text)
+    }
+
     /// Writes the text of a paragraph, and returns whether none of its values is refused. If one
     /// is, the text isn't whole.
     fn write(&mut self, alloc: Global, doc: Doc, paragraph: &Raw<'_>) -> Result<bool, AllocError>

@@ -10,6 +10,7 @@ ghost use Rattle.deb_control.specs.Refusals.{built};
 ghost use Rattle.deb_control.specs.Resuming.{is_inside, is_none_or_refusal};
 ghost use Rattle.deb_control.specs.Visiting.{PassesKeeping, PassesVisiting};
 
+use crate::beside::Beside;
 use crate::canon_text::CanonText;
 use crate::checked_text::CheckedText;
 use crate::checked_view::CheckedView;
@@ -114,7 +115,27 @@ impl Checked {
         ensures source_untouched { IsQuietChecked (checked_state self.old) → reader.new ≡
             reader.old }
     {
-        if self.step(reader)? {
+        self.next_beside(None, reader)
+    }
+
+    /// Returns the next paragraph, as `next` does, sooner if it is spelled as this one.
+    pub(crate) fn next_beside<'a, R: Source>(
+        &'a mut self,
+        other: Option<CheckedText<'_>>,
+        reader: &mut R,
+    ) -> Result<Option<CheckedText<'a>>, Fault>
+        ensures doc { IfOk result
+            (λ given. IfSome given (λ accepted. doc_of accepted ≡ self.old.doc)) }
+        ensures* after { sem 𝓛
+            (Rests the_row self.entry
+            (λ new. ChecksOn self.old.doc
+            (checked_moment self.old (R.left reader.old) (R.failures reader.old))
+            (checked_answer result) (checked_moment new (R.left reader.new) (R.failures reader.new))
+            × (new.doc ≡ self.old.doc))) }
+        ensures source_untouched { IsQuietChecked (checked_state self.old) → reader.new ≡
+            reader.old }
+    {
+        if self.step(other, reader)? {
             Ok(self.accepted())
         } else {
             Ok(None)
@@ -277,7 +298,11 @@ impl Checked {
 
     /// Goes on to the next paragraph, which `accepted` then returns with its canonical text, and
     /// returns whether there is one.
-    fn step<R: Source>(&mut self, reader: &mut R) -> Result<bool, Fault>
+    fn step<R: Source>(
+        &mut self,
+        other: Option<CheckedText<'_>>,
+        reader: &mut R,
+    ) -> Result<bool, Fault>
         ensures checks { ChecksOn self.old.doc
             (checked_moment self.old (R.left reader.old) (R.failures reader.old))
             (current_answer self.old.doc (checked_state self.new).current result)
@@ -288,9 +313,10 @@ impl Checked {
         ensures source_untouched { IsQuietChecked (checked_state self.old) → reader.new ≡
             reader.old }
     {
-        let mut canon = mem::replace(&mut self.canon, CanonText::new(self.alloc));
-        let found = self.go(&mut canon, reader);
-        self.canon = canon;
+        let canon = mem::replace(&mut self.canon, CanonText::new(self.alloc));
+        let mut beside = Beside { other, canon };
+        let found = self.go(&mut beside, reader);
+        self.canon = mem::replace(&mut beside.canon, CanonText::new(self.alloc));
         found
     }
 

@@ -2,12 +2,13 @@
 
 ghost use Rattle.std.specs.Prelude.{◌≡◌, List, IsTrue};
 ghost use Rattle.deb_syntax.specs.Paragraphs.{seen_of};
+ghost use Rattle.deb_control.specs.SpelledAlike.{HasPassingText};
 ghost use Rattle.deb_control.specs.Checking.{is_passing};
 
 use crate::checked_view::CheckedView;
 use crate::paragraph::Paragraph;
-use deb_field::Value;
-use deb_syntax::{Fields, RawField};
+use deb_field::{Doc, Value};
+use deb_syntax::{Fields, Raw, RawField};
 use std::alloc::{AllocError, Global};
 
 /// A view of a paragraph that passes every rule of its kind of document: its fields as they are in
@@ -20,7 +21,7 @@ pub struct CheckedText<'a> {
 }
 
 impl<'a> CheckedText<'a> {
-    ghost use Rattle.std.specs.Prelude.{IfOk, option_map};
+    ghost use Rattle.std.specs.Prelude.{IfOk, IfSome, option_map};
     ghost use Rattle.std.specs.List.Sorted.{IsPermutation};
     ghost use Rattle.deb_syntax.specs.Raw.{field_of, field_named, fields_left};
     ghost use Rattle.deb_field.specs.ValueMeanings.{value_meaning};
@@ -36,6 +37,19 @@ impl<'a> CheckedText<'a> {
             ≡ record { seen = seen_of view.entry.raw; text = canonical.now } }
     {
         CheckedText { view, canonical }
+    }
+
+    /// Returns this paragraph's canonical text if that is also the text of another one, since both
+    /// are spelled alike, and documents of one kind.
+    pub(crate) fn text_beside(&self, doc: Doc, paragraph: &Raw<'_>) -> Option<&'a [u8]>
+        ensures { IfSome result
+            (λ text. HasPassingText doc (seen_of paragraph.now) text.now) }
+    {
+        if self.view.is_like(doc, paragraph) {
+            Some(self.canonical)
+        } else {
+            None
+        }
     }
 
     /// Returns the number of the paragraph's first line in its file, counted from 1.

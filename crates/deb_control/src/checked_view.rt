@@ -1,9 +1,12 @@
 //! A view of a paragraph that passes, without its canonical text.
 
-ghost use Rattle.std.specs.Prelude.{◌≡◌, List, IsTrue};
+ghost use Rattle.std.specs.Prelude.{◌≡◌, List, IsTrue, true};
 ghost use Rattle.deb_syntax.specs.Paragraphs.{seen_of};
+ghost use Rattle.deb_syntax.specs.Raw.{fields_of};
+ghost use Rattle.deb_control.specs.SpelledAlike.{spelled_in};
 ghost use Rattle.deb_control.specs.Checking.{is_judged};
 
+use crate::alike::are_alike;
 use crate::paragraph::Paragraph;
 use crate::paragraph_check::value_of;
 use deb_base::Fault;
@@ -36,6 +39,14 @@ impl<'a> CheckedView<'a> {
         ensures seen { (passing_judged result).seen ≡ seen_of raw.entry }
     {
         CheckedView { doc, raw }
+    }
+
+    /// Whether a paragraph of a document of this kind is spelled as this one.
+    pub(crate) fn is_like(&self, doc: Doc, paragraph: &Raw<'_>) -> bool
+        ensures { result ≡ true → (self.now.doc ≡ doc)
+            × (spelled_in (fields_of paragraph.now) ≡ spelled_in (fields_of self.now.raw)) }
+    {
+        self.doc == doc && are_alike(paragraph, &self.raw)
     }
 
     /// Returns the number of the paragraph's first line in its file, counted from 1.

@@ -156,7 +156,7 @@ fn agree<R: Source, S: Source>(
             Ok(left) => left,
             Err(fault) => return Err(at_first(fault)),
         };
-        let right = match other.next(second) {
+        let right = match other.next_beside(left, second) {
             Ok(right) => right,
             Err(fault) => return Err(at_second(fault)),
         };

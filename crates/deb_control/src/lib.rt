@@ -15,6 +15,8 @@
 //! that is refused, and [`check_all`] writes a line for each and a last one with the counts.
 #![tactic(auto)]
 
+mod alike;
+mod beside;
 mod canon_text;
 mod checked;
 mod checked_text;

@@ -1,4 +1,4 @@
-use Rattle.deb_control.proofs.Common.{◌++◌, sym, refl, subst, canonical_name}
+use Rattle.deb_control.proofs.Common.{refl, subst}
 use Rattle.deb_base.specs.declared.kind.Kind.TheVariants as kinds
 use Rattle.deb_control.specs.CanonTexts.{AppendsValue}
 use Rattle.deb_control.proofs.canon_text.append_field.Goals as goal

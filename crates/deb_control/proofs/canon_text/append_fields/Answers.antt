@@ -1,4 +1,4 @@
-use Rattle.deb_control.proofs.Common.{◌≡◌, ◌<◌, Ok, IsSome, ◌∙◌, ap, subst, length, get_or, All-from_recursion, fields_of, field_of, kind_refusal}
+use Rattle.deb_control.proofs.Common.{◌<◌, Ok, IsSome, ◌∙◌, ap, subst, length, get_or, All-from_recursion, fields_of, field_of, kind_refusal}
 use Rattle.deb_control.specs.CanonTexts.{AppendsField}
 use Rattle.deb_control.proofs.AppendedFields.{good-next, not_good, texts-next}
 use Rattle.deb_control.proofs.FieldsRead.{none_is_past}

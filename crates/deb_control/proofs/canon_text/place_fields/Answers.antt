@@ -1,4 +1,4 @@
-use Rattle.deb_control.proofs.Common.{◌≡◌, ◌<◌, ◌∙◌, sym, ap, subst, arith, length, slice_get, get_or, Some, fields_of, field_of, no_field}
+use Rattle.deb_control.proofs.Common.{◌≡◌, ◌<◌, ◌∙◌, sym, ap, subst, arith, length, get_or, fields_of, field_of, no_field}
 use Rattle.std.proofs.lemmas.Option.{get_or_from_slice_get}
 use Rattle.deb_base.specs.Kinds.{known_row}
 use Rattle.deb_control.proofs.Building.{distinct-from}

@@ -27,21 +27,21 @@ pub returns-in-Err-clause-first : goal.returns-in-Err-clause-first
 returns-in-Err-clause-first g c =
     rw c.at_first.ensures (reads-err _ _ _ _ _ _ c.loop.invariant.one c.in-Err.fault (rw c.in-Err.is at c.next.follows.holds-at-none.0))
 
-pub returns-in-Err-next-clause-first : goal.returns-in-Err-next-clause-first
-returns-in-Err-next-clause-first g c =
+pub returns-in-Err-next_beside-clause-first : goal.returns-in-Err-next_beside-clause-first
+returns-in-Err-next_beside-clause-first g c =
     let passes = rw c.in-Ok.is at c.next.follows.holds-at-none in
     rw c.at_second.ensures (reads-ok _ _ _ _ _ _ c.loop.invariant.one tt (option_map passing_of c.in-Ok.left) passes.0 passes.1)
 
-pub returns-in-Err-next-clause-second : goal.returns-in-Err-next-clause-second
-returns-in-Err-next-clause-second g c =
-    rw c.at_second.ensures (reads-err _ _ _ _ _ _ c.loop.invariant.other c.in-Err-next.fault (rw c.in-Err-next.is at c.next-in-loop.follows.holds-at-none.0))
+pub returns-in-Err-next_beside-clause-second : goal.returns-in-Err-next_beside-clause-second
+returns-in-Err-next_beside-clause-second g c =
+    rw c.at_second.ensures (reads-err _ _ _ _ _ _ c.loop.invariant.other c.in-Err-next_beside.fault (rw c.in-Err-next_beside.is at c.next_beside.follows.holds-at-none.0))
 
 pub returns-in_default-clause-agrees : goal.returns-in_default-clause-agrees
 returns-in_default-clause-agrees g c = λ text text_too fits fits_too.
     let left = rw (c.in-Ok.is, c.in_default.is, c.loop.invariant.one.doc) at c.next.follows.holds-at-none in
-    let right = rw (c.in-Ok-next.is, c.loop.invariant.other.doc ∙ c.requires.doc) at c.next-in-loop.follows.holds-at-none in
-    subst (Agrees c.args.one.now.doc text text_too) (none-passing c.in-Ok-next.right ∙ ap not c.is_none.ensures ∙ not-not c.is_none.result)
-    (compared _ text text_too _ _ _ _ None (option_map passing_of c.in-Ok-next.right) (c.loop.invariant.both text text_too fits fits_too) c.loop.invariant.one.sound c.loop.invariant.other.sound left.0 right.0)
+    let right = rw (c.in-Ok-next_beside.is, c.loop.invariant.other.doc ∙ c.requires.doc) at c.next_beside.follows.holds-at-none in
+    subst (Agrees c.args.one.now.doc text text_too) (none-passing c.in-Ok-next_beside.right ∙ ap not c.is_none.ensures ∙ not-not c.is_none.result)
+    (compared _ text text_too _ _ _ _ None (option_map passing_of c.in-Ok-next_beside.right) (c.loop.invariant.both text text_too fits fits_too) c.loop.invariant.one.sound c.loop.invariant.other.sound left.0 right.0)
 
 pub returns-in_default-clause-first : goal.returns-in_default-clause-first
 returns-in_default-clause-first g c =
@@ -50,13 +50,13 @@ returns-in_default-clause-first g c =
 
 pub returns-in_default-clause-second : goal.returns-in_default-clause-second
 returns-in_default-clause-second g c =
-    let passes = rw c.in-Ok-next.is at c.next-in-loop.follows.holds-at-none in
-    reads-ok _ _ _ _ _ _ c.loop.invariant.other tt (option_map passing_of c.in-Ok-next.right) passes.0 passes.1
+    let passes = rw c.in-Ok-next_beside.is at c.next_beside.follows.holds-at-none in
+    reads-ok _ _ _ _ _ _ c.loop.invariant.other tt (option_map passing_of c.in-Ok-next_beside.right) passes.0 passes.1
 
 pub returns-in_default-right-clause-agrees : goal.returns-in_default-right-clause-agrees
 returns-in_default-right-clause-agrees g c = λ text text_too fits fits_too.
     let left = rw (c.in-Ok.is, c.in-Some.is, c.loop.invariant.one.doc) at c.next.follows.holds-at-none in
-    let right = rw (c.in-Ok-next.is, c.in_default-right.is, c.loop.invariant.other.doc ∙ c.requires.doc) at c.next-in-loop.follows.holds-at-none in
+    let right = rw (c.in-Ok-next_beside.is, c.in_default-right.is, c.loop.invariant.other.doc ∙ c.requires.doc) at c.next_beside.follows.holds-at-none in
     compared _ text text_too _ _ _ _ (Some (passing_of c.in-Some.left)) None (c.loop.invariant.both text text_too fits fits_too) c.loop.invariant.one.sound c.loop.invariant.other.sound left.0 right.0
 
 pub returns-in_default-right-clause-first : goal.returns-in_default-right-clause-first
@@ -66,13 +66,13 @@ returns-in_default-right-clause-first g c =
 
 pub returns-in_default-right-clause-second : goal.returns-in_default-right-clause-second
 returns-in_default-right-clause-second g c =
-    let passes = rw c.in-Ok-next.is at c.next-in-loop.follows.holds-at-none in
-    reads-ok _ _ _ _ _ _ c.loop.invariant.other tt (option_map passing_of c.in-Ok-next.right) passes.0 passes.1
+    let passes = rw c.in-Ok-next_beside.is at c.next_beside.follows.holds-at-none in
+    reads-ok _ _ _ _ _ _ c.loop.invariant.other tt (option_map passing_of c.in-Ok-next_beside.right) passes.0 passes.1
 
 pub returns-then-ne-clause-agrees : goal.returns-then-ne-clause-agrees
 returns-then-ne-clause-agrees g c = λ text text_too fits fits_too.
     let left = rw (c.in-Ok.is, c.in-Some.is, c.loop.invariant.one.doc) at c.next.follows.holds-at-none in
-    let right = rw (c.in-Ok-next.is, c.in-Some-right.is, c.loop.invariant.other.doc ∙ c.requires.doc) at c.next-in-loop.follows.holds-at-none in
+    let right = rw (c.in-Ok-next_beside.is, c.in-Some-right.is, c.loop.invariant.other.doc ∙ c.requires.doc) at c.next_beside.follows.holds-at-none in
     let tells = compared _ text text_too _ _ _ _ (Some (passing_of c.in-Some.left)) (Some (passing_of c.in-Some-right.right)) (c.loop.invariant.both text text_too fits fits_too) c.loop.invariant.one.sound c.loop.invariant.other.sound left.0 right.0 in
     tells.1 (λ same.
     let equal = (bytes_eq-Decides c.canonical_text.result.now c.canonical_text-in-loop.result.now).1 (c.canonical_text.ensures ∙ same ∙ sym c.canonical_text-in-loop.ensures) in
@@ -85,13 +85,13 @@ returns-then-ne-clause-first g c =
 
 pub returns-then-ne-clause-second : goal.returns-then-ne-clause-second
 returns-then-ne-clause-second g c =
-    let passes = rw c.in-Ok-next.is at c.next-in-loop.follows.holds-at-none in
-    reads-ok _ _ _ _ _ _ c.loop.invariant.other tt (option_map passing_of c.in-Ok-next.right) passes.0 passes.1
+    let passes = rw c.in-Ok-next_beside.is at c.next_beside.follows.holds-at-none in
+    reads-ok _ _ _ _ _ _ c.loop.invariant.other tt (option_map passing_of c.in-Ok-next_beside.right) passes.0 passes.1
 
 pub loop-preserved : goal.loop-preserved
 loop-preserved g c =
     let left = rw (c.in-Ok.is, c.in-Some.is) at c.next.follows.holds-at-none in
-    let right = rw (c.in-Ok-next.is, c.in-Some-right.is) at c.next-in-loop.follows.holds-at-none in
+    let right = rw (c.in-Ok-next_beside.is, c.in-Some-right.is) at c.next_beside.follows.holds-at-none in
     let equal = (bytes_eq-Decides c.canonical_text.result.now c.canonical_text-in-loop.result.now).0 (sym (not-not (bytes_eq c.canonical_text.result.now c.canonical_text-in-loop.result.now)) ∙ ap not (sym c.ne.ensures ∙ c.if-ne.false)) in
     record {
       one = reads-ok _ _ _ _ _ _ c.loop.invariant.one tt (Some (passing_of c.in-Some.left)) left.0 left.1;
