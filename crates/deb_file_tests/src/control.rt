@@ -6,9 +6,9 @@ mod failing;
 mod given;
 mod memory;
 
-use crate::devices::{Pieces, SIZES};
 use deb_base::{Code, Fault, Input, Output, Refusal};
 use deb_control::{Checked, Paragraph, check, normalise};
+use deb_devices::{Pieces, SIZES};
 use deb_field::Doc;
 use deb_syntax::Paragraphs;
 use std::alloc::Global;

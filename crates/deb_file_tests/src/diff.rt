@@ -1,8 +1,8 @@
 //! Tests of `diff`: moved and equal paragraphs, each kind of line, and a refusal, in pieces.
 
-use crate::devices::{Pieces, SIZES};
 use deb_base::{Code, Fault, Input, Refusal, VecSink, VersionText};
 use deb_control::{Side, SideFault};
+use deb_devices::{Pieces, SIZES};
 use deb_diff::{Detail, Form, Kind, diff};
 use std::alloc::Global;
 

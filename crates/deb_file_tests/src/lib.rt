@@ -8,7 +8,6 @@
 
 #[cfg(test)]
 mod control;
-pub mod devices;
 #[cfg(test)]
 mod diff;
 #[cfg(test)]

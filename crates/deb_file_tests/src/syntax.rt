@@ -4,8 +4,8 @@
 mod failing;
 mod raw;
 
-use crate::devices::{Pieces, SIZES};
 use deb_base::{Code, Fault, Input, Refusal};
+use deb_devices::{Pieces, SIZES};
 use deb_syntax::{Paragraphs, Raw};
 use std::alloc::Global;
 use std::process::Abort;

@@ -2,8 +2,8 @@
 //! and devices that fail.
 
 use deb_base::{Code, Fault, Input, Output, Refusal, VersionText};
+use deb_devices::{Pieces, SIZES, Slow, Then};
 use deb_field::MultiArch;
-use deb_file_tests::devices::{Pieces, SIZES, Slow, Then};
 use deb_index::Verdict::{Ignored, Met, Unmet};
 use deb_index::{DetailedReport, Index, Question, Report};
 use deb_relation::{Env, Relation};

@@ -1,5 +1,5 @@
 //! Tests of the libraries that answer queries over an index, by their public functions, in the way
-//! of `deb_file_tests`, whose devices they use.
+//! of `deb_file_tests`.
 #![tactic(auto)]
 
 #[cfg(test)]

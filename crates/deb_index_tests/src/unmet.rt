@@ -2,7 +2,7 @@
 //! before a refusal.
 
 use deb_base::{Code, Fault, Input, Output, Refusal, VersionText};
-use deb_file_tests::devices::{Pieces, SIZES};
+use deb_devices::{Pieces, SIZES};
 use deb_index::Index;
 use deb_relation::Env;
 use deb_unmet::{Asked, Request, Strength, Summary, unmet};

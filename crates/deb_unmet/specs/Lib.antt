@@ -1,4 +1,5 @@
 pub mod Readings
+pub mod Plain
 pub mod Troubles
 pub mod SoFar
 pub mod GroupReadings

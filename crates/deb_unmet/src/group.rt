@@ -15,6 +15,7 @@ ghost use Rattle.deb_unmet.specs.Troubles.{group_lines, is_met, trouble, trouble
 
 use crate::applying::{Applies, applies_by};
 use crate::paragraph::Paragraph;
+use crate::plain::is_plainly_met;
 use crate::trouble::Trouble;
 use deb_index::{Index, cut_group, next_alternative, only_alternative};
 use deb_relation::{Alternative, Env, Relation};
@@ -63,6 +64,9 @@ fn append_group(
         (environment_of question.now.environment.now) (packages_of question.now.index.now)
         (heading_in paragraph.now) field.now g)) }
 {
+    if is_plainly_met(question, group) {
+        return Ok(());
+    }
     let why = trouble_of(alloc, question, group)?;
     append_line(out, why, paragraph, field, group)
 }

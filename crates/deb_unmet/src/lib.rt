@@ -19,6 +19,7 @@ mod group;
 pub mod laws;
 mod lines;
 mod paragraph;
+mod plain;
 mod trouble;
 
 pub use asked::{Asked, Request, Strength};

@@ -1,7 +1,7 @@
 //! Tests of readers and writers that fail: what is returned, and what was written by then.
 
 use super::*;
-use crate::devices::{Slow, Then};
+use deb_devices::{Slow, Then};
 
 /// Three paragraphs. The first two are closed by a blank line: with its newline they have 42 and 92
 /// bytes.

@@ -1,7 +1,7 @@
 //! Tests of readers that fail or never end, of how much is read, and of out of memory.
 
 use super::*;
-use crate::devices::Endless;
+use deb_devices::Endless;
 
 const FILE: &[u8] = b"A: 1\n\n \nB: 2\n c\n\nC: 3\n\t\n\nD: 4";
 

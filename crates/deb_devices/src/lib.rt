@@ -1,4 +1,5 @@
-//! Readers and writers for the tests.
+//! Readers and writers for the tests: they take or return a few bytes a call, have no end, or fail.
+#![tactic(auto)]
 
 use std::alloc::Global;
 use std::io::{self, ErrorKind, Read, Write};
