@@ -1,15 +1,22 @@
 -- The numbers of elements that aren't paired yet, under their keys.
-use Rattle.std.specs.Prelude.{◌≡◌, ℕ, List, [], ◌∷◌, Option, None, Some, refl}
+use Rattle.std.specs.Prelude.{◌≡◌, ℕ, List, [], ◌∷◌, length, Option, None, Some, refl}
 use Rattle.std.specs.Option.{option_map_or}
-use Rattle.std.specs.BTreeMap.{get_by}
+use Rattle.std.specs.BTreeMap.{BTreeMap, get_by}
+use Rattle.std.specs.Borrow.{Bor}
 use Rattle.std.specs.Cmp.Lexicographic.{slice_cmp}
 use Rattle.std.specs.Ordering.{nat_cmp}
+use Rattle.std.specs.declared.collections.VecDeque.{VecDeque}
 use Rattle.deb_diff.specs.declared.waiting.Waiting.{Waiting}
+
+-- those under a key, of a map with keys of one length
+abbrev pub numbers_in : {B : Type 0} → BTreeMap (Bor (List ℕ)) (VecDeque ℕ B) → List ℕ → List ℕ
+numbers_in numbers key =
+    option_map_or (λ v. v.items) (get_by (λ k. slice_cmp nat_cmp key k.now) numbers) []
 
 abbrev pub numbers_under : Waiting → List ℕ → List ℕ
 numbers_under waiting key =
-    option_map_or (λ numbers. numbers.items)
-    (get_by (λ k. slice_cmp nat_cmp key k.now) waiting.map) []
+    option_map_or (λ numbers. numbers_in numbers key)
+    (get_by (nat_cmp (length key)) waiting.lengths) []
 
 abbrev pub first_of : {X : Type 0} → List X → Option X
 first_of [] = None
