@@ -43,6 +43,16 @@ change_in f bs m n w updates items cs = go (bytes_eq bs cs) refl
     go false apart =
         ap (λ o. option_map_or (λ v. v.items) o []) (lookup_other bs cs m.entries n.entries updates.3 (bytes_eq-sym cs bs ∙ apart))
 
+-- the same after two changes at the key
+pub change_twice : {B : Type 0} (f : List ℕ → List ℕ) (bs : List ℕ) (m n p : BTreeMap (Bor (List ℕ)) (VecDeque ℕ B)) (v w : VecDeque ℕ B) → UpdatesBy (λ x y. slice_cmp nat_cmp x.now y.now) (λ k. slice_cmp nat_cmp bs k.now) m n (Some v) → UpdatesBy (λ x y. slice_cmp nat_cmp x.now y.now) (λ k. slice_cmp nat_cmp bs k.now) n p (Some w)
+    → w.items ≡ f (numbers_in m bs) → (cs : List ℕ) → numbers_in p cs ≡ cond (bytes_eq bs cs) (f (numbers_in m cs)) (numbers_in m cs)
+change_twice f bs m n p v w first second items cs =
+    change_in (λ _. f (numbers_in m bs)) bs n p w second items cs ∙ go (bytes_eq bs cs) refl (change_in (λ _. v.items) bs m n v first refl cs)
+  where
+    go : (b : Bool) → bytes_eq bs cs ≡ b → numbers_in n cs ≡ cond (bytes_eq bs cs) v.items (numbers_in m cs) → cond b (f (numbers_in m bs)) (numbers_in n cs) ≡ cond b (f (numbers_in m cs)) (numbers_in m cs)
+    go true equal one = ap (λ l. f (numbers_in m l)) ((bytes_eq-Decides bs cs).0 equal)
+    go false apart one = one ∙ ap (λ b. cond b v.items (numbers_in m cs)) apart
+
 -- the numbers under a key, of a map with keys of its length or none
 abbrev among : {B : Type 0} → Option (BTreeMap (Bor (List ℕ)) (VecDeque ℕ B)) → List ℕ → List ℕ
 among found key = option_map_or (λ numbers. numbers_in numbers key) found []

@@ -75,13 +75,12 @@ fn push_under<'a>(
         ≡ cond (bytes_eq key.now other) (numbers_in map.old other ++ number ∷ [])
         (numbers_in map.old other)) }
 {
-    if let Some(numbers) = map.get_mut(key) {
-        numbers.push_back(number)?;
-        return Ok(());
-    }
     let mut numbers = VecDeque::new(alloc);
     numbers.push_back(number)?;
-    map.insert(key, numbers)?;
+    if let Some(mut earlier) = map.insert(key, numbers)? {
+        earlier.push_back(number)?;
+        map.insert(key, earlier)?;
+    }
     Ok(())
 }
 

@@ -1,22 +1,16 @@
-use Rattle.std.proofs.Common.{◌≡◌, ◌++◌, [], ◌∷◌, ℕ, List, cond, sym, ap, ◌∙◌, subst, rules}
+use Rattle.std.proofs.Common.{◌≡◌, ◌++◌, [], ◌∷◌, sym, ap, ◌∙◌, rules}
 use Rattle.std.specs.Option.{option_map_or}
-use Rattle.std.specs.Str.{bytes_eq}
-use Rattle.deb_diff.specs.Waiting.{numbers_in}
-use Rattle.deb_diff.proofs.Lookups.{change_in}
+use Rattle.deb_diff.proofs.Lookups.{change_in, change_twice}
 use Rattle.deb_diff.proofs.waiting.push_under.Goals as goal
 
-pub returns-in-Some : goal.returns-in-Some
-returns-in-Some c =
-    let items : c.push_back.new.self.items ≡ c.in-Some.numbers.now.items ++ c.args.number ∷ [] = search rules in
-    change_in (λ numbers. numbers ++ c.args.number ∷ []) c.args.key.now c.args.map.now (c.get_mut.follows.lender c.push_back.new.self) c.push_back.new.self ((c.get_mut.follows.holds c.push_back.new.self).3 (search rules))
-    (items ∙ ap (λ o. option_map_or (λ v. v.items) o [] ++ c.args.number ∷ []) c.in-Some.ensures.value)
+pub returns-in_default : goal.returns-in_default
+returns-in_default c =
+    let items : c.push_back.new.self.items ≡ c.args.number ∷ [] = search rules in
+    change_in (λ numbers. numbers ++ c.args.number ∷ []) c.args.key.now c.args.map.now c.insert.new.self c.push_back.new.self c.in_ok-earlier.ensures.updates
+    (items ∙ ap (λ o. option_map_or (λ v. v.items) o [] ++ c.args.number ∷ []) (sym c.in_default.is ∙ c.in_ok-earlier.ensures.old))
 
-pub returns : goal.returns
-returns c =
-    let m = c.get_mut.follows.lender-at-none in
-    let m_is : m ≡ c.args.map.now = search rules in
-    let none : numbers_in c.args.map.now c.args.key.now ≡ [] = ap (λ o. option_map_or (λ v. v.items) o []) (sym c.in_default.ensures.value) in
-    let list_is : c.push_back-2.new.self.items ≡ c.args.number ∷ [] = search rules in
-    subst (λ m. (other : List ℕ) → numbers_in c.insert.new.self other ≡ cond (bytes_eq c.args.key.now other) (numbers_in m other ++ c.args.number ∷ []) (numbers_in m other)) m_is
-    (change_in (λ numbers. numbers ++ c.args.number ∷ []) c.args.key.now m c.insert.new.self c.push_back-2.new.self c.in_ok-insert.ensures.updates
-    (list_is ∙ ap (λ l. l ++ c.args.number ∷ []) (sym (ap (λ m. numbers_in m c.args.key.now) m_is ∙ none))))
+pub returns-in_ok-insert : goal.returns-in_ok-insert
+returns-in_ok-insert c =
+    let items : c.push_back-in-Some.new.self.items ≡ c.in-Some.earlier.items ++ c.args.number ∷ [] = search rules in
+    change_twice (λ numbers. numbers ++ c.args.number ∷ []) c.args.key.now c.args.map.now c.insert.new.self c.insert-in-Some.new.self c.push_back.new.self c.push_back-in-Some.new.self c.in_ok-earlier.ensures.updates c.in_ok-insert.ensures.updates
+    (items ∙ ap (λ o. option_map_or (λ v. v.items) o [] ++ c.args.number ∷ []) (sym c.in-Some.is ∙ c.in_ok-earlier.ensures.old))
