@@ -1,5 +1,5 @@
 -- The numbers of elements that aren't paired yet, under their keys.
-use Rattle.std.specs.Prelude.{◌≡◌, ℕ, List, [], ◌∷◌, length, Option, None, Some, refl}
+use Rattle.std.specs.Prelude.{◌≡◌, ℕ, List, [], ◌∷◌, length, Option, None, Some, codes, refl}
 use Rattle.std.specs.Option.{option_map_or}
 use Rattle.std.specs.BTreeMap.{BTreeMap, get_by}
 use Rattle.std.specs.Borrow.{Bor}
@@ -30,3 +30,10 @@ worked-parts : (first_of {X = ℕ} (1 ∷ 2 ∷ []) ≡ Some 1)
     × (rest_of {X = ℕ} (1 ∷ 2 ∷ []) ≡ 2 ∷ [])
     × (first_of {X = ℕ} [] ≡ None) × (rest_of {X = ℕ} [] ≡ [])
 worked-parts = (refl, refl, refl, refl)
+
+-- several numbers under a key, and none under another
+worked-numbers_in : {B : Type 0} (numbers : BTreeMap (Bor (List ℕ)) (VecDeque ℕ B))
+    (key : Bor (List ℕ)) (v : VecDeque ℕ B) → numbers.entries ≡ (key, v) ∷ []
+    → key.now ≡ codes "a" → v.items ≡ 0 ∷ 2 ∷ []
+    → (numbers_in numbers (codes "a") ≡ 0 ∷ 2 ∷ []) × (numbers_in numbers (codes "b") ≡ [])
+worked-numbers_in numbers key v entries is items = rw (entries, is) (items, refl)
