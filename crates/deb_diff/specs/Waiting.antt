@@ -1,7 +1,9 @@
 -- The numbers of elements that aren't paired yet, under their keys.
-use Rattle.std.specs.Prelude.{◌≡◌, ℕ, List, [], ◌∷◌, length, Option, None, Some, codes, refl}
+use Rattle.std.specs.Prelude.{◌≡◌, ℕ, List, [], ◌∷◌, length, map, Option, None, Some, codes, refl}
+use Rattle.std.proofs.Common.{ap}
+use Rattle.std.specs.Map.{lookup}
 use Rattle.std.specs.Option.{option_map_or}
-use Rattle.std.specs.BTreeMap.{BTreeMap, get_by}
+use Rattle.std.specs.BTreeMap.{BTreeMap, get_by, is_at}
 use Rattle.std.specs.Borrow.{Bor}
 use Rattle.std.specs.Cmp.Lexicographic.{slice_cmp}
 use Rattle.std.specs.Ordering.{nat_cmp}
@@ -31,9 +33,14 @@ worked-parts : (first_of {X = ℕ} (1 ∷ 2 ∷ []) ≡ Some 1)
     × (first_of {X = ℕ} [] ≡ None) × (rest_of {X = ℕ} [] ≡ [])
 worked-parts = (refl, refl, refl, refl)
 
--- several numbers under a key, and none under another
+-- the numbers under a key among a map's entries
+abbrev found : {B : Type 0} → List (Bor (List ℕ) × VecDeque ℕ B) → List ℕ → List ℕ
+found entries key =
+    option_map_or (λ v. v.items) (lookup (is_at (λ k. slice_cmp nat_cmp key k.now)) entries) []
+
+-- those under a key, and none under another
 worked-numbers_in : {B : Type 0} (numbers : BTreeMap (Bor (List ℕ)) (VecDeque ℕ B))
-    (key : Bor (List ℕ)) (v : VecDeque ℕ B) → numbers.entries ≡ (key, v) ∷ []
-    → key.now ≡ codes "a" → v.items ≡ 0 ∷ 2 ∷ []
-    → (numbers_in numbers (codes "a") ≡ 0 ∷ 2 ∷ []) × (numbers_in numbers (codes "b") ≡ [])
-worked-numbers_in numbers key v entries is items = rw (entries, is) (items, refl)
+    (v : VecDeque ℕ B)
+    → numbers.entries ≡ (record { ref_ptr = (0, 0); now = codes "a" }, v) ∷ []
+    → map (numbers_in numbers) (codes "a" ∷ codes "b" ∷ []) ≡ v.items ∷ [] ∷ []
+worked-numbers_in numbers v = ap (λ l. map (found l) (codes "a" ∷ codes "b" ∷ []))
