@@ -31,7 +31,6 @@ pub mod LinesOfPieces
 pub mod Lookups
 pub mod NameIds
 pub mod NameSets
-pub mod Newlines
 pub mod NextLines
 pub mod NextParagraph
 pub mod ParagraphLines

@@ -23,7 +23,6 @@ mod folded_name;
 mod judge;
 pub mod laws;
 mod line;
-mod newline;
 mod paragraphs;
 mod raw;
 mod read_buffer;
