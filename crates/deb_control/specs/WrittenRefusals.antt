@@ -71,7 +71,8 @@ WritesNext of doc text (Err Write) r left old held =
 
 -- the line of a refusal, whatever is seen of it
 worked-line :
-    line_written (record { refusal = record { code = BadNumber; line = 4 }; line = None; seen = None })
+    line_written
+    (record { refusal = record { code = BadNumber; line = 4 }; line = None; seen = None })
     ≡ codes "line 4: 15 BadNumber\n"
 unfolding digits
 worked-line = refl
