@@ -15,7 +15,8 @@ drop-at fields i field is =
     ∙ ap (λ first. first ∷ drop (suc i) fields) (get_or_from_slice_get fields i field field is)
     ∙ ap (λ n. field ∷ drop n fields) (sym (add-one i))
 
-all-push : {X : Type 0} (P : X → Type 0) (xs : List X) (x : X) → AllByRecursion P xs → P x → AllByRecursion P (xs ++ x ∷ [])
+-- one more for which it holds
+pub all-push : {X : Type 0} (P : X → Type 0) (xs : List X) (x : X) → AllByRecursion P xs → P x → AllByRecursion P (xs ++ x ∷ [])
 all-push P [] x h p = (p, tt)
 all-push P (y ∷ ys) x h p = (h.0, all-push P ys x h.1 p)
 

@@ -3,6 +3,7 @@ use Rattle.deb_control.proofs.Common.{◌≡◌, ℕ, ◌+◌, ◌⊎◌, List, 
 use Rattle.deb_control.specs.CheckedStates.{doc_read}
 use Rattle.deb_control.specs.GivenParagraphs.{AreNext, HasShown, answered_seen, bodies_built, bodies_seen}
 use Rattle.deb_control.proofs.CheckedSoFar.{counted_on, goes_on, has_paragraphs, outcome_at_end, refused_behind, refused_then, sound_on}
+use Rattle.deb_control.proofs.FieldsRead.{all-push}
 use Rattle.deb_control.proofs.FollowedParagraphs.{follow-all, next-all, outcome-starts}
 use Rattle.deb_control.proofs.ReadAlone.{read-alone}
 
@@ -34,10 +35,6 @@ shows-none Holds holds reads sound counted fits = record {
 pub next-push : (text : List ℕ) (n : ℕ) (given : List Seen) (seen : Seen) → AreNext text n given → next_answer text (n + length given) ≡ Ok (Some seen) → AreNext text n (given ++ seen ∷ [])
 next-push text n [] seen all one = (subst (λ k. next_answer text k ≡ Ok (Some seen)) (omega arith) one, tt)
 next-push text n (first ∷ more) seen all one = (all.0, next-push text (n + 1) more seen all.1 (subst (λ k. next_answer text k ≡ Ok (Some seen)) (omega arith) one))
-
-all-push : {A : Type 0} (P : A → Type 0) (xs : List A) (x : A) → AllByRecursion P xs → P x → AllByRecursion P (xs ++ x ∷ [])
-all-push P [] x all one = (one, tt)
-all-push P (y ∷ ys) x all one = (all.0, all-push P ys x all.1 one)
 
 -- what was answered of them
 pub answered-push : (doc : Doc) (given : List Seen) (seen : Seen) → answered_seen doc (given ++ seen ∷ []) ≡ answered_seen doc given ++ Ok (bodies_seen doc seen) ∷ []
