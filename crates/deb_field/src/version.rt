@@ -41,8 +41,11 @@ impl Canon for Version<'_> {
     }
 }
 
-/// The version that a body spells: `NotOneLine` is answered for a body of more than one line, else
-/// `BadVersion` for one that is no version.
+/// Parses a body as a version (Debian Policy 5.6.12).
+///
+/// # Errors
+///
+/// `NotOneLine` for a body of more than one line, else `BadVersion` if it is no version.
 pub fn parse_version(body: &[u8]) -> Result<Version<'_>, Code>
     ensures ok { IfOk result (λ v. SpellsVersion body.now (meaning_of v)) }
     ensures refused { IfErr result (λ code. version_refusal body.now ≡ Some code) }
