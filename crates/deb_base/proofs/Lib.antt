@@ -6,6 +6,7 @@ pub mod FieldBytes
 pub mod FieldLookups
 mod BegunRows
 mod FirstRows
+mod NearRows
 pub mod GraphicBodies
 pub mod GraphicNames
 pub mod LaterPieces

@@ -1,6 +1,6 @@
 -- What the code's table of fields means, and which of its names a line begins with. Debian Policy
 -- 5.1.
-use Rattle.std.specs.Prelude.{◌≡◌, ℕ, ◌+◌, ◌<◌, Bool, List, [], ◌∷◌, ◌++◌, length, map, take, get_or, nat_lt, slice_index, true, false, codes, refl}
+use Rattle.std.specs.Prelude.{◌≡◌, ℕ, ◌+◌, ◌-◌, ◌<◌, Bool, List, [], ◌∷◌, ◌++◌, length, map, take, get_or, nat_lt, slice_index, replicate, true, false, codes, refl}
 use Rattle.std.specs.Borrow.{Bor}
 use Rattle.std.specs.List.{list_any, position_or_len, range_with_len}
 use Rattle.std.specs.Str.{bytes_eq}
@@ -34,6 +34,10 @@ begins_with_row line row = bytes_eq (take (length row.0 + 1) line) (row.0 ++ cod
 -- whether the line begins so with the name of any row
 unfoldable pub begins_with_known : List ℕ → Bool
 begins_with_known line = list_any (begins_with_row line) known_fields
+
+-- the row's name with a colon, filled up with hyphens to 32 bytes
+abbrev pub filled : FieldRow → List ℕ
+filled row = row.0 ++ 58 ∷ replicate (31 - length row.0) 45
 
 -- the first byte of a row's name
 abbrev pub first_byte : FieldRow → ℕ
@@ -81,3 +85,7 @@ first_rows_of_letters : first_rows
     ∷ 47 ∷ 50 ∷ 51 ∷ 54 ∷ 54 ∷ 54 ∷ 54 ∷ 54 ∷ []
 unfolding first_rows
 first_rows_of_letters = refl
+
+filled_names : map filled ((codes "Size", Number) ∷ (codes "Build-Conflicts-Indep", Number) ∷ [])
+    ≡ codes "Size:---------------------------" ∷ codes "Build-Conflicts-Indep:----------" ∷ []
+filled_names = refl

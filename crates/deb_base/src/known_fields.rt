@@ -1,13 +1,15 @@
 //! The table of the fields that are known by name: the kind of each one's values, and which of them
 //! a kind of document requires.
 
-ghost use Rattle.std.specs.Prelude.{◌≡◌, ◌↔◌, ◌<◌, ◌≤◌, ℕ, List, [], map, length, get_or, is_some, nat_lt, IfSome, IsTrue};
+ghost use Rattle.std.specs.Prelude.{◌≡◌, ◌↔◌, ◌<◌, ◌≤◌, ◌==◌, ℕ, List, [], map, length, get_or, slice_index, is_some, nat_lt, if◌then◌else◌, IfSome, IsTrue};
+ghost use Rattle.std.specs.Int.{trailing_zeros, w64};
 ghost use Rattle.deb_base.specs.Kinds.{in_source, kind_at, kind_of, known_fields, known_row, required};
-ghost use Rattle.deb_base.specs.KnownFields.{begins_with_known, begins_with_row, first_byte, first_rows, row_in, row_of, IsAtFront};
+ghost use Rattle.deb_base.specs.KnownFields.{begins_with_known, begins_with_row, filled, first_byte, first_rows, row_in, row_of, IsAtFront};
 
 use crate::doc::Doc;
 use crate::kind::{Kind, Relationship};
 use crate::names::same_name;
+use std::simd::prelude::*;
 
 const DEPENDENCY: Kind = Kind::Relation(Relationship::Depends);
 
@@ -78,6 +80,85 @@ static FIRST_ROWS: [u8; 27] = [
     54, 54, 54,
 ];
 
+/// For each hash of the first four bytes of a name and its colon: the first of the rows with it.
+static FIRST_LIKELY: [u8; 128] = [
+    29, 0, 0, 0, 1, 38, 12, 0, 0, 0, 20, 0, 37, 2, 0, 0, 0, 0, 0, 0, 0, 0, 35, 4, 0, 0, 16, 36, 0,
+    0, 0, 0, 0, 0, 0, 0, 0, 0, 24, 0, 39, 0, 15, 45, 0, 0, 0, 0, 22, 0, 0, 0, 0, 0, 0, 0, 0, 0, 19,
+    0, 0, 34, 0, 0, 0, 0, 50, 47, 40, 0, 25, 18, 41, 0, 0, 0, 0, 0, 14, 0, 0, 0, 31, 42, 51, 0, 0,
+    0, 0, 43, 53, 21, 0, 0, 0, 33, 3, 0, 0, 0, 30, 49, 0, 0, 0, 0, 0, 0, 0, 46, 0, 0, 44, 0, 0, 0,
+    28, 26, 48, 0, 0, 0, 0, 0, 27, 0, 0, 0,
+];
+
+/// For each such hash the first row after these.
+static END_LIKELY: [u8; 128] = [
+    30, 0, 0, 0, 2, 39, 14, 0, 0, 0, 21, 0, 38, 3, 0, 0, 0, 0, 0, 0, 0, 0, 36, 12, 0, 0, 18, 37, 0,
+    0, 0, 0, 0, 0, 0, 0, 0, 0, 25, 0, 40, 0, 16, 46, 0, 0, 0, 0, 24, 0, 0, 0, 0, 0, 0, 0, 0, 0, 20,
+    0, 0, 35, 0, 0, 0, 0, 51, 48, 41, 0, 26, 19, 42, 0, 0, 0, 0, 0, 15, 0, 0, 0, 33, 43, 53, 1, 0,
+    0, 0, 44, 54, 22, 0, 0, 0, 34, 4, 0, 0, 0, 31, 50, 0, 0, 0, 0, 0, 0, 0, 47, 0, 0, 45, 0, 0, 0,
+    29, 27, 49, 0, 0, 0, 0, 0, 28, 0, 0, 0,
+];
+
+/// The names, row by row, each with its colon and filled up with hyphens.
+static FILLED: [[u8; LANES]; KNOWN_FIELDS] = [
+    *b"Architecture:-------------------",
+    *b"Binary:-------------------------",
+    *b"Breaks:-------------------------",
+    *b"Bugs:---------------------------",
+    *b"Build-Conflicts:----------------",
+    *b"Build-Conflicts-Arch:-----------",
+    *b"Build-Conflicts-Indep:----------",
+    *b"Build-Depends:------------------",
+    *b"Build-Depends-Arch:-------------",
+    *b"Build-Depends-Indep:------------",
+    *b"Build-Ids:----------------------",
+    *b"Built-Using:--------------------",
+    *b"Checksums-Sha1:-----------------",
+    *b"Checksums-Sha256:---------------",
+    *b"Conflicts:----------------------",
+    *b"Depends:------------------------",
+    *b"Description:--------------------",
+    *b"Description-md5:----------------",
+    *b"Dgit:---------------------------",
+    *b"Directory:----------------------",
+    *b"Enhances:-----------------------",
+    *b"Essential:----------------------",
+    *b"Filename:-----------------------",
+    *b"Files:--------------------------",
+    *b"Format:-------------------------",
+    *b"Homepage:-----------------------",
+    *b"Installed-Size:-----------------",
+    *b"Maintainer:---------------------",
+    *b"MD5sum:-------------------------",
+    *b"Multi-Arch:---------------------",
+    *b"Origin:-------------------------",
+    *b"Package:------------------------",
+    *b"Package-List:-------------------",
+    *b"Pre-Depends:--------------------",
+    *b"Priority:-----------------------",
+    *b"Provides:-----------------------",
+    *b"Python-Version:-----------------",
+    *b"Recommends:---------------------",
+    *b"Replaces:-----------------------",
+    *b"Ruby-Versions:------------------",
+    *b"Section:------------------------",
+    *b"SHA1:---------------------------",
+    *b"SHA256:-------------------------",
+    *b"Size:---------------------------",
+    *b"Source:-------------------------",
+    *b"Standards-Version:--------------",
+    *b"Suggests:-----------------------",
+    *b"Tag:----------------------------",
+    *b"Task:---------------------------",
+    *b"Testsuite:----------------------",
+    *b"Uploaders:----------------------",
+    *b"Vcs-Browser:--------------------",
+    *b"Vcs-Git:------------------------",
+    *b"Version:------------------------",
+];
+
+/// How many bytes are compared in one step.
+const LANES: usize = 32;
+
 const ARCHITECTURE: FieldId = FieldId(0);
 
 const FORMAT: FieldId = FieldId(24);
@@ -133,6 +214,27 @@ impl FieldId {
         let mut row = rows.0;
         while row < rows.1 {
             if let Some(front) = row_at_front(row, line) {
+                return Some(front);
+            }
+            row += 1;
+        }
+        None
+    }
+
+    /// Returns the field of the table whose name, as the table spells it, begins the text with a
+    /// colon after it.
+    ///
+    /// `None` says nothing: the text may have fewer than 32 bytes. It is faster than `at_front`.
+    pub fn near_front(text: &[u8]) -> Option<NameAtFront>
+        ensures { IfSome result (IsAtFront text.now) }
+    {
+        if text.len() < LANES {
+            return None;
+        }
+        let rows = likely_rows(text);
+        let mut row = rows.0;
+        while row < rows.1 {
+            if let Some(front) = row_near_front(row, text) {
                 return Some(front);
             }
             row += 1;
@@ -205,6 +307,69 @@ fn rows_of_letter(first: u8) -> (u8, u8)
     }
     let letter = usize::from(first - b'A');
     (first_rows()[letter], first_rows()[letter + 1])
+}
+
+/// Returns the first of the rows that are likely for a text, and the first row after them. Each
+/// answer is right, since a row is compared with the text.
+fn likely_rows(text: &[u8]) -> (u8, u8) {
+    let [a, b, c, d, ..] = text else {
+        return (0, 0);
+    };
+    let sum = usize::from(*a) + 3 * usize::from(*b) + 2 * usize::from(*c) + 11 * usize::from(*d);
+    let hash = sum % 128;
+    (FIRST_LIKELY[hash], END_LIKELY[hash])
+}
+
+/// Returns a reference to `FILLED`.
+fn filled() -> &'static [[u8; LANES]]
+    ensures { result.now ≡ map filled known_fields }
+{
+    &FILLED
+}
+
+/// The name in a row, if the text begins with it and a colon.
+fn row_near_front(row: u8, text: &[u8]) -> Option<NameAtFront>
+    requires { LANES ≤ length text.now }
+    ensures { IfSome result (IsAtFront text.now) }
+{
+    let index = usize::from(row);
+    let (fields, filled) = (fields(), filled());
+    if index >= fields.len() || index >= filled.len() {
+        return None;
+    }
+    let len = fields[index].0.len();
+    if same_len(text, &filled[index]) <= len {
+        return None;
+    }
+    Some(NameAtFront {
+        id: FieldId(row),
+        len,
+    })
+}
+
+/// How many of the first `LANES` bytes are the same, up to the first that differs.
+#[inline(always)]
+fn same_len(text: &[u8], other: &[u8; LANES]) -> usize
+    requires { LANES ≤ length text.now }
+    ensures most { result ≤ LANES }
+    ensures same { (k : ℕ) → k < result → slice_index text.now k ≡ slice_index other.now k }
+{
+    let differ = u8x32::from_slice(text)
+        .simd_ne(u8x32::from_array(*other))
+        .to_bitmask();
+    first_set(differ)
+}
+
+/// The number of the lowest bit that is set, or `LANES`.
+#[inline(always)]
+fn first_set(mask: u64) -> usize
+    ensures { result ≡ (if mask == 0 then LANES else trailing_zeros w64 mask) }
+{
+    if mask == 0 {
+        LANES
+    } else {
+        mask.trailing_zeros() as usize
+    }
 }
 
 /// The name in a row, if the line begins with it and a colon.

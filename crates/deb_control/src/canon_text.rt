@@ -16,8 +16,11 @@ use crate::field::append_body;
 use crate::name::{append_name, compare};
 use crate::paragraph_check::{check_paragraph, has_required, kind_of_field};
 use crate::visitor::NoVisitor;
-use deb_base::{Fault, KNOWN_FIELDS, Kind, PARAGRAPH_LIMIT};
-use deb_field::{Doc, Line, Text, Value, ValueFault};
+use deb_base::{Fault, KNOWN_FIELDS, Kind, PARAGRAPH_LIMIT, Relationship};
+use deb_field::{
+    ArchitectureName, Doc, Line, Number, PackageName, RelationField, Text, Value, ValueFault,
+    parse_version,
+};
 use deb_syntax::{Raw, RawField};
 use std::alloc::{AllocError, Global};
 use std::cmp::Ordering;
@@ -201,7 +204,45 @@ fn append_field(
             Ok(line) => append_good(&Value::Line(line), text),
             Err(_) => Ok(false),
         },
+        Kind::Name => match PackageName::parse(field.body) {
+            Ok(name) => append_good(&Value::Name(name), text),
+            Err(_) => Ok(false),
+        },
+        Kind::Number => match Number::parse(field.body) {
+            Ok(number) => append_good(&Value::Number(number), text),
+            Err(_) => Ok(false),
+        },
+        Kind::Architecture => match ArchitectureName::parse(field.body) {
+            Ok(name) => append_good(&Value::Architecture(name), text),
+            Err(_) => Ok(false),
+        },
+        Kind::Version => append_as_version(field.body, text),
+        Kind::Relation(relationship) => append_as_relation(alloc, relationship, field.body, text),
         _ => append_as_kind(alloc, kind, field.body, text),
+    }
+}
+
+/// Appends what follows the name of a field whose value is a version.
+#[inline(never)]
+fn append_as_version(body: &[u8], text: &mut Vec<u8>) -> Result<bool, AllocError> {
+    match parse_version(body) {
+        Ok(version) => append_good(&Value::Version(version), text),
+        Err(_) => Ok(false),
+    }
+}
+
+/// Appends what follows the name of a field whose value is a relation.
+#[inline(never)]
+fn append_as_relation(
+    alloc: Global,
+    relationship: Relationship,
+    body: &[u8],
+    text: &mut Vec<u8>,
+) -> Result<bool, AllocError> {
+    match RelationField::parse(alloc, relationship, body) {
+        Ok(relation) => append_good(&Value::Relation(relation), text),
+        Err(ValueFault::Memory) => Err(AllocError),
+        Err(ValueFault::Refused(_)) => Ok(false),
     }
 }
 

@@ -32,6 +32,24 @@ pub(crate) fn add_fields<'a>(fields: &mut FieldMap<'a>, text: &'a [u8]) -> Resul
     Ok(())
 }
 
+/// A field's name, its text after that, and what follows it.
+#[derive(Clone, Copy)]
+pub(crate) struct First<'a> {
+    pub(crate) name: &'a [u8],
+    pub(crate) body: &'a [u8],
+    pub(crate) rest: &'a [u8],
+}
+
+/// Returns the first field of a canonical text, if there is one.
+pub(crate) fn first_field(text: &[u8]) -> Option<First<'_>> {
+    if text.is_empty() {
+        return None;
+    }
+    let (field, rest) = text.split_at(field_len(text));
+    let (name, body) = field.split_at(name_len(field));
+    Some(First { name, body, rest })
+}
+
 /// Returns the number of bytes of the first field: those until a newline after which there is no
 /// space or tab.
 fn field_len(text: &[u8]) -> usize

@@ -8,9 +8,9 @@ ghost use Rattle.deb_diff.specs.Fields.{differing, differs, is_same_body};
 ghost use Rattle.deb_syntax.specs.Meaning.{Entries};
 ghost use Rattle.deb_control.specs.Canonical.{paragraph_text};
 
-use crate::cut::{FieldMap, add_fields};
+use crate::cut::{First, first_field};
 use std::alloc::{AllocError, Global};
-use std::collections::BTreeMap;
+use std::cmp::Ordering;
 
 /// Returns the names of the fields that differ between two canonical texts or are in one of them
 /// only, ascending.
@@ -23,44 +23,50 @@ pub(crate) fn differing<'a>(
         → old.now ≡ paragraph_text entries → new.now ≡ paragraph_text others
         → IfOk result (λ names. map (λ n. n.now) names.items ≡ differing entries others) }
 {
-    let mut fields = BTreeMap::new(alloc);
-    add_fields(&mut fields, old)?;
-    let mut others = BTreeMap::new(alloc);
-    add_fields(&mut others, new)?;
-    let mut both = BTreeMap::new(alloc);
-    add_fields(&mut both, old)?;
-    add_fields(&mut both, new)?;
-    differing_names(alloc, &both, &fields, &others)
-}
-
-/// Returns the names whose texts differ between two maps.
-fn differing_names<'a>(
-    alloc: Global,
-    both: &FieldMap<'a>,
-    fields: &FieldMap<'a>,
-    others: &FieldMap<'a>,
-) -> Result<Vec<&'a [u8]>, AllocError>
-    ensures { IfOk result (λ names. map (λ n. n.now) names.items ≡ filter
-        (differs (texts_in fields.now.entries) (texts_in others.now.entries))
-        (map (λ field. field.0) (texts_in both.now.entries))) }
-{
     let mut names = Vec::new(alloc);
-    for name in both.keys() {
-        if !is_same(fields.get(*name), others.get(*name)) {
-            names.push(*name)?;
+    let mut rest = old;
+    let mut other_rest = new;
+    while !(rest.is_empty() && other_rest.is_empty()) {
+        let step = step(rest, other_rest);
+        if let Some(name) = step.differs {
+            names.push(name)?;
         }
+        rest = step.old;
+        other_rest = step.new;
     }
     Ok(names)
 }
 
-/// Returns whether both are missing, or both are there and equal.
-fn is_same(text: Option<&&[u8]>, other: Option<&&[u8]>) -> bool
-    ensures { result ≡ is_same_body (option_map (λ t. t.now) (option_copied text.entry))
-        (option_map (λ t. t.now) (option_copied other.entry)) }
-{
-    match (text, other) {
-        (Some(text), Some(other)) => **text == **other,
-        (None, None) => true,
-        _ => false,
+/// The name of the first field of two texts if it differs, and what follows it in both.
+#[derive(Clone, Copy)]
+struct Step<'a> {
+    differs: Option<&'a [u8]>,
+    old: &'a [u8],
+    new: &'a [u8],
+}
+
+/// Compares the first fields of two canonical texts.
+fn step<'a>(old: &'a [u8], new: &'a [u8]) -> Step<'a> {
+    let Some(field) = first_field(old) else {
+        return match first_field(new) {
+            Some(other) => Step { differs: Some(other.name), old, new: other.rest },
+            None => Step { differs: None, old, new },
+        };
+    };
+    let Some(other) = first_field(new) else {
+        return Step { differs: Some(field.name), old: field.rest, new };
+    };
+    match field.name.cmp(other.name) {
+        Ordering::Less => Step { differs: Some(field.name), old: field.rest, new },
+        Ordering::Greater => Step { differs: Some(other.name), old, new: other.rest },
+        Ordering::Equal => Step { differs: unless_equal(field, other), old: field.rest, new: other.rest },
+    }
+}
+
+fn unless_equal<'a>(field: First<'a>, other: First<'a>) -> Option<&'a [u8]> {
+    if *field.body == *other.body {
+        None
+    } else {
+        Some(field.name)
     }
 }

@@ -106,21 +106,31 @@ pub(crate) fn compare_versions(one: &[u8], other: &[u8]) -> Ordering
 fn compare(entry: &Ranked<'_>, other: &Ranked<'_>) -> Ordering
     ensures { result ≡ placing_cmp (placing_of_ranked entry.now) (placing_of_ranked other.now) }
 {
-    compare_series(entry, other).then(compare_latest(entry, other))
+    let order = compare_series(entry, other);
+    if order.is_ne() {
+        return order;
+    }
+    compare_latest(entry, other)
 }
 
 fn compare_series(entry: &Ranked<'_>, other: &Ranked<'_>) -> Ordering
     ensures { result ≡ series_cmp (placing_of_ranked entry.now) (placing_of_ranked other.now) }
 {
     let order = entry.name.cmp(other.name);
-    order.then(entry.architecture.cmp(other.architecture))
+    if order.is_ne() {
+        return order;
+    }
+    entry.architecture.cmp(other.architecture)
 }
 
 fn compare_latest(entry: &Ranked<'_>, other: &Ranked<'_>) -> Ordering
     ensures { result ≡ latest_first (placing_of_ranked entry.now) (placing_of_ranked other.now) }
 {
     let order = other.version.cmp(&entry.version);
-    order.then(entry.number.cmp(&other.number))
+    if order.is_ne() {
+        return order;
+    }
+    entry.number.cmp(&other.number)
 }
 
 /// Returns the place of a paragraph, given the entries of those that are left, in order.

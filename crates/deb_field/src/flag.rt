@@ -5,7 +5,7 @@ ghost use Rattle.std.specs.Str.{bytes_eq};
 ghost use Rattle.deb_field.specs.Flags.{flag_text, SpellsFlag, flag_refusal, multi_arch_text, SpellsMultiArch, multi_arch_refusal};
 
 use crate::canon::Canon;
-use crate::one_line::holds_newline;
+use crate::one_line::refusal_of_line;
 use deb_base::Code;
 use std::alloc::AllocError;
 
@@ -28,15 +28,12 @@ impl Flag {
         ensures ok { IfOk result (λ flag. SpellsFlag body.now flag) }
         ensures refused { IfErr result (λ code. flag_refusal body.now ≡ Some code) }
     {
-        if holds_newline(body) {
-            return Err(Code::NotOneLine);
-        }
         if is_word(body, b"yes") {
             Ok(Flag::Yes)
         } else if is_word(body, b"no") {
             Ok(Flag::No)
         } else {
-            Err(Code::BadWord)
+            Err(refusal_of_line(body, Code::BadWord))
         }
     }
 
@@ -103,9 +100,6 @@ impl MultiArch {
         ensures ok { IfOk result (λ word. SpellsMultiArch body.now word) }
         ensures refused { IfErr result (λ code. multi_arch_refusal body.now ≡ Some code) }
     {
-        if holds_newline(body) {
-            return Err(Code::NotOneLine);
-        }
         if is_word(body, b"no") {
             Ok(MultiArch::No)
         } else if is_word(body, b"same") {
@@ -115,7 +109,7 @@ impl MultiArch {
         } else if is_word(body, b"allowed") {
             Ok(MultiArch::Allowed)
         } else {
-            Err(Code::BadWord)
+            Err(refusal_of_line(body, Code::BadWord))
         }
     }
 

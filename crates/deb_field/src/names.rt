@@ -5,7 +5,7 @@ ghost use Rattle.deb_base.specs.PackageNames.{is_package_name, is_arch_name};
 ghost use Rattle.deb_field.specs.Texts.{SpellsName, name_refusal, SpellsArchitecture, architecture_refusal, text_itself};
 
 use crate::canon::Canon;
-use crate::one_line::holds_newline;
+use crate::one_line::refusal_of_line;
 use deb_base::{Code, is_arch_name, is_package_name};
 use std::alloc::AllocError;
 
@@ -29,11 +29,8 @@ impl<'a> PackageName<'a> {
         ensures ok { IfOk result (λ name. SpellsName body.now (package_name name)) }
         ensures refused { IfErr result (λ code. name_refusal body.now ≡ Some code) }
     {
-        if holds_newline(body) {
-            return Err(Code::NotOneLine);
-        }
         if !is_package_name(body) {
-            return Err(Code::BadName);
+            return Err(refusal_of_line(body, Code::BadName));
         }
         Ok(PackageName { bytes: body })
     }
@@ -95,11 +92,8 @@ impl<'a> ArchitectureName<'a> {
         ensures ok { IfOk result (λ name. SpellsArchitecture body.now (architecture_name name)) }
         ensures refused { IfErr result (λ code. architecture_refusal body.now ≡ Some code) }
     {
-        if holds_newline(body) {
-            return Err(Code::NotOneLine);
-        }
         if !is_arch_name(body) {
-            return Err(Code::BadArchitecture);
+            return Err(refusal_of_line(body, Code::BadArchitecture));
         }
         Ok(ArchitectureName { bytes: body })
     }

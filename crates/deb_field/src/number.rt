@@ -8,7 +8,7 @@ ghost use Rattle.deb_version.specs.Canonical.{digits_of};
 ghost use Rattle.deb_field.specs.Numbers.{SpellsNumber, are_digits, number_refusal};
 
 use crate::canon::Canon;
-use crate::one_line::holds_newline;
+use crate::one_line::refusal_of_line;
 use deb_base::Code;
 use std::alloc::AllocError;
 
@@ -33,11 +33,8 @@ impl<'a> Number<'a> {
         ensures ok { IfOk result (λ number. SpellsNumber body.now (number_value number)) }
         ensures refused { IfErr result (λ code. number_refusal body.now ≡ Some code) }
     {
-        if holds_newline(body) {
-            return Err(Code::NotOneLine);
-        }
         if !are_digits(body) {
-            return Err(Code::BadNumber);
+            return Err(refusal_of_line(body, Code::BadNumber));
         }
         Ok(Number {
             digits: without_leading_zeros(body),

@@ -9,7 +9,7 @@ ghost use Rattle.deb_version.specs.Version.{meaning_of};
 ghost use Rattle.deb_field.specs.Sources.{source_of, SpellsSource, source_text, refusal_around, source_refusal, has_version, is_open, is_closed, without_last};
 
 use crate::canon::Canon;
-use crate::one_line::holds_newline;
+use crate::one_line::refusal_of_line;
 use deb_base::{Code, is_package_name, trimmed, without_trailing_blanks};
 use deb_version::Version;
 use std::alloc::AllocError;
@@ -39,14 +39,14 @@ impl<'a> SourceName<'a> {
         ensures ok { IfOk result (λ source. SpellsSource body.now (source_meaning source)) }
         ensures refused { IfErr result (λ code. source_refusal body.now ≡ Some code) }
     {
-        if holds_newline(body) {
-            return Err(Code::NotOneLine);
-        }
         if let Some((before, behind)) = cut_at_open(body) {
-            return SourceName::with_version(before, behind);
+            return match SourceName::with_version(before, behind) {
+                Ok(source) => Ok(source),
+                Err(code) => Err(refusal_of_line(body, code)),
+            };
         }
         if !is_package_name(body) {
-            return Err(Code::BadName);
+            return Err(refusal_of_line(body, Code::BadName));
         }
         Ok(SourceName {
             name: body,

@@ -8,7 +8,7 @@ ghost use Rattle.deb_version.specs.Parts.{Meaning as VersionMeaning};
 ghost use Rattle.deb_version.specs.Version.{meaning_of, components_of};
 
 use crate::canon::Canon;
-use crate::one_line::holds_newline;
+use crate::one_line::refusal_of_line;
 use deb_base::Code;
 use deb_version::Version;
 use std::alloc::AllocError;
@@ -50,8 +50,8 @@ pub fn parse_version(body: &[u8]) -> Result<Version<'_>, Code>
     ensures ok { IfOk result (λ v. SpellsVersion body.now (meaning_of v)) }
     ensures refused { IfErr result (λ code. version_refusal body.now ≡ Some code) }
 {
-    if holds_newline(body) {
-        return Err(Code::NotOneLine);
+    match Version::parse(body) {
+        Ok(version) => Ok(version),
+        Err(_) => Err(refusal_of_line(body, Code::BadVersion)),
     }
-    Version::parse(body).map_err(|_| Code::BadVersion)
 }

@@ -157,13 +157,19 @@ fn compare_groups(a: &GroupSummary<'_>, b: &GroupSummary<'_>) -> Ordering
     a.text.bytes().cmp(b.text.bytes())
 }
 
+/// Whether two groups have the same text.
+fn same_group(a: &GroupSummary<'_>, b: &GroupSummary<'_>) -> bool
+{
+    a.text.bytes() == b.text.bytes()
+}
+
 /// Makes groups a set: ascending by their texts, each once.
 fn sort_groups(groups: &mut Vec<GroupSummary<'_>>) -> Result<(), AllocError>
     ensures { OnOk result
         (map told_of groups.new.items ≡ set_of summary_key (map told_of groups.old.items)) }
 {
     groups.sort_by(|a, b| compare_groups(a, b))?;
-    groups.dedup_by(|a, b| compare_groups(a, b).is_eq());
+    groups.dedup_by(|a, b| same_group(a, b));
     Ok(())
 }
 

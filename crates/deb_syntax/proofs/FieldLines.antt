@@ -1,5 +1,6 @@
 -- What a line that begins a field makes of the fields before it, from what a search for its colon says.
-use Rattle.deb_syntax.proofs.Common.{false_from_ne_true, ◌≡◌, ℕ, zero, suc, ◌==◌, ◌+◌, ◌-◌, ◌<◌, ◌≤◌, Bool, true, false, not, cond, ◌&&◌, List, [], ◌∷◌, ◌++◌, length, map, take, drop, nat_lt, slice_index, slice_range, Some, None, Ok, Err, refl, sym, ap, ◌∙◌, arith, length-take, length-drop, list_all, position_or_len, prefix_len, and_parts, and_from, eq-eqb, eqb-true, ltb-true, lt-ltb, true≢false, cond-true, cond-false, map_push, take-append-drop, drop_more, All-from_get_or, list_any_at, list_any_none, position_or_len_is, IsFirstByte, is_byte, BadFieldName, NoColon, DuplicateField, Line, Field, has_name, colon, is_name, is_name_byte, each_name_byte, begins_armour, begins_comment, has_colon, begun, is_named, field_line, begun_at, begun_fields, name_at, has_stood, known_row, row_of, FieldId, IsAtFront, NameAtFront, FieldSpan}
+use Rattle.deb_syntax.proofs.Common.{false_from_ne_true, ◌≡◌, ℕ, zero, suc, ◌==◌, ◌+◌, ◌-◌, ◌<◌, ◌≤◌, Bool, true, false, not, cond, ◌&&◌, List, [], ◌∷◌, ◌++◌, length, map, take, drop, nat_lt, slice_index, slice_range, Some, None, Ok, Err, refl, sym, ap, ◌∙◌, arith, length-take, length-take-le, length-drop, take_rest, list_all, position_or_len, prefix_len, and_parts, and_from, eq-eqb, eqb-true, ltb-true, lt-ltb, true≢false, cond-true, cond-false, map_push, take-append-drop, drop_more, All-from_get_or, list_any_at, list_any_none, position_or_len_is, IsFirstByte, is_byte, BadFieldName, NoColon, DuplicateField, Line, Field, has_name, colon, is_name, is_name_byte, each_name_byte, begins_armour, begins_comment, has_colon, begun, is_named, field_line, begun_at, begun_fields, name_at, has_stood, known_row, row_of, FieldId, IsAtFront, NameAtFront, FieldSpan}
+use Rattle.std.proofs.lemmas.List.{get_or-take, take-take}
 use Rattle.deb_syntax.proofs.JudgingLaws.{field_line-name}
 use Rattle.deb_syntax.proofs.FieldSpanLemmas.{LiesWithin, has_name-begun}
 use Rattle.deb_syntax.proofs.Slices.{take-slice_range, drop-slice_range}
@@ -56,6 +57,23 @@ at_front-is_named line len id named is =
     let front = and_parts (nat_lt len (length line)) (slice_index line len == colon) parts.0 in
     record { within = ltb-true _ _ front.0; colon = eqb-true _ _ front.1; name = parts.1; id = is }
 
+-- a name at the start of what begins with a line, if its colon is in the line
+pub at_front-take : (line rest : Line) (front : NameAtFront) → line ≡ take (length line) rest → front.len < length line → IsAtFront rest front → IsAtFront line front
+at_front-take line rest front begins within is =
+    let name : take front.len line ≡ take front.len rest = ap (take front.len) begins ∙ take-take front.len (length line) rest (omega (arith, within)) in
+    record {
+      within = within;
+      colon = ap (λ xs. slice_index xs front.len) begins ∙ get_or-take (length line) rest front.len 0 within ∙ is.colon;
+      name = ap is_name name ∙ is.name;
+      id = is.id ∙ ap known_row (sym name);
+    }
+
+-- the line from `start` to `end` begins what goes on from `start`
+pub line_begins_rest : (text : List ℕ) (start end : ℕ) → start ≤ end → end ≤ length text → slice_range text start end ≡ take (length (slice_range text start end)) (slice_range text start (length text))
+line_begins_rest text start end ordered within =
+    let size : length (slice_range text start end) ≡ end - start = length-take-le (end - start) (drop start text) (omega (arith, within, length-drop start text)) in
+    ap (take (end - start)) (sym (take_rest text start)) ∙ ap (λ n. take n (slice_range text start (length text))) (sym size)
+
 -- the span of a field that the line from `start` to `end` begins, with its colon at `at`
 module _ (text : List ℕ) (start end at : ℕ) (ordered : start ≤ end) (within : end ≤ length text) (inside : at < length (slice_range text start end)) where
   fits : start + at < end
@@ -86,6 +104,6 @@ module _ (text : List ℕ) (start end at : ℕ) (ordered : start ≤ end) (withi
         ∙ ap (λ f. Ok (begun_fields text spans ++ f ∷ [])) (begun_at-begun n id)
         ∙ ap Ok (sym (map_push (begun_at text) spans (record { line = n; start = start; colon = start + at; end = end; id = id })))
 
-pub ruleset naming = (field_line-found, is_named-at_front, at_front-is_named, not_named, field_line-no_colon, field_line-bad_name)
+pub ruleset naming = (field_line-found, is_named-at_front, at_front-is_named, at_front-take, line_begins_rest, not_named, field_line-no_colon, field_line-bad_name)
 
 pub ruleset beginning = (field_line-stood, field_line-new)

@@ -31,6 +31,7 @@ pub mod LinesOfPieces
 pub mod Lookups
 pub mod NameIds
 pub mod NameSets
+pub mod Newlines
 pub mod NextLines
 pub mod NextParagraph
 pub mod ParagraphLines

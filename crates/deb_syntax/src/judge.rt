@@ -175,7 +175,7 @@ fn begin_field<'a>(
         (field_line line.number (begun_fields text.now spans.old.items) content)) }
 {
     let content = &text[line.start..line.end];
-    let front = name_of(content, line)?;
+    let front = name_of(content, &text[line.start..], line)?;
     let name = &content[..front.len];
     if !add(names, text, spans.as_slice(), name, front.id)? {
         return Err(refused(Code::DuplicateField, line));
@@ -191,9 +191,11 @@ fn begin_field<'a>(
     Ok(())
 }
 
-/// The name in a line that begins a field, perhaps one that stood before.
+/// The name in a line that begins a field, perhaps one that stood before. The line begins the rest
+/// of the text.
 #[tactic(auto, using(crate::proofs::FieldLines::naming))]
-fn name_of(content: &[u8], line: Line) -> Result<NameAtFront, Fault>
+fn name_of(content: &[u8], rest: &[u8], line: Line) -> Result<NameAtFront, Fault>
+    requires { content.now ≡ take (length content.now) rest.now }
     ensures within { IfOk result (λ front. front.len < length content.now) }
     ensures id { IfOk result (λ front. row_of front.id ≡ known_row (take front.len content.now)) }
     ensures ok { IfOk result (λ front. (fields : List Field) →
@@ -208,19 +210,25 @@ fn name_of(content: &[u8], line: Line) -> Result<NameAtFront, Fault>
     ensures refused { IfErr result (λ fault. (fields : List Field) →
         IsFaultOf (field_line line.number fields content.now) fault) }
 {
-    match name_at_front(content) {
+    match name_at_front(content, rest) {
         Some(front) => Ok(front),
         None => Err(refused(no_name(content), line)),
     }
 }
 
-/// The name at the start of a line, if it is one and a colon follows it.
+/// The name at the start of a line, if it is one and a colon follows it. The line begins the rest of
+/// the text.
 #[tactic(auto, using(crate::proofs::FieldLines::naming))]
-fn name_at_front(content: &[u8]) -> Option<NameAtFront>
+fn name_at_front(content: &[u8], rest: &[u8]) -> Option<NameAtFront>
+    requires { content.now ≡ take (length content.now) rest.now }
     ensures some { IfSome result (IsAtFront content.now) }
     ensures none { IfNone result
         (is_named content.now (prefix_len is_name_byte content.now) ≡ false) }
 {
+    match FieldId::near_front(rest) {
+        Some(front) if front.len < content.len() => return Some(front),
+        _ => {}
+    }
     let known = FieldId::at_front(content);
     if known.is_some() {
         return known;

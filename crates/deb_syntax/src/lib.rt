@@ -23,6 +23,7 @@ mod folded_name;
 mod judge;
 pub mod laws;
 mod line;
+mod newline;
 mod paragraphs;
 mod raw;
 mod read_buffer;

@@ -9,8 +9,8 @@ ghost use Rattle.deb_syntax.specs.Cursors.{cursor_state, had, Takes};
 ghost use Rattle.deb_syntax.specs.NextLines.{Describes, DropsLong, IsEndedLine, IsNear, IsNewline, IsNextLine, KeepsCounts};
 
 use crate::file_cursor::{End, FileCursor};
+use crate::newline::first_newline;
 use deb_base::{Fault, PARAGRAPH_LIMIT, Source, is_only_blanks};
-use memchr::memchr;
 
 /// The line after the bytes that are kept.
 #[derive(Clone, Copy, Debug)]
@@ -121,7 +121,7 @@ fn newline_from(bytes: &[u8], seen: usize) -> Option<usize>
     ensures found { IfSome result (λ end. IsNewline bytes.now seen end) }
     ensures none { IfNone result (HasNoNewline (drop seen bytes.now)) }
 {
-    let more = memchr(b'\n', &bytes[seen..])?;
+    let more = first_newline(&bytes[seen..])?;
     Some(seen + more)
 }
 

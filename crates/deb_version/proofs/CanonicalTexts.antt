@@ -1,5 +1,5 @@
 -- The laws of canonical text.
-use Rattle.deb_version.proofs.Common.{◌≡◌, ◌≢◌, ℕ, ◌*◌, ◌≤◌, ◌==◌, ◌&&◌, ◌||◌, Bool, true, false, not, cond, List, [], ◌∷◌, ◌++◌, length, Option, Some, None, is_some, IfSome, IfNone, refl, sym, ap, ◌∙◌, subst, arith, IsTrue, ◌⊎◌, inl, inr, is_ascii_digit, AllByRecursion, list_any, length-append, Decides-eqb, false≢true, eqb-true, not-true, Part, HasParts, Meaning, no_revision, is_revision_byte, is_upstream_byte, epoch_text, revision_text, epoch_value, revision_parts, meaning_of_components, are_components, SpellsVersion, digits_of, component_text, is_no_revision, holds_colon, holds_hyphen, canonical_epoch, canonical_revision, canonical_components, version_text, CanonicalTextSpells, CanonicalTextDecides, CanonicalTextStays, CanonicalTextIsShort, has_parts, one_parts}
+use Rattle.deb_version.proofs.Common.{◌≡◌, ◌≢◌, ℕ, ◌*◌, ◌≤◌, ◌==◌, ◌&&◌, ◌||◌, Bool, true, false, not, cond, List, [], ◌∷◌, ◌++◌, length, Option, Some, None, is_some, IfSome, IfNone, refl, sym, ap, ◌∙◌, subst, arith, IsTrue, ◌⊎◌, inl, inr, is_ascii_digit, AllByRecursion, list_any, length-append, Decides-eqb, false≢true, eqb-true, not-true, Part, HasParts, Meaning, no_revision, is_revision_byte, is_upstream_byte, epoch_text, revision_text, epoch_value, revision_parts, meaning_of_components, are_components, Components, parts_of, SpellsVersion, digits_of, component_text, is_no_revision, holds_colon, holds_hyphen, canonical_epoch, canonical_revision, canonical_components, version_text, CanonicalTextSpells, CanonicalTextDecides, CanonicalTextStays, CanonicalTextIsShort, has_parts, one_parts}
 use Rattle.deb_version.proofs.AllowedLemmas.{AreComponents, IsEpoch, IsRevision, are_components-fact, are_components-test}
 use Rattle.deb_version.proofs.Choices.{left_or_written}
 use Rattle.deb_version.proofs.Emptiness.{nil_of_length, some_length}
@@ -144,6 +144,13 @@ no_colon has_epoch b absent allowed same = false≢true (ap (λ v. is_upstream_b
 component_without : (c : ℕ) (text : List ℕ) (parts : List Part) → is_ascii_digit c ≡ false → HasParts text parts → AllByRecursion (λ b. b ≢ c) text
     → list_any (λ b. b == c) (component_text parts) ≡ false
 component_without c text parts other h all = none_equal-test c (component_text parts) (All-component_text (λ b. b ≢ c) (differs is_ascii_digit c other) text parts h all)
+
+-- without an epoch none is written
+pub unwritten_epoch : (c : Components) → are_components c ≡ true → c.epoch ≡ None → canonical_epoch (meaning_of_components c) ≡ None
+unwritten_epoch c allowed none =
+    let absent = ap is_some none in
+    let bytes = All-weaker (λ b. IsTrue (is_upstream_byte (is_some c.epoch) b)) (λ b. b ≢ 58) (λ b. no_colon (is_some c.epoch) b absent) c.upstream (are_components-fact c allowed).upstream_bytes in
+    epoch_none (meaning_of_components c) (ap epoch_value none) (component_without 58 c.upstream (parts_of c.upstream) refl (has_parts c.upstream) bytes)
 
 -- the epoch of the canonical text isn't longer
 module _ (text : List ℕ) (m : Meaning) (spells : SpellsVersion text m) where

@@ -78,7 +78,11 @@ impl Version<'_> {
     fn written_epoch(&self) -> Option<&[u8]>
         ensures { option_copied result ≡ canonical_epoch (meaning_of self.now) }
     {
-        let digits = without_zeros(self.epoch.unwrap_or(b"0"));
+        // Without an epoch the upstream version has no colon.
+        let Some(epoch) = self.epoch else {
+            return None;
+        };
+        let digits = without_zeros(epoch);
         if !digits.is_empty() {
             Some(digits)
         } else if self.upstream.contains(&b':') {
@@ -108,6 +112,9 @@ fn component_len(component: &[u8]) -> u64
     ensures value { result ≡ length (component_text (parts_of component.now)) }
     ensures bound { result ≤ length component.now + 1 }
 {
+    if is_canonical(component) {
+        return component.len() as u64;
+    }
     let mut len = 0;
     let mut rest = component;
     loop {

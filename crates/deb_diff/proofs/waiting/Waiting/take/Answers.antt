@@ -1,10 +1,13 @@
-use Rattle.std.proofs.Common.{[], ap, ◌∙◌, rules}
-use Rattle.std.specs.Option.{option_map_or}
-use Rattle.deb_diff.specs.Waiting.{rest_of}
-use Rattle.deb_diff.proofs.Lookups.{change_under, rest-drop}
+use Rattle.std.proofs.Common.{◌≡◌, Some, ap, ◌∙◌, rules}
+use Rattle.deb_diff.specs.Waiting.{numbers_under, rest_of}
+use Rattle.deb_diff.proofs.Lookups.{change_under, none_under}
 use Rattle.deb_diff.proofs.waiting.Waiting.take.Goals as goal
+
+pub returns-in_default-clause-rest : goal.returns-in_default-clause-rest
+returns-in_default-clause-rest c = λ other.
+    let m_is : c.get_mut.follows.lender-at-none ≡ c.args.self.now.lengths = search rules in
+    ap (λ m. numbers_under (record { lengths = m }) other) m_is ∙ none_under c.args.key.now c.args.self.now.lengths c.in_default.ensures.value other
 
 pub returns-clause-rest : goal.returns-clause-rest
 returns-clause-rest c =
-    change_under rest_of c.args.key.now c.args.self.now.map (c.get_mut.follows.lender c.pop_front.new.self) c.pop_front.new.self ((c.get_mut.follows.holds c.pop_front.new.self).3 (search rules))
-    (c.pop_front.ensures.rest ∙ rest-drop c.in-Some.numbers.now.items ∙ ap (λ o. rest_of (option_map_or (λ v. v.items) o [])) c.in-Some.ensures.value)
+    change_under rest_of c.args.key.now c.args.self.now.lengths (c.get_mut.follows.lender c.take_under.new.map) (Some c.in-Some.numbers.now) c.take_under.new.map ((c.get_mut.follows.holds c.take_under.new.map).3 (search rules)) c.in-Some.ensures.value c.take_under.ensures.rest
