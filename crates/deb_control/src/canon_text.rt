@@ -247,6 +247,7 @@ fn append_as_relation(
 }
 
 /// Appends what follows the name of a field with this value.
+#[inline(always)]
 fn append_good(value: &Value<'_>, text: &mut Vec<u8>) -> Result<bool, AllocError>
     ensures appended { OnOk result ((kind : Kind) (body : List ℕ)
         → SpellsKind kind body (value_meaning value.now)

@@ -11,6 +11,7 @@ use deb_field::{Canon, Value};
 use std::alloc::AllocError;
 
 /// Appends what comes after a field's name: a colon, the text after it, and a line end.
+#[inline(always)]
 pub(crate) fn append_body(value: &Value<'_>, text: &mut Vec<u8>) -> Result<(), AllocError>
     ensures { OnOk result
         (text.new.items ≡ text.old.items
@@ -24,6 +25,7 @@ pub(crate) fn append_body(value: &Value<'_>, text: &mut Vec<u8>) -> Result<(), A
 
 /// Appends the text after the colon: nothing for an empty value, the value itself if it begins on
 /// the next line, else a space and the value.
+#[inline(always)]
 fn append_value(value: &Value<'_>, text: &mut Vec<u8>) -> Result<(), AllocError>
     ensures { OnOk result
         (text.new.items ≡ text.old.items

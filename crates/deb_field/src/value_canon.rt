@@ -26,6 +26,7 @@ impl Canon for Value<'_> {
 
     ghost spelled = { value_spelled };
 
+    #[inline(always)]
     fn canon_len(&self) -> u64 {
         match self {
             Value::Name(name) => name.canon_len(),
@@ -43,6 +44,7 @@ impl Canon for Value<'_> {
         }
     }
 
+    #[inline(always)]
     fn canon_into(&self, out: &mut Vec<u8>) -> Result<(), AllocError> {
         match self {
             Value::Name(name) => name.canon_into(out),

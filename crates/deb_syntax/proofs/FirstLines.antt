@@ -1,9 +1,10 @@
 -- The first line that isn't blank, and the blank lines before it that pass.
-use Rattle.deb_base.specs.Bodies.{file_limit}
-use Rattle.deb_syntax.proofs.Common.{Ended, IsTrue, Takes, had, take, ◌≡◌, ℕ, ◌+◌, ◌-◌, ◌≤◌, ◌⊎◌, inl, inr, List, [], ◌∷◌, ◌++◌, Option, Ok, Err, length, refl, sym, ap, ◌∙◌, subst, append_assoc, append-nil, arith, length-append, get_or, FileTooLong, newline, IsClosed, At, Blank, CutsLine, EndsLine, EndsOverlong, HasFirst, IsFirst, IsNear, IsNextLine, KeepsCounts, KeepsLine, Overlong, PassesOn, Skips, TooLong, Buffered, NoMore, Whole, CursorState, piece_limit, passed_of, lines_of, ends_blank, paragraphs_of, passed_count, next_answer, next_begin, AreBlank, Fault, FirstLine, IsReadersFault, Result}
+use Rattle.deb_base.specs.Bodies.{file_limit, paragraph_limit}
+use Rattle.deb_syntax.proofs.Common.{Ended, IsTrue, Takes, had, take, and_parts, ends_line, eqb-true, length-drop, length-take-le, list_all, take-append-drop, true, ◌==◌, ◌≡◌, ℕ, ◌+◌, ◌-◌, ◌≤◌, ◌⊎◌, inl, inr, List, [], ◌∷◌, ◌++◌, Option, Ok, Err, length, refl, sym, ap, ◌∙◌, subst, append_assoc, append-nil, arith, length-append, get_or, FileTooLong, newline, IsClosed, At, Blank, CutsLine, EndsLine, EndsOverlong, HasFirst, IsFirst, IsNear, IsNextLine, KeepsCounts, KeepsLine, Overlong, PassesOn, Skips, TooLong, Buffered, NoMore, Whole, CursorState, piece_limit, passed_of, lines_of, ends_blank, paragraphs_of, passed_count, next_answer, next_begin, AreBlank, Fault, FirstLine, IsReadersFault, Result}
 use Rattle.deb_syntax.proofs.KeptLines.{cut_lines, ended_lines, ending_short, ends_after, keeps_more, reads_takes}
 use Rattle.deb_syntax.proofs.LeftAnswers.{left-beyond, left-cut}
 use Rattle.deb_syntax.proofs.NextLines.{near-line, near-short}
+use Rattle.deb_syntax.proofs.NextParagraph.{blank-ends}
 use Rattle.deb_syntax.proofs.Passing.{blanks-passed}
 use Rattle.deb_syntax.proofs.Positions.{answer_ahead, at_cut, at_more, at_moves, begin_ahead, cut_at, line_ahead, rest_after}
 
@@ -95,6 +96,39 @@ module _ (before mid : CursorState) (left left_after : Option (List ℕ)) (k : K
           answer_ahead text (passed_of text before) _ before.bytes before.lines cut small ∙ left-beyond (before.lines + 1) room (before.unread ++ a.rest) [] beyond.0 beyond.1 tt (omega arith) ∙ ap (λ k. Err (record { code = FileTooLong; line = k })) at,
           begin_ahead text (passed_of text before) _ before.bytes before.lines cut small ∙ left-cut (before.lines + 1) room (before.unread ++ a.rest) beyond.0 beyond.1 ∙ ap (λ k. Err (record { code = FileTooLong; line = k })) here,
         )
+
+-- newlines are empty lines
+newlines_lines : (xs : List ℕ) → IsTrue (list_all (λ b. b == newline) xs) → AreBlank (lines_of xs) × (length (lines_of xs) ≡ length xs)
+unfolding paragraph_limit
+newlines_lines [] h = (tt, refl)
+newlines_lines (b ∷ xs) h =
+    let p = and_parts (b == newline) (list_all (λ b. b == newline) xs) h in
+    let more = newlines_lines xs p.1 in
+    let lines : lines_of (b ∷ xs) ≡ [] ∷ lines_of xs = ap (λ c. lines_of (c ∷ xs)) (eqb-true b newline p.0) in
+    (subst AreBlank (sym lines) (refl, more.0), omega (arith, ap length lines, more.1))
+
+newlines_end : (xs : List ℕ) → IsTrue (list_all (λ b. b == newline) xs) → ends_line xs ≡ true
+newlines_end [] h = refl
+newlines_end (b ∷ []) h = (and_parts (b == newline) true h).0
+newlines_end (b ∷ c ∷ xs) h = newlines_end (c ∷ xs) (and_parts (b == newline) (list_all (λ b. b == newline) (c ∷ xs)) h).1
+
+module _ (before after : CursorState) (left : Option (List ℕ)) (count : ℕ) (within : count ≤ length before.unread) (all : IsTrue (list_all (λ b. b == newline) (take count before.unread))) (on : PassesOn before count count count after) where
+  pub newlines_near : IsNear before.unread → IsNear after.unread
+  newlines_near near front more is = near (take count before.unread ++ front) more (sym (take-append-drop count before.unread) ∙ ap (λ zs. take count before.unread ++ zs) (sym on.unread ∙ is) ∙ sym (append_assoc (take count before.unread) front (newline ∷ more)))
+
+  pub newlines_had : had after ≡ had before
+  newlines_had = omega (arith, on.bytes, ap length on.unread, length-drop count before.unread, within)
+
+  pub newlines_skip : (text : List ℕ) → At text [] before left → Skips text before [] after left
+  newlines_skip text a =
+      let front = take count before.unread in
+      let l = newlines_lines front all in
+      let size : length front ≡ count = length-take-le count before.unread within in
+      let is : before.unread ++ a.rest ≡ front ++ (after.unread ++ a.rest) = ap (λ zs. zs ++ a.rest) (sym (take-append-drop count before.unread) ∙ ap (λ zs. front ++ zs) (sym on.unread)) ∙ append_assoc front after.unread a.rest in
+      let ended : IsTrue after.ended → a.rest ≡ [] = λ e. a.ended (sym on.ended ∙ e) in
+      let c = at_moves text [] [] front a.rest before after left left a a.told is (inl (newlines_end front all, blank-ends (lines_of front) l.0)) (omega (arith, on.bytes, size)) (omega (arith, on.lines, l.1, size)) ended in
+      let at = cut_at text (passed_of text before ++ front) [] a.rest after left a.told c ended in
+      (at.0, ap paragraphs_of at.1 ∙ blanks-passed text (passed_of text before) _ before.bytes before.lines (at_cut text [] before left a) front _ is l.0)
 
 -- blank lines that have passed before
 pub first_after : (text : List ℕ) (before cursor after : CursorState) (left : Option (List ℕ)) (result : Result FirstLine Fault) → paragraphs_of (passed_of text cursor) ≡ paragraphs_of (passed_of text before) → IsFirst text cursor result after left → IsFirst text before result after left

@@ -1,5 +1,5 @@
 -- How many bytes of a load come before its first newline, from the mask of its newlines.
-use Rattle.std.proofs.Common.{◌≡◌, ℕ, ◌+◌, ◌-◌, ◌%◌, ◌^◌, ◌<◌, ◌≤◌, ◌==◌, Bool, true, false, not, cond, if◌then◌else◌, List, Some, None, map, length, slice_index, slice_range, replicate, w8, w64, inl, inr, sym, ap, subst, ◌∙◌, arith}
+use Rattle.std.proofs.Common.{◌≡◌, ℕ, ◌+◌, ◌-◌, ◌%◌, ◌^◌, ◌<◌, ◌≤◌, ◌==◌, false, not, cond, if◌then◌else◌, List, Some, None, map, length, slice_index, slice_range, replicate, w8, w64, inl, inr, sym, ap, subst, ◌∙◌, arith}
 use Rattle.memchr.specs.Find.{IsFirstByte, Nowhere, Passes, is_byte}
 use Rattle.std.proofs.lemmas.Bool.{cases_lt, true≢false}
 use Rattle.std.proofs.lemmas.List.{get_or-drop, length-drop, take_rest}
@@ -36,13 +36,13 @@ module _ (text : List ℕ) (at : ℕ) (within : at ≤ length text) (none : (k :
             before (k - at) (omega arith) (omega (arith, high, back)) (ap (is_byte newline) (same (k - at) ∙ ap (λ i. slice_index text i) back) ∙ is)
       ]
 
-  pub first_behind : (r : ℕ) → IsFirstByte (is_byte newline) (slice_range text at (length text)) (Some r) → IsFirstByte (is_byte newline) text (Some (at + r))
-  first_behind r is = (
+  pub first_after : (r : ℕ) → IsFirstByte (is_byte newline) (slice_range text at (length text)) (Some r) → IsFirstByte (is_byte newline) text (Some (at + r))
+  first_after r is = (
     record { low = omega arith; high = omega (arith, is.0.high, size, within); before = none_after r is.0.before },
     ap (is_byte newline) (sym (same r)) ∙ is.1,
   )
 
-  pub none_behind : IsFirstByte (is_byte newline) (slice_range text at (length text)) None → IsFirstByte (is_byte newline) text None
-  none_behind is =
+  pub none_up_to : IsFirstByte (is_byte newline) (slice_range text at (length text)) None → IsFirstByte (is_byte newline) text None
+  none_up_to is =
       let whole : at + length (slice_range text at (length text)) ≡ length text = omega (arith, size, within) in
       subst (λ n. Nowhere (Passes (is_byte newline) text) 0 n) whole (none_after _ is)

@@ -1,12 +1,13 @@
 //! Finds the first line that isn't blank (Debian Policy 5.1).
 
-ghost use Rattle.std.specs.Prelude.{◌≡◌, ◌+◌, ◌≤◌, ℕ, List, [], IfErr, IsTrue};
-ghost use Rattle.deb_base.specs.Bodies.{file_limit};
+ghost use Rattle.std.specs.Prelude.{◌≡◌, ◌+◌, ◌≤◌, ◌==◌, ℕ, List, [], length, take, IfErr, IsTrue};
+ghost use Rattle.std.specs.List.{list_all};
+ghost use Rattle.deb_base.specs.Bodies.{file_limit, newline};
 ghost use Rattle.deb_base.specs.Devices.{read_failures_after};
 ghost use Rattle.deb_base.specs.Faults.{IsReadersFault};
 ghost use Rattle.deb_base.specs.Reading.{piece_limit};
 ghost use Rattle.deb_syntax.specs.Ahead.{At, HasFirst, IsFirst};
-ghost use Rattle.deb_syntax.specs.Cursors.{cursor_state, had, Takes};
+ghost use Rattle.deb_syntax.specs.Cursors.{cursor_state, had, PassesOn, Takes};
 ghost use Rattle.deb_syntax.specs.Judged.{IsRefusalOfLength};
 ghost use Rattle.deb_syntax.specs.NextLines.{IsNear};
 
@@ -51,7 +52,10 @@ pub(crate) fn first_line<R: Source>(
 {
     'walk: loop {
         match next_line(cursor, 0, reader)? {
-            NextLine::Blank { bytes, next } => cursor.consume(next, bytes, 1),
+            NextLine::Blank { bytes, next } => {
+                cursor.consume(next, bytes, 1);
+                pass_newlines(cursor);
+            }
             NextLine::Whole { end, next } => return Ok(FirstLine::Buffered { end, next }),
             NextLine::Overlong { len, end } => {
                 cursor.consume(end, 0, 0);
@@ -66,4 +70,26 @@ pub(crate) fn first_line<R: Source>(
             NextLine::Ended => return Ok(FirstLine::NoMore),
         }
     }
+}
+
+/// Passes the newlines that the unread bytes begin with, each of which is an empty line.
+fn pass_newlines(cursor: &mut FileCursor)
+    ensures { (count : ℕ) × (count ≤ length (cursor_state cursor.old).unread)
+        × IsTrue (list_all (λ b. b == newline) (take count (cursor_state cursor.old).unread))
+        × PassesOn (cursor_state cursor.old) count count count (cursor_state cursor.new) }
+{
+    let count = newlines(cursor.visible(0).bytes);
+    cursor.consume(count, count as u64, count as u64);
+}
+
+/// How many newlines the text begins with.
+fn newlines(text: &[u8]) -> usize
+    ensures within { result ≤ length text.now }
+    ensures all { IsTrue (list_all (λ b. b == newline) (take result text.now)) }
+{
+    let mut count = 0;
+    while count < text.len() && text[count] == b'\n' {
+        count += 1;
+    }
+    count
 }

@@ -2,7 +2,7 @@
 //! field can be.
 
 use deb_base::*;
-use std::alloc::Global;
+use std::alloc::{AllocError, Global};
 use std::io::{self, ErrorKind, Read, Write};
 use std::process::Abort;
 
@@ -160,4 +160,54 @@ fn bodies_of_fields(rt: HostRuntime) {
     for (body, wanted) in BODIES {
         assert!(rt; is_body(body) == wanted, "{body:?}");
     }
+}
+
+/// Names of fields in Debian's indexes.
+const NAMES: [&'static str; 28] = [
+    "Architecture",
+    "Binary",
+    "Breaks",
+    "Build-Depends",
+    "Build-Depends-Indep",
+    "Built-Using",
+    "Checksums-Sha256",
+    "Conflicts",
+    "Depends",
+    "Description",
+    "Description-md5",
+    "Filename",
+    "Homepage",
+    "Installed-Size",
+    "MD5sum",
+    "Maintainer",
+    "Multi-Arch",
+    "Package",
+    "Priority",
+    "Provides",
+    "Recommends",
+    "SHA256",
+    "Section",
+    "Size",
+    "Source",
+    "Suggests",
+    "Tag",
+    "Version",
+];
+
+/// No clause says that a usual name is found at once.
+#[test]
+fn usual_names_are_found_near_the_front(rt: HostRuntime) {
+    for name in &NAMES {
+        assert!(rt; matches!(is_found(rt.alloc(), name.as_bytes()), Ok(true)), "{name}");
+    }
+}
+
+fn is_found(alloc: Global, name: &[u8]) -> Result<bool, AllocError> {
+    let mut text = Vec::new(alloc);
+    text.extend_from_slice(name)?;
+    text.extend_from_slice(b": a value of 32 bytes, or of more")?;
+    let found = FieldId::near_front(text.as_slice());
+    Ok(found.is_some_and(|front| {
+        front.len == name.len() && front.id.row() == FieldId::of(name).row()
+    }))
 }

@@ -82,7 +82,11 @@ fn taken(file: &[u8], reader: &Pieces<'_>) -> usize {
 /// What precedes a byte that comes for ever, the byte, and the line that is cut off.
 struct Cut(&'static [u8], u8, u64);
 
-const CUTS: [Cut; 2] = [Cut(b"", b' ', 1), Cut(b"A: 1\n", b'x', 2)];
+const CUTS: [Cut; 3] = [
+    Cut(b"", b'\n', 4_294_967_296),
+    Cut(b"", b' ', 1),
+    Cut(b"A: 1\n", b'x', 2),
+];
 
 #[test]
 fn files_without_end_are_refused(rt: HostRuntime) {

@@ -1,6 +1,6 @@
 use Rattle.deb_syntax.proofs.Common.{◌∙◌, ◌+◌, Ok, Err, Refused, FileTooLong, Buffered, NoMore, TooLong, subst, refl, arith, cursor_state, IsNextLine}
 use Rattle.deb_syntax.proofs.CursorLemmas.{cursor_small}
-use Rattle.deb_syntax.proofs.FirstLines.{blank_near, blank_passes, cut_refused, ended_skips, first_after, first_kept, first_long, long_dropped, whole_skips}
+use Rattle.deb_syntax.proofs.FirstLines.{blank_near, blank_passes, cut_refused, ended_skips, first_after, first_kept, first_long, long_dropped, newlines_had, newlines_near, newlines_skip, whole_skips}
 use Rattle.deb_syntax.proofs.Takings.{takes_none, takes_then}
 use Rattle.deb_syntax.proofs.first.first_line.Goals as goal
 
@@ -19,18 +19,25 @@ next_line-requires-clause-room g c = omega (arith, cursor_small c.walk.cursor)
 
 pub walk-preserved : goal.walk-preserved
 walk-preserved g c =
-    let before = cursor_state c.walk.cursor in let mid = cursor_state c.next_line.new.cursor in let after = cursor_state c.consume.new.self in
+    let before = cursor_state c.walk.cursor in let mid = cursor_state c.next_line.new.cursor in
+    let passed = cursor_state c.consume.new.self in let after = cursor_state c.pass_newlines.new.cursor in
     let left = g.R.Source.left c.walk.reader in let left_after = g.R.Source.left c.next_line.new.reader in
     let counts = c.in_ok-bytes.ensures.counts in
     let line = subst (λ r. IsNextLine 0 before left r mid left_after) c.in-Blank.is c.in_ok-bytes.ensures.line in
-    let near = blank_near before mid left left_after counts _ _ after line c.consume.ensures.passes in
+    let near = blank_near before mid left left_after counts _ _ passed line c.consume.ensures.passes in
+    let (count, within, all, on) = c.pass_newlines.ensures in
+    let same = newlines_had passed after left_after count within all on in
     record {
-      skips = λ text a. let s = c.walk.invariant.skips text a in let t = blank_passes before mid left left_after counts text s.0 _ _ after line c.consume.ensures.passes in (t.0, t.1 ∙ s.1);
-      near = near.0;
-      reach = near.1;
-      takes = takes_then _ _ _ _ _ _ _ _ c.walk.invariant.takes near.2 (omega arith);
+      skips = λ text a.
+          let s = c.walk.invariant.skips text a in
+          let t = blank_passes before mid left left_after counts text s.0 _ _ passed line c.consume.ensures.passes in
+          let u = newlines_skip passed after left_after count within all on text t.0 in
+          (u.0, u.1 ∙ t.1 ∙ s.1);
+      near = newlines_near passed after left_after count within all on near.0;
+      reach = omega (arith, near.1, same);
+      takes = takes_then _ _ _ _ _ _ _ _ c.walk.invariant.takes near.2 (omega (arith, same));
       counted = c.in_ok-bytes.ensures.fault_iff_device_failed ∙ c.walk.invariant.counted;
-      quiet = λ e. let q = c.walk.invariant.quiet e in (c.consume.ensures.passes.ended ∙ counts.ended q.0, c.in_ok-bytes.ensures.source_untouched q.0 ∙ q.1);
+      quiet = λ e. let q = c.walk.invariant.quiet e in (on.ended ∙ c.consume.ensures.passes.ended ∙ counts.ended q.0, c.in_ok-bytes.ensures.source_untouched q.0 ∙ q.1);
     }
 
 pub returns-in-Whole-clause-found : goal.returns-in-Whole-clause-found

@@ -1,5 +1,5 @@
 use Rattle.deb_syntax.proofs.Newlines.{counted}
-use Rattle.std.proofs.Common.{◌+◌, ◌<◌, ◌≤◌, ◌==◌, length, arith}
+use Rattle.std.proofs.Common.{◌==◌}
 use Rattle.std.proofs.lemmas.Bool.{eqb-true}
 use Rattle.std.proofs.lemmas.Simd.{run_in_chunk_fails, run_in_chunk_le, run_in_chunk_stops}
 use Rattle.deb_syntax.proofs.newline.front_len.Goals as goal
