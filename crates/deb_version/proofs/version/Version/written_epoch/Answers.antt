@@ -1,11 +1,16 @@
-use Rattle.deb_version.proofs.Common.{◌≡◌, ap, refl, sym, ◌∙◌, components_of}
+use Rattle.deb_version.proofs.Common.{◌≡◌, ap, sym, ◌∙◌, components_of}
+use Rattle.std.specs.Option.{option_copied}
 use Rattle.deb_version.proofs.LeadingZeros.{without_zeros}
-use Rattle.deb_version.proofs.CanonicalWritten.{or_zero, or_zero-now, epoch_written, epoch_for_colon, epoch_left_out}
+use Rattle.deb_version.proofs.CanonicalTexts.{unwritten_epoch}
+use Rattle.deb_version.proofs.CanonicalWritten.{or_zero, epoch_written, epoch_for_colon, epoch_left_out}
 use Rattle.deb_version.proofs.version.Version.written_epoch.Goals as goal
 use Rattle.deb_version.proofs.version.Version.written_epoch.Goals.{After-is_empty}
 
+pub returns-in_default : goal.returns-in_default
+returns-in_default c = sym (unwritten_epoch (components_of c.args.self.now) c.args.self.now.well_formed (ap option_copied c.in_default.is))
+
 digits_left : (c : After-is_empty) → c.without_zeros-digits.result.now ≡ without_zeros (or_zero (components_of c.args.self.now).epoch)
-digits_left c = c.without_zeros-digits.ensures ∙ ap without_zeros (ap (λ r. r.now) c.unwrap_or.ensures ∙ or_zero-now c.args.self.now.epoch _ refl)
+digits_left c = c.without_zeros-digits.ensures ∙ ap (λ o. without_zeros (or_zero (option_copied o))) (sym c.in-Some.is)
 
 pub returns-then-not-is_empty : goal.returns-then-not-is_empty
 returns-then-not-is_empty c =
