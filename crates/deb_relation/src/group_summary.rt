@@ -2,6 +2,7 @@
 
 ghost use Rattle.std.specs.Prelude.{◌≡◌, ◌||◌, ◌++◌, ◌∷◌, [], IfSome, Ok, OnOk, codes, map};
 ghost use Rattle.std.specs.Option.{option_map};
+ghost use Rattle.std.specs.Ordering.{is_eq};
 ghost use Rattle.deb_relation.specs.Grammar.{set_of};
 ghost use Rattle.deb_relation.specs.Reading.{append, begins, gather, is_at_end, mapped, next_alternative};
 ghost use Rattle.deb_relation.specs.Sets.{byte_cmp};
@@ -159,6 +160,7 @@ fn compare_groups(a: &GroupSummary<'_>, b: &GroupSummary<'_>) -> Ordering
 
 /// Whether two groups have the same text.
 fn same_group(a: &GroupSummary<'_>, b: &GroupSummary<'_>) -> bool
+    ensures { result ≡ is_eq (byte_cmp (told_key a.now) (told_key b.now)) }
 {
     a.text.bytes() == b.text.bytes()
 }
