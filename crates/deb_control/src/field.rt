@@ -38,6 +38,7 @@ fn append_value(value: &Value<'_>, text: &mut Vec<u8>) -> Result<(), AllocError>
 }
 
 /// Whether a space separates a value's text from the colon before it.
+#[inline(always)]
 pub(crate) fn is_spaced(value: &Value<'_>) -> bool
     ensures { behind_colon (value_text (value_meaning value.now))
         ≡ cond result (32 ∷ value_text (value_meaning value.now))
@@ -47,6 +48,7 @@ pub(crate) fn is_spaced(value: &Value<'_>) -> bool
 }
 
 /// Whether a value's text is empty. Only of some kinds it is measured.
+#[inline(always)]
 fn is_empty(value: &Value<'_>) -> bool
     ensures { result ≡ nat_eq (length (value_text (value_meaning value.now))) 0 }
 {

@@ -25,8 +25,8 @@ use deb_base::{
     Code, Fault, FieldId, Kind, PARAGRAPH_LIMIT, Refusal, Relationship, required_fields,
 };
 use deb_field::{
-    ArchitectureName, Canon, Doc, Line, Number, PackageName, RelationField, Text, Value,
-    ValueFault, parse_version,
+    ArchitectureName, Canon, Doc, Line, MultiArch, Number, PackageName, RelationField, SourceName,
+    Text, Value, ValueFault, parse_version,
 };
 use deb_syntax::{Raw, RawField};
 use std::alloc::{AllocError, Global};
@@ -114,6 +114,8 @@ fn visit_field<V: FieldVisitor>(
         Kind::Number => visit_as_number(field, visitor),
         Kind::Version => visit_as_version(field, visitor),
         Kind::Architecture => visit_as_architecture(field, visitor),
+        Kind::Source => visit_as_source(field, visitor),
+        Kind::MultiArch => visit_as_multi_arch(field, visitor),
         Kind::Relation(relationship) => visit_as_relation(alloc, relationship, field, visitor),
         _ => visit_as_kind(alloc, kind, field, visitor),
     }
@@ -208,6 +210,37 @@ fn visit_as_architecture<V: FieldVisitor>(
     }
 }
 
+/// Visits a field whose value is the name of a source package, with a version or without.
+#[inline(never)]
+fn visit_as_source<V: FieldVisitor>(field: &RawField<'_>, visitor: &mut V) -> Result<u64, Fault>
+    ensures visits { IfOk result
+        (VisitsField V.Visited visitor.old visitor.new kinds.Source (field_of field.now)) }
+    ensures fault { IfErr result
+        (λ fault. RefusedOrMemory fault
+        (λ refusal. (refusal.line ≡ field.now.line)
+        × (kind_refusal kinds.Source field.now.body.now ≡ Some refusal.code))) }
+{
+    match SourceName::parse(field.body) {
+        Ok(value) => Ok(visit_value(field, &Value::Source(value), visitor)?),
+        Err(code) => Err(refused(code, field.line)),
+    }
+}
+
+/// Visits a field whose value is a word of Multi-Arch.
+fn visit_as_multi_arch<V: FieldVisitor>(field: &RawField<'_>, visitor: &mut V) -> Result<u64, Fault>
+    ensures visits { IfOk result
+        (VisitsField V.Visited visitor.old visitor.new kinds.MultiArch (field_of field.now)) }
+    ensures fault { IfErr result
+        (λ fault. RefusedOrMemory fault
+        (λ refusal. (refusal.line ≡ field.now.line)
+        × (kind_refusal kinds.MultiArch field.now.body.now ≡ Some refusal.code))) }
+{
+    match MultiArch::parse(field.body) {
+        Ok(value) => Ok(visit_value(field, &Value::MultiArch(value), visitor)?),
+        Err(code) => Err(refused(code, field.line)),
+    }
+}
+
 /// Visits a field whose value is a relation.
 #[inline(never)]
 fn visit_as_relation<V: FieldVisitor>(
@@ -272,6 +305,7 @@ fn visit_value<V: FieldVisitor>(
 
 /// Returns the length of the canonical text of a field with this value, or `u64::MAX` if it is
 /// greater.
+#[inline(always)]
 fn canonical_len(name: &[u8], value: &Value<'_>) -> u64
     ensures { result ≡ min (length (field_text
         (canonical_name name.now, value_text (value_meaning value.now)))) (2 ^ 64 - 1) }

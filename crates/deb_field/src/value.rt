@@ -128,6 +128,7 @@ impl<'a> Value<'a> {
 
     /// Returns whether the canonical text begins with a newline, so that it is on the lines below
     /// the field's name. Only a text can.
+    #[inline(always)]
     pub fn begins_with_newline(&self) -> bool
         ensures { result ≡ begins_with_newline (value_text (value_meaning self.now)) }
     {
