@@ -1,11 +1,14 @@
 -- Where the fields of a canonical text end, and what a map of them has.
-use Rattle.std.proofs.Common.{◌≡◌, ℕ, ◌+◌, ◌==◌, ◌&&◌, Bool, true, false, not, cond, IsTrue, List, [], ◌∷◌, ◌++◌, length, map, drop, take, Bor, refl, sym, ap, ◌∙◌, arith}
+use Rattle.std.proofs.Common.{◌≡◌, ℕ, ◌+◌, ◌==◌, ◌&&◌, Bool, true, false, not, cond, IsTrue, List, [], ◌∷◌, ◌++◌, length, map, drop, take, Bor, Some, None, refl, sym, ap, ◌∙◌, arith}
 use Rattle.std.proofs.lemmas.Bool.{and_parts, false≢true}
 use Rattle.std.proofs.lemmas.Bool.Decides.{nat_tests}
-use Rattle.std.proofs.lemmas.List.{append_assoc, length-append, drop-drop}
+use Rattle.std.proofs.lemmas.List.{append_assoc, length-append}
 use Rattle.std.specs.List.{AllByRecursion, list_all, prefix_len}
-use Rattle.std.specs.BTreeMap.{insert_entry}
-use Rattle.std.specs.Ordering.{match_ordering}
+use Rattle.std.specs.BTreeMap.{insert_entry, is_at}
+use Rattle.std.specs.FinMap.{find}
+use Rattle.std.specs.Map.{lookup}
+use Rattle.std.specs.Option.{option_map}
+use Rattle.std.specs.Ordering.{is_eq, match_ordering}
 use Rattle.std.specs.declared.cmp.Ordering.{Ordering}
 use Rattle.std.specs.declared.cmp.Ordering.TheVariants.{Less, Equal, Greater}
 use Rattle.deb_base.specs.Bodies.{Line, begins_with_blank, ends_with_blank, is_blank, is_blank_byte, is_continuation, newline, pieces_of, with_byte}
@@ -13,7 +16,8 @@ use Rattle.deb_base.specs.FieldNames.{colon, is_name, is_name_byte}
 use Rattle.deb_base.proofs.FieldBytes.{each_from_list_all, each_name_byte}
 use Rattle.deb_syntax.specs.Meaning.{Entries, byte_order}
 use Rattle.deb_control.specs.Canonical.{behind_colon, field_text, paragraph_text}
-use Rattle.deb_diff.specs.Cuts.{IsCut, field_len, rest_of, texts_in}
+use Rattle.deb_diff.specs.Cuts.{IsCut, IsFirst, field_len, rest_of, texts_in}
+use Rattle.deb_diff.specs.declared.cut.First.{First}
 use Rattle.deb_diff.specs.Fields.{fields_of_both}
 
 -- a space or a tab comes after each newline
@@ -130,29 +134,14 @@ insert_now cmp same (e ∷ entries) k v = rw (same k e.0) (go (byte_order k.now 
     go Equal h = refl
     go Greater h = ap (λ l. (e.0.now, e.1.now) ∷ l) h
 
--- The fields so far were added, and these are to come.
-pub record Adds (initial : Lents) (entries : Entries) (text : List ℕ) (start : ℕ) (now : Lents) : Type 0 where
-  pub rest : Entries
-  pub each : AllByRecursion IsCut rest
-  pub text_is : drop start text ≡ paragraph_text rest
-  pub fields : fields_of_both (texts_in now) (map rest_of rest) ≡ fields_of_both (texts_in initial) (map rest_of entries)
-
-no_text : (entry : List ℕ × List ℕ) (entries : Entries) → paragraph_text (entry ∷ entries) ≡ [] → ⊥
-no_text entry entries e = go entry.0 e
+-- a look-up by bytes among borrowed keys
+pub found_now : (compare : Bor (List ℕ) → Ordering) (name : List ℕ) → ((q : Bor (List ℕ)) → compare q ≡ byte_order name q.now) → (entries : Lents) → option_map (λ t. t.now) (lookup (is_at compare) entries) ≡ find byte_order name (texts_in entries)
+found_now compare name same [] = refl
+found_now compare name same (e ∷ entries) = rw (same e.0) (go (is_eq (byte_order name e.0.now)) (found_now compare name same entries))
   where
-    go : (name : List ℕ) → (name ++ colon ∷ (behind_colon entry.1 ++ newline ∷ [])) ++ paragraph_text entries ≡ [] → ⊥
-    go [] e = cc e
-    go (b ∷ bs) e = cc e
-
-none_to_come : (rest : Entries) → paragraph_text rest ≡ [] → rest ≡ []
-none_to_come [] e = refl
-none_to_come (entry ∷ rest) e = absurd (no_text entry rest e)
-
--- at the end none is to come
-pub adds_all : (initial : Lents) (entries : Entries) (text : List ℕ) (start : ℕ) (now : Lents) → Adds initial entries text start now → drop start text ≡ [] → texts_in now ≡ fields_of_both (texts_in initial) (map rest_of entries)
-adds_all initial entries text start now adds none =
-    let rest = none_to_come adds.rest (sym adds.text_is ∙ none) in
-    ap (λ r. fields_of_both (texts_in now) (map rest_of r)) (sym rest) ∙ adds.fields
+    go : (b : Bool) → option_map (λ t. t.now) (lookup (is_at compare) entries) ≡ find byte_order name (texts_in entries) → option_map (λ t. t.now) (cond b (Some e.1) (lookup (is_at compare) entries)) ≡ cond b (Some e.1.now) (find byte_order name (texts_in entries))
+    go true h = refl
+    go false h = h
 
 take_front : (xs ys : List ℕ) → take (length xs) (xs ++ ys) ≡ xs
 take_front [] ys = refl
@@ -162,26 +151,47 @@ drop_front : (xs ys : List ℕ) → drop (length xs) (xs ++ ys) ≡ ys
 drop_front [] ys = refl
 drop_front (x ∷ xs) ys = drop_front xs ys
 
--- one field more
-pub adds_more : (initial : Lents) (entries : Entries) (text piece : List ℕ) (start n m stop : ℕ) (now new : Lents) (k v : Bor (List ℕ)) → Adds initial entries text start now → piece ≡ drop start text → (piece ≡ [] → ⊥)
-    → n ≡ field_len piece → stop ≡ start + n → m ≡ prefix_len (λ b. not (b == 58)) (take n piece) → k.now ≡ take m (take n piece) → v.now ≡ drop m (take n piece)
-    → texts_in new ≡ insert_entry byte_order (texts_in now) k.now v.now → Adds initial entries text stop new
-adds_more initial entries text piece start n m stop now new k v adds piece_is some len stop_is name_is key value inserted = go adds.rest adds.each (piece_is ∙ adds.text_is) adds.fields
+-- the first field of a text that is cut where its length and that of its name say
+pub first_cut : (text field : List ℕ) (n m : ℕ) (entries : Entries) (first : First) → AllByRecursion IsCut entries → text ≡ paragraph_text entries → (length text == 0) ≡ false → n ≡ field_len text → field ≡ take n text → first.rest.now ≡ drop n text
+    → m ≡ prefix_len (λ b. not (b == 58)) field → first.name.now ≡ take m field → first.body.now ≡ drop m field → IsFirst entries (Some first)
+first_cut text field n m [] first each is some len front back name_is key value = absurd (false≢true (sym some ∙ ap (λ l. length l == 0) is))
+first_cut text field n m (entry ∷ entries) first each is some len front back name_is key value =
+    let own = field_text entry in
+    let tail = colon ∷ (behind_colon entry.1 ++ newline ∷ []) in
+    let n_is : n ≡ length own = len ∙ ap field_len is ∙ len_first entry entries each in
+    let field_is : field ≡ own = front ∙ ap (λ i. take i text) n_is ∙ ap (take (length own)) is ∙ take_front own (paragraph_text entries) in
+    let m_is : m ≡ length entry.0 = name_is ∙ ap (prefix_len (λ b. not (b == 58))) field_is ∙ name_len_first entry each.0 in
+    record {
+      name = key ∙ ap (λ i. take i field) m_is ∙ ap (take (length entry.0)) field_is ∙ take_front entry.0 tail;
+      body = value ∙ ap (λ i. drop i field) m_is ∙ ap (drop (length entry.0)) field_is ∙ drop_front entry.0 tail;
+      rest = back ∙ ap (λ i. drop i text) n_is ∙ ap (drop (length own)) is ∙ drop_front own (paragraph_text entries);
+    }
+
+-- The fields so far were added, and these are to come.
+pub record Adds (initial : Lents) (entries : Entries) (text : List ℕ) (now : Lents) : Type 0 where
+  pub rest : Entries
+  pub each : AllByRecursion IsCut rest
+  pub text_is : text ≡ paragraph_text rest
+  pub fields : fields_of_both (texts_in now) (map rest_of rest) ≡ fields_of_both (texts_in initial) (map rest_of entries)
+
+-- at the end none is to come
+pub adds_all : (initial : Lents) (entries : Entries) (text : List ℕ) (now : Lents) (adds : Adds initial entries text now) → IsFirst adds.rest None → texts_in now ≡ fields_of_both (texts_in initial) (map rest_of entries)
+adds_all initial entries text now adds none = go adds.rest none adds.fields
   where
-    go : (rest : Entries) → AllByRecursion IsCut rest → piece ≡ paragraph_text rest → fields_of_both (texts_in now) (map rest_of rest) ≡ fields_of_both (texts_in initial) (map rest_of entries) → Adds initial entries text stop new
-    go [] each is fields = absurd (some is)
-    go (entry ∷ rest) each is fields =
-        let own = field_text entry in
-        let tail = colon ∷ (behind_colon entry.1 ++ newline ∷ []) in
-        let n_is : n ≡ length own = len ∙ ap field_len is ∙ len_first entry rest each in
-        let field : take n piece ≡ own = ap (λ i. take i piece) n_is ∙ ap (take (length own)) is ∙ take_front own (paragraph_text rest) in
-        let m_is : m ≡ length entry.0 = name_is ∙ ap (prefix_len (λ b. not (b == 58))) field ∙ name_len_first entry each.0 in
-        let k_is : k.now ≡ entry.0 = key ∙ ap (λ i. take i (take n piece)) m_is ∙ ap (take (length entry.0)) field ∙ take_front entry.0 tail in
-        let v_is : v.now ≡ tail = value ∙ ap (λ i. drop i (take n piece)) m_is ∙ ap (drop (length entry.0)) field ∙ drop_front entry.0 tail in
-        let after : drop n piece ≡ paragraph_text rest = ap (λ i. drop i piece) n_is ∙ ap (drop (length own)) is ∙ drop_front own (paragraph_text rest) in
-        record {
-          rest = rest;
-          each = each.1;
-          text_is = ap (λ i. drop i text) stop_is ∙ sym (drop-drop n start text) ∙ ap (drop n) (sym piece_is) ∙ after;
-          fields = ap (λ l. fields_of_both l (map rest_of rest)) (inserted ∙ ap (λ a. insert_entry byte_order (texts_in now) a v.now) k_is ∙ ap (insert_entry byte_order (texts_in now) entry.0) v_is) ∙ fields;
-        }
+    go : (rest : Entries) → IsFirst rest None → fields_of_both (texts_in now) (map rest_of rest) ≡ fields_of_both (texts_in initial) (map rest_of entries) → texts_in now ≡ fields_of_both (texts_in initial) (map rest_of entries)
+    go [] is fields = fields
+    go (entry ∷ rest) is fields = absurd is
+
+-- one field more
+pub adds_more : (initial : Lents) (entries : Entries) (text : List ℕ) (now new : Lents) (first : First) (adds : Adds initial entries text now) → IsFirst adds.rest (Some first)
+    → texts_in new ≡ insert_entry byte_order (texts_in now) first.name.now first.body.now → Adds initial entries first.rest.now new
+adds_more initial entries text now new first adds is inserted = go adds.rest adds.each is adds.fields
+  where
+    go : (rest : Entries) → AllByRecursion IsCut rest → IsFirst rest (Some first) → fields_of_both (texts_in now) (map rest_of rest) ≡ fields_of_both (texts_in initial) (map rest_of entries) → Adds initial entries first.rest.now new
+    go [] each is fields = absurd is
+    go (entry ∷ rest) each is fields = record {
+      rest = rest;
+      each = each.1;
+      text_is = is.rest;
+      fields = ap (λ l. fields_of_both l (map rest_of rest)) (inserted ∙ ap (λ a. insert_entry byte_order (texts_in now) a first.body.now) is.name ∙ ap (insert_entry byte_order (texts_in now) entry.0) is.body) ∙ fields;
+    }

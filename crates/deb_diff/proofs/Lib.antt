@@ -11,8 +11,8 @@ pub mod Partnered
 pub mod Walked
 pub mod Lined
 pub mod Cutting
-pub mod Naming
-pub mod Differed
+pub mod Rests
+pub mod Merging
 pub mod Marking
 pub mod Fating
 pub mod Linked

@@ -10,7 +10,7 @@ use Rattle.deb_syntax.specs.Meaning.{Entries, byte_order}
 use Rattle.deb_diff.specs.Cuts.{rest_of}
 use Rattle.deb_diff.specs.Marks.{lines_in, lines_of_rest}
 use Rattle.deb_diff.specs.Values.{field_lines, lines_under, marked, new_mark, old_mark}
-use Rattle.deb_diff.proofs.Differed.{find_rests, tail}
+use Rattle.deb_diff.proofs.Rests.{find_rests, tail}
 
 -- the number of bytes before the first newline
 abbrev pub line_len : List ℕ → ℕ

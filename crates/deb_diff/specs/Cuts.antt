@@ -1,12 +1,13 @@
 -- Where the fields of a paragraph's canonical text end.
-use Rattle.std.specs.Prelude.{◌≡◌, ℕ, ◌+◌, ◌==◌, ◌&&◌, not, cond, IsTrue, List, [], ◌∷◌, ◌++◌, map, codes, refl}
+use Rattle.std.specs.Prelude.{◌≡◌, ℕ, ◌+◌, ◌==◌, ◌&&◌, not, cond, IsTrue, List, [], ◌∷◌, ◌++◌, map, Option, None, Some, codes, refl}
 use Rattle.std.specs.Borrow.{Bor}
 use Rattle.std.specs.List.{AllByRecursion}
 use Rattle.std.specs.declared.cmp.Ordering.TheVariants.{Less}
 use Rattle.deb_base.specs.Bodies.{begins_with_blank, is_body_shape, newline}
 use Rattle.deb_base.specs.FieldNames.{colon, is_name}
 use Rattle.deb_syntax.specs.Meaning.{Entries, byte_order}
-use Rattle.deb_control.specs.Canonical.{behind_colon}
+use Rattle.deb_control.specs.Canonical.{behind_colon, paragraph_text}
+use Rattle.deb_diff.specs.declared.cut.First.{First}
 
 -- the bytes until a newline after which there is no space or tab
 abbrev pub field_len : List ℕ → ℕ
@@ -32,6 +33,19 @@ AreAscending (entry ∷ entries) =
 pub record AreCut (entries : Entries) : Type 0 where
   pub each : AllByRecursion IsCut entries
   pub ascending : AreAscending entries
+
+-- A field was cut off from these.
+pub record IsCutOff (entry : List ℕ × List ℕ) (entries : Entries) (first : First) : Type 0 where
+  pub name : first.name.now ≡ entry.0
+  pub body : first.body.now ≡ (rest_of entry).1
+  pub rest : first.rest.now ≡ paragraph_text entries
+
+-- the first field was, if there is one
+abbrev pub IsFirst : Entries → Option First → Type 0
+IsFirst [] None = Unit {0}
+IsFirst [] (Some first) = ⊥
+IsFirst (entry ∷ entries) None = ⊥
+IsFirst (entry ∷ entries) (Some first) = IsCutOff entry entries first
 
 -- what a map of borrowed texts holds
 abbrev pub texts_in : List (Bor (List ℕ) × Bor (List ℕ)) → Entries

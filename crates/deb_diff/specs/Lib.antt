@@ -15,6 +15,7 @@ pub mod Sifting
 pub mod Both
 pub mod Partners
 pub mod Cuts
+pub mod Merging
 pub mod Marks
 pub mod Lefts
 pub mod Walks

@@ -1,11 +1,11 @@
 //! Cuts the canonical text of a paragraph into its fields.
 
-ghost use Rattle.std.specs.Prelude.{◌≡◌, ◌≤◌, ◌<◌, ◌==◌, not, length, map, OnOk};
-ghost use Rattle.std.specs.List.{prefix_len};
+ghost use Rattle.std.specs.Prelude.{◌≡◌, ◌≤◌, ◌<◌, ◌==◌, not, length, map, IfSome, OnOk};
+ghost use Rattle.std.specs.List.{AllByRecursion, prefix_len};
 ghost use Rattle.deb_base.specs.Bodies.{begins_with_blank};
 ghost use Rattle.deb_syntax.specs.Meaning.{Entries};
 ghost use Rattle.deb_control.specs.Canonical.{paragraph_text};
-ghost use Rattle.deb_diff.specs.Cuts.{AreCut, field_len, rest_of};
+ghost use Rattle.deb_diff.specs.Cuts.{AreCut, IsCut, IsFirst, field_len, rest_of};
 ghost use Rattle.deb_diff.specs.Fields.{fields_of_both};
 
 use std::alloc::{AllocError, Global};
@@ -21,13 +21,10 @@ pub(crate) fn add_fields<'a>(fields: &mut FieldMap<'a>, text: &'a [u8]) -> Resul
         ≡ fields_of_both (map (λ e. (e.0.now, e.1.now)) fields.old.entries)
         (map rest_of entries)) }
 {
-    let mut start = 0;
-    while start < text.len() {
-        let rest = &text[start..];
-        let field = &rest[..field_len(rest)];
-        let (name, body) = field.split_at(name_len(field));
-        fields.insert(name, body)?;
-        start += field.len();
+    let mut rest = text;
+    while let Some(first) = first_field(rest) {
+        fields.insert(first.name, first.body)?;
+        rest = first.rest;
     }
     Ok(())
 }
@@ -41,7 +38,11 @@ pub(crate) struct First<'a> {
 }
 
 /// Returns the first field of a canonical text, if there is one.
-pub(crate) fn first_field(text: &[u8]) -> Option<First<'_>> {
+pub(crate) fn first_field(text: &[u8]) -> Option<First<'_>>
+    ensures first { (entries : Entries) → AllByRecursion IsCut entries
+        → text.now ≡ paragraph_text entries → IsFirst entries result }
+    ensures shorter { IfSome result (λ first. length first.rest.now < length text.now) }
+{
     if text.is_empty() {
         return None;
     }

@@ -1,10 +1,10 @@
 //! Which fields of two paragraphs differ.
 
-ghost use Rattle.std.specs.Prelude.{◌≡◌, map, IfOk};
-ghost use Rattle.std.specs.List.{filter};
-ghost use Rattle.std.specs.Option.{option_copied, option_map};
-ghost use Rattle.deb_diff.specs.Cuts.{AreCut, texts_in};
-ghost use Rattle.deb_diff.specs.Fields.{differing, differs, is_same_body};
+ghost use Rattle.std.specs.Prelude.{◌≡◌, ◌+◌, ◌<◌, [], length, map, IfOk, IfSome, MatchOption};
+ghost use Rattle.std.specs.Option.{option_to_list};
+ghost use Rattle.deb_diff.specs.Cuts.{AreCut};
+ghost use Rattle.deb_diff.specs.Fields.{differing};
+ghost use Rattle.deb_diff.specs.Merging.{Merges, differing_text};
 ghost use Rattle.deb_syntax.specs.Meaning.{Entries};
 ghost use Rattle.deb_control.specs.Canonical.{paragraph_text};
 
@@ -26,8 +26,7 @@ pub(crate) fn differing<'a>(
     let mut names = Vec::new(alloc);
     let mut rest = old;
     let mut other_rest = new;
-    while !(rest.is_empty() && other_rest.is_empty()) {
-        let step = step(rest, other_rest);
+    while let Some(step) = compare_first(rest, other_rest) {
         if let Some(name) = step.differs {
             names.push(name)?;
         }
@@ -45,25 +44,53 @@ struct Step<'a> {
     new: &'a [u8],
 }
 
-/// Compares the first fields of two canonical texts.
-fn step<'a>(old: &'a [u8], new: &'a [u8]) -> Step<'a> {
-    let Some(field) = first_field(old) else {
-        return match first_field(new) {
-            Some(other) => Step { differs: Some(other.name), old, new: other.rest },
-            None => Step { differs: None, old, new },
-        };
-    };
-    let Some(other) = first_field(new) else {
-        return Step { differs: Some(field.name), old: field.rest, new };
-    };
-    match field.name.cmp(other.name) {
-        Ordering::Less => Step { differs: Some(field.name), old: field.rest, new },
-        Ordering::Greater => Step { differs: Some(other.name), old, new: other.rest },
-        Ordering::Equal => Step { differs: unless_equal(field, other), old: field.rest, new: other.rest },
+/// Compares the first fields of two canonical texts, if there are any.
+fn compare_first<'a>(old: &'a [u8], new: &'a [u8]) -> Option<Step<'a>>
+    ensures merges { (entries others : Entries) → AreCut entries → AreCut others
+        → old.now ≡ paragraph_text entries → new.now ≡ paragraph_text others
+        → MatchOption result (differing entries others ≡ []) (λ step.
+        Merges entries others (map (λ n. n.now) (option_to_list step.differs)) step.old.now
+        step.new.now) }
+    ensures shorter { IfSome result (λ step.
+        length step.old.now + length step.new.now < length old.now + length new.now) }
+{
+    match (first_field(old), first_field(new)) {
+        (None, None) => None,
+        (Some(field), None) => Some(Step {
+            differs: Some(field.name),
+            old: field.rest,
+            new,
+        }),
+        (None, Some(other)) => Some(Step {
+            differs: Some(other.name),
+            old,
+            new: other.rest,
+        }),
+        (Some(field), Some(other)) => Some(match field.name.cmp(other.name) {
+            Ordering::Less => Step {
+                differs: Some(field.name),
+                old: field.rest,
+                new,
+            },
+            Ordering::Greater => Step {
+                differs: Some(other.name),
+                old,
+                new: other.rest,
+            },
+            Ordering::Equal => Step {
+                differs: unless_equal(field, other),
+                old: field.rest,
+                new: other.rest,
+            },
+        }),
     }
 }
 
-fn unless_equal<'a>(field: First<'a>, other: First<'a>) -> Option<&'a [u8]> {
+/// Returns the name of a field if another one of the name has another text.
+fn unless_equal<'a>(field: First<'a>, other: First<'a>) -> Option<&'a [u8]>
+    ensures { map (λ n. n.now) (option_to_list result) ≡ differing_text
+        field.entry.name.now field.entry.body.now other.entry.body.now }
+{
     if *field.body == *other.body {
         None
     } else {

@@ -3,8 +3,8 @@ use Rattle.std.proofs.Common.{refl, ap, ◌∙◌}
 use Rattle.std.proofs.lemmas.Result.{on_ok_weaker}
 use Rattle.std.specs.Option.{option_map}
 use Rattle.deb_diff.specs.Cuts.{texts_in}
+use Rattle.deb_diff.proofs.Cutting.{found_now}
 use Rattle.deb_diff.proofs.Marking.{lines-both}
-use Rattle.deb_diff.proofs.Naming.{found_now}
 use Rattle.deb_diff.proofs.values.append_both.Goals as goal
 
 pub returns : goal.returns

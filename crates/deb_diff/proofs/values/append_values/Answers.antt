@@ -3,7 +3,7 @@ use Rattle.std.proofs.lemmas.Result.{on_ok_weaker}
 use Rattle.deb_diff.specs.Cuts.{rest_of, texts_in}
 use Rattle.deb_diff.specs.Fields.{fields_of_both}
 use Rattle.deb_diff.specs.Marks.{lines_in}
-use Rattle.deb_diff.proofs.Differed.{collected_rests}
+use Rattle.deb_diff.proofs.Rests.{collected_rests}
 use Rattle.deb_diff.proofs.Marking.{rests-under}
 use Rattle.deb_diff.proofs.values.append_values.Goals as goal
 
