@@ -29,6 +29,7 @@ pub mod EqualTexts
 pub mod Walks
 pub mod CommonFront
 pub mod CanonicalPrefix
+mod PlainVersions
 pub mod PrefixRuns
 pub mod BaseOrder
 pub mod KeyOrder

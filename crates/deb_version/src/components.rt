@@ -1,9 +1,9 @@
 //! Cuts a text into the components of a version, and checks their bytes.
 
-ghost use Rattle.std.specs.Prelude.{◌≡◌, ◌^◌, ◌<◌, length, option_copied};
-ghost use Rattle.std.specs.List.{position};
+ghost use Rattle.std.specs.Prelude.{◌≡◌, ◌^◌, ◌<◌, ◌≤◌, ◌∷◌, None, Some, IfSome, IfOk, IfErr, IsFalse, IsTrue, length, option_copied};
+ghost use Rattle.std.specs.List.{list_all, position, prefix_len};
 ghost use Rattle.std.specs.Result.{result_err};
-ghost use Rattle.deb_version.specs.Grammar.{components_with, epoch_text, spelling, is_upstream_byte, is_empty, some_passes, is_bad_in_upstream, is_bad_in_revision, first_of, epoch_faults, rest_faults};
+ghost use Rattle.deb_version.specs.Grammar.{are_components, components_with, epoch_text, spelling, is_upstream_byte, is_revision_byte, is_empty, some_passes, is_bad_in_upstream, is_bad_in_revision, first_of, epoch_faults, rest_faults};
 ghost use Rattle.deb_version.specs.Places.{epoch_in, rest_in, upstream_in, revision_in};
 
 use crate::component::is_allowed_in_revision;
@@ -82,6 +82,40 @@ fn is_empty_revision(revision: Option<&[u8]>) -> bool
     }
 }
 
+// With how many bytes that a revision may contain a text begins.
+fn revision_len(text: &[u8]) -> usize
+    ensures value { result ≡ prefix_len is_revision_byte text.now }
+    ensures bound { result ≤ length text.now }
+{
+    text.iter()
+        .take_while(|b| is_allowed_in_revision(**b))
+        .count()
+}
+
+// What follows a hyphen.
+fn cut_hyphen(text: &[u8]) -> Option<&[u8]>
+    ensures { IfSome result (λ rest. text.now ≡ 45 ∷ rest.now) }
+{
+    match text {
+        [b'-', rest @ ..] => Some(rest),
+        _ => None,
+    }
+}
+
+fn are_allowed_in_revision(text: &[u8]) -> bool
+    ensures { result ≡ list_all is_revision_byte text.now }
+{
+    text.iter().all(|&b| is_allowed_in_revision(b))
+}
+
+// Whether a text is a revision.
+fn is_revision(text: &[u8]) -> bool
+    ensures { IsTrue result → IsFalse (is_empty text.now)
+        × IsTrue (list_all is_revision_byte text.now) }
+{
+    !text.is_empty() && are_allowed_in_revision(text)
+}
+
 // The first byte that isn't allowed in a revision.
 fn bad_in_revision(revision: &[u8]) -> Option<usize>
     ensures { result ≡ position is_bad_in_revision revision.now }
@@ -98,6 +132,7 @@ pub(crate) struct Pieces<'a> {
 }
 
 impl<'a> Pieces<'a> {
+    ghost use Rattle.deb_version.specs.Faults.{first_fault};
     ghost use Rattle.deb_version.specs.Grammar.{fault_of};
     ghost use Rattle.deb_version.specs.Places.{components_in};
     ghost use Rattle.deb_version.specs.Pieces.{pieces_of};
@@ -115,8 +150,52 @@ impl<'a> Pieces<'a> {
         }
     }
 
+    /// The components of a text without a fault that has no epoch and at most one hyphen, as most
+    /// versions; `None` says nothing.
+    fn plain(text: &'a [u8]) -> Option<Self>
+        ensures { IfSome result (λ p. IsTrue (are_components (pieces_of p))
+            × (text.now ≡ spelling (pieces_of p))) }
+    {
+        let (upstream, behind) = text.split_at(revision_len(text));
+        if upstream.is_empty() {
+            return None;
+        }
+        if behind.is_empty() {
+            return Some(Pieces {
+                epoch: None,
+                upstream,
+                revision: None,
+            });
+        }
+        let revision = cut_hyphen(behind)?;
+        if !is_revision(revision) {
+            return None;
+        }
+        Some(Pieces {
+            epoch: None,
+            upstream,
+            revision: Some(revision),
+        })
+    }
+
+    /// The components of a text, or its first fault.
+    pub(crate) fn judged(text: &'a [u8]) -> Result<Self, BadVersion>
+        ensures ok { IfOk result (λ p. (pieces_of p ≡ components_in text.now)
+            × (first_fault text.now ≡ None)) }
+        ensures refused { IfErr result (λ e. first_fault text.now ≡ Some e) }
+    {
+        if let Some(pieces) = Pieces::plain(text) {
+            return Ok(pieces);
+        }
+        let pieces = Pieces::of(text);
+        match pieces.first_fault(text) {
+            Some(fault) => Err(fault),
+            None => Ok(pieces),
+        }
+    }
+
     /// The first fault of the components of a text.
-    pub(crate) fn first_fault(self, text: &[u8]) -> Option<BadVersion>
+    fn first_fault(self, text: &[u8]) -> Option<BadVersion>
         requires { pieces_of self ≡ components_in text.now }
         ensures { result ≡ fault_of (pieces_of self.entry) }
     {

@@ -44,14 +44,13 @@ impl<'a> Version<'a> {
         ensures refused { IfErr result (λ e. first_fault text.now ≡ Some e) }
         ensures faultless { IsOk result ↔ (first_fault text.now ≡ None) }
     {
-        let pieces = Pieces::of(text);
-        match pieces.first_fault(text) {
-            Some(fault) => Err(fault),
-            None => Ok(Version {
+        match Pieces::judged(text) {
+            Ok(pieces) => Ok(Version {
                 epoch: pieces.epoch,
                 upstream: pieces.upstream,
                 revision: pieces.revision,
             }),
+            Err(fault) => Err(fault),
         }
     }
 
