@@ -1,18 +1,16 @@
 -- What is cut of a body at its first opening parenthesis.
-use Rattle.std.proofs.Common.{◌≡◌, ℕ, ◌+◌, ◌-◌, ◌^◌, ◌<◌, ◌≤◌, Bool, true, false, not, cond, List, [], ◌∷◌, ◌++◌, length, length-append, length-take, take, drop, Some, Result, Ok, Err, IfOk, refl, sym, ap, ◌∙◌, subst, arith}
+use Rattle.std.proofs.Common.{◌≡◌, ℕ, ◌+◌, ◌-◌, ◌^◌, ◌<◌, ◌≤◌, Bool, true, false, not, cond, List, [], ◌∷◌, ◌++◌, length, length-append, length-take, take, drop, Some, refl, sym, ap, ◌∙◌, subst, arith}
 use Rattle.std.proofs.lemmas.List.{take_rest}
 use Rattle.std.specs.List.{position_or_len, before_first, after_first}
-use Rattle.deb_base.specs.declared.code.Code.{Code}
 use Rattle.deb_version.specs.Parts.{Meaning as VersionMeaning}
 use Rattle.deb_version.specs.Grammar.{SpellsVersion}
 use Rattle.deb_version.specs.Canonical.{version_text}
 use Rattle.deb_version.proofs.CanonicalTexts.{canonical_text_is_short}
 use Rattle.deb_base.proofs.Trims.{trailing_cut, trimmed_cut}
 use Rattle.deb_field.specs.Sources.{SourceMeaning, source_of, SpellsSource, source_text, is_open, has_version, is_closed, without_last}
-use Rattle.deb_field.specs.SourceNames.{source_meaning, ReadsAround}
+use Rattle.deb_field.specs.SourceNames.{ReadsAround}
 use Rattle.deb_field.specs.SourceLaws.{spells_versioned}
 use Rattle.deb_base.specs.Trimming.{without_trailing_blanks, trimmed}
-use Rattle.deb_field.specs.declared.source.SourceName.{SourceName}
 use Rattle.deb_base.specs.PackageNames.{is_package_name}
 
 none-step : (b : ℕ) (bs : List ℕ) (found : Bool) → is_open b ≡ found → (position_or_len is_open bs ≡ length bs → has_version bs ≡ false) → position_or_len is_open (b ∷ bs) ≡ length (b ∷ bs) → has_version (b ∷ bs) ≡ false
@@ -43,18 +41,14 @@ cut-behind body at e = take_rest body (at + 1) ∙ ap (λ n. drop (n + 1) body) 
 
 -- what is read around the parenthesis is the body's
 module _ (body before behind : List ℕ) (has : has_version body ≡ true) (before_is : before ≡ before_first is_open body) (behind_is : behind ≡ after_first is_open body) where
-  spells : (m : SourceMeaning) → ReadsAround before behind m → SpellsSource body m
-  spells m a =
+  pub spells-around : (m : SourceMeaning) → ReadsAround before behind m → SpellsSource body m
+  spells-around m a =
       subst (SpellsSource body) (sym (a.is ∙ ap (λ t. source_of (without_trailing_blanks t) (Some a.version)) before_is))
       (spells_versioned body has
       (subst (λ t. is_package_name (without_trailing_blanks t) ≡ true) before_is a.named)
       (subst (λ t. is_closed t ≡ true) behind_is a.closed)
       a.version
       (subst (λ t. SpellsVersion (trimmed (without_last t)) a.version) behind_is a.versioned))
-
-  pub spells-around : (r : Result SourceName Code) → IfOk r (λ s. ReadsAround before behind (source_meaning s)) → IfOk r (λ s. SpellsSource body (source_meaning s))
-  spells-around (Ok s) a = spells (source_meaning s) a
-  spells-around (Err e) a = tt
 
 trailing-short : (text : List ℕ) → length (without_trailing_blanks text) ≤ length text
 trailing-short text = let p = trailing_cut text in omega (arith, ap length p.is, length-append (without_trailing_blanks text) p.cut)
