@@ -1,6 +1,6 @@
 // apt cut FILE: cuts an index of packages into paragraphs and these into fields with libapt-pkg.
 // apt write FILE: writes each of these paragraphs with its fields in apt's order.
-// apt sort FILE: sorts a file with a version a line.
+// apt sort FILE: sorts a file that has a version in each line.
 #include <apt-pkg/debversion.h>
 #include <apt-pkg/error.h>
 #include <apt-pkg/fileutl.h>
@@ -12,6 +12,7 @@
 #include <string>
 #include <vector>
 
+// Reads each paragraph, and writes it if there is a sink.
 static bool cut(const std::string &path, FileFd *sink) {
     FileFd file(path, FileFd::ReadOnly);
     pkgTagFile paragraphs(&file);
