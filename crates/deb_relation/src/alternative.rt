@@ -24,6 +24,9 @@ use crate::operator::Op;
 use deb_version::Version;
 use std::alloc::{AllocError, Global};
 
+/// How many bytes most bounds have at most.
+const BOUND_ROOM: usize = 24;
+
 /// A package name with its conditions (Debian Policy 7.1). Most have none, so each kind of them is
 /// a block of its own.
 #[derive(Debug, Drop)]
@@ -125,7 +128,7 @@ impl<'a> Alternative<'a> {
     pub fn text(&self, alloc: Global) -> Result<Vec<u8>, AllocError>
         ensures { IfOk result (λ text. text.items ≡ alternative_text (alternative_of self.now)) }
     {
-        let mut text = Vec::new(alloc);
+        let mut text = Vec::with_capacity(alloc, self.name.len() + BOUND_ROOM)?;
         self.append_to(&mut text)?;
         Ok(text)
     }

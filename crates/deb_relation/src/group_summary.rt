@@ -195,7 +195,7 @@ pub(crate) fn read_groups(
     ensures { Gives result (λ p. (map told_of p.0.items, p.1.now))
         (gather next_summary put_summary [] text.now) }
 {
-    let mut groups = Vec::with_capacity(alloc, 8)?;
+    let mut groups = Vec::with_capacity(alloc, 16)?;
     let mut most = FEW;
     let mut rest = text;
     while let Some((piece, behind)) = next_piece(alloc, rest)? {

@@ -89,6 +89,7 @@ fn front<'a>(text: &'a [u8], rest: &[u8]) -> &'a [u8]
 
 /// The text of a group, whether it has two alternatives, whether no bound of it has an operator
 /// other than `=`, and what follows it, where the text begins with a canonical one without lists.
+#[inline(always)]
 pub(crate) fn cut_group(text: &[u8]) -> Option<(&[u8], bool, bool, &[u8])>
     ensures { IfSome result (λ p. CutsGroup text.now p.0.now p.1 p.2 p.3.now) }
 {
