@@ -13,22 +13,29 @@ def paragraphs(path):
         yield from Packages.iter_paragraphs(file, use_apt_pkg=False)
 
 
-def packages(path):
-    """The paragraphs, by the names and architectures of the packages."""
-    return {(it["Package"], it["Architecture"]): it for it in paragraphs(path)}
+def key_of(paragraph):
+    """What a package is found by in the other file."""
+    return paragraph["Package"], paragraph["Architecture"]
+
+
+def print_differing(key, before, after):
+    """Prints the names of the fields that differ, if there are any."""
+    names = [name for name in {**before, **after} if before.get(name) != after.get(name)]
+    if names:
+        print(*key, *names)
 
 
 def diff(old, new):
-    """Prints what differs between two sets of packages."""
-    for key in {**old, **new}:
-        before, after = old.get(key, {}), new.get(key, {})
-        names = [name for name in {**before, **after} if before.get(name) != after.get(name)]
-        if names:
-            print(*key, *names)
+    """Prints what differs between two files. Only the packages of the old one are kept in memory."""
+    kept = {key_of(it): it for it in paragraphs(old)}
+    for after in paragraphs(new):
+        print_differing(key_of(after), kept.pop(key_of(after), {}), after)
+    for key, before in kept.items():
+        print_differing(key, before, {})
 
 
 if sys.argv[1] == "fields":
     for paragraph in paragraphs(sys.argv[2]):
         dict(paragraph)
 else:
-    diff(packages(sys.argv[2]), packages(sys.argv[3]))
+    diff(sys.argv[2], sys.argv[3])
