@@ -1,10 +1,17 @@
 -- The texts of fields that are appended one after another, and the first whose value is refused.
-use Rattle.deb_control.proofs.Common.{◌≡◌, ℕ, ◌+◌, ◌<◌, List, ◌∷◌, ◌++◌, length, drop, get_or, slice_get, option_map, Some, IsSome, add-one, suc, is_some, false≢true, All-drop, sym, ap, ◌∙◌, subst, append_assoc, flat_map, AllByRecursion, canonical_name, Field, field_of, RawField, Doc, kind_of, kind_refusal, value_text, rules_of, IsGood, no_field, picked, text_under}
+use Rattle.deb_control.proofs.Common.{◌≡◌, ℕ, ◌+◌, ◌<◌, List, ◌∷◌, ◌++◌, length, drop, get_or, slice_get, option_map, Bool, true, Some, Result, Ok, IsSome, add-one, suc, is_some, false≢true, All-drop, sym, ap, ◌∙◌, subst, append_assoc, flat_map, AllByRecursion, canonical_name, Field, field_of, RawField, Doc, kind_of, kind_refusal, SpellsKind, ValueMeaning, value_text, rules_of, IsGood, no_field, picked, text_under}
+use Rattle.std.specs.Prelude.{OnOk}
 use Rattle.std.proofs.lemmas.Option.{get_or_from_slice_get}
 use Rattle.std.proofs.Math.Seq.{drop-cons}
 use Rattle.std.proofs.lemmas.List.{drop-map}
-use Rattle.deb_control.specs.CanonTexts.{AppendsField, body_text}
+use Rattle.deb_base.specs.declared.kind.Kind.{Kind}
+use Rattle.deb_control.specs.CanonTexts.{AppendsField, AppendsValue, body_text}
 use Rattle.deb_control.proofs.DocumentRules.{document_rules}
+
+-- a value of a kind, behind what was written before
+pub value-appended : {E : Type 0} (kind : Kind) (body : List ℕ) (value : ValueMeaning) → SpellsKind kind body value → (before old new : List ℕ) (result : Result Bool E) → OnOk result (new ≡ old ++ body_text (value_text value)) → old ≡ before → result ≡ Ok true → AppendsValue kind body before new
+value-appended kind body value spells before old new result written begun is =
+    record { value = value; spells = spells; appended = (rw is at written) ∙ ap (λ text. text ++ body_text (value_text value)) begun }
 
 -- the text of a field with a value is that under the rules
 appended : (doc : Doc) (field : Field) (old new : List ℕ) → AppendsField (kind_of doc (canonical_name field.name)) field old new → (new ≡ old ++ text_under (rules_of doc) field) × IsGood (rules_of doc) field

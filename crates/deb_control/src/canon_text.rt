@@ -4,10 +4,11 @@ ghost use Rattle.std.specs.Prelude.{◌≡◌, ◌++◌, ◌<◌, ℕ, List, [],
 ghost use Rattle.std.specs.List.{AllByRecursion, flat_map};
 ghost use Rattle.std.specs.List.Sorted.{IsPermutation, IsSortedBy};
 ghost use Rattle.deb_syntax.specs.Raw.{field_of, fields_of};
-ghost use Rattle.deb_field.specs.Values.{SpellsKind, kind_refusal};
+ghost use Rattle.deb_base.specs.declared.kind.Kind.TheVariants as kinds;
+ghost use Rattle.deb_field.specs.Values.{kind_refusal, value_text};
 ghost use Rattle.deb_field.specs.ValueMeanings.{value_meaning};
 ghost use Rattle.deb_control.specs.Canonical.{paragraph_text};
-ghost use Rattle.deb_control.specs.CanonTexts.{AppendsField, AppendsValue, ArePlaced, HasTextOf, IsGood, IsListOf, IsOrderOf, comes_first, no_field, numbers_in, picked, text_under};
+ghost use Rattle.deb_control.specs.CanonTexts.{AppendsField, AppendsValue, ArePlaced, HasTextOf, IsGood, IsListOf, IsOrderOf, body_text, comes_first, no_field, numbers_in, picked, text_under};
 ghost use Rattle.deb_control.specs.Documents.{rules_of};
 ghost use Rattle.deb_control.specs.Refusals.{canonical_entries, value_refusal_of};
 
@@ -224,7 +225,11 @@ fn append_field(
 
 /// Appends what follows the name of a field whose value is a version.
 #[inline(never)]
-fn append_as_version(body: &[u8], text: &mut Vec<u8>) -> Result<bool, AllocError> {
+fn append_as_version(body: &[u8], text: &mut Vec<u8>) -> Result<bool, AllocError>
+    ensures good { result ≡ Ok true
+        → AppendsValue kinds.Version body.now text.old.items text.new.items }
+    ensures refused { result ≡ Ok false → IsSome (kind_refusal kinds.Version body.now) }
+{
     match parse_version(body) {
         Ok(version) => append_good(&Value::Version(version), text),
         Err(_) => Ok(false),
@@ -238,7 +243,12 @@ fn append_as_relation(
     relationship: Relationship,
     body: &[u8],
     text: &mut Vec<u8>,
-) -> Result<bool, AllocError> {
+) -> Result<bool, AllocError>
+    ensures good { result ≡ Ok true → AppendsValue (kinds.Relation relationship) body.now
+        text.old.items text.new.items }
+    ensures refused { result ≡ Ok false
+        → IsSome (kind_refusal (kinds.Relation relationship) body.now) }
+{
     match RelationField::parse(alloc, relationship, body) {
         Ok(relation) => append_good(&Value::Relation(relation), text),
         Err(ValueFault::Memory) => Err(AllocError),
@@ -249,9 +259,8 @@ fn append_as_relation(
 /// Appends what follows the name of a field with this value.
 #[inline(always)]
 fn append_good(value: &Value<'_>, text: &mut Vec<u8>) -> Result<bool, AllocError>
-    ensures appended { OnOk result ((kind : Kind) (body : List ℕ)
-        → SpellsKind kind body (value_meaning value.now)
-        → AppendsValue kind body text.old.items text.new.items) }
+    ensures appended { OnOk result
+        (text.new.items ≡ text.old.items ++ body_text (value_text (value_meaning value.now))) }
     ensures good { IfOk result (λ good. good ≡ true) }
 {
     append_body(value, text)?;
