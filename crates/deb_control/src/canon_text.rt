@@ -19,8 +19,8 @@ use crate::paragraph_check::{check_paragraph, has_required, kind_of_field};
 use crate::visitor::NoVisitor;
 use deb_base::{Fault, KNOWN_FIELDS, Kind, PARAGRAPH_LIMIT, Relationship};
 use deb_field::{
-    ArchitectureName, Doc, Line, Number, PackageName, RelationField, Text, Value, ValueFault,
-    parse_version,
+    ArchitectureName, Doc, Line, MultiArch, Number, PackageName, RelationField, SourceName, Text,
+    Value, ValueFault, parse_version,
 };
 use deb_syntax::{Raw, RawField};
 use std::alloc::{AllocError, Global};
@@ -198,7 +198,7 @@ fn append_field(
     ensures refused { result ≡ Ok false → IsSome (kind_refusal kind field.now.body.now) }
 {
     append_name(field, text)?;
-    // Each of the two kinds that most fields have is read without a `Result` of any value.
+    // Each of the kinds that most fields have is read without a `Result` of any value.
     match kind {
         Kind::Text => append_good(&Value::Text(Text::new(field.body)), text),
         Kind::Line => match Line::parse(field.body) {
@@ -218,6 +218,8 @@ fn append_field(
             Err(_) => Ok(false),
         },
         Kind::Version => append_as_version(field.body, text),
+        Kind::Source => append_as_source(field.body, text),
+        Kind::MultiArch => append_as_multi_arch(field.body, text),
         Kind::Relation(relationship) => append_as_relation(alloc, relationship, field.body, text),
         _ => append_as_kind(alloc, kind, field.body, text),
     }
@@ -232,6 +234,32 @@ fn append_as_version(body: &[u8], text: &mut Vec<u8>) -> Result<bool, AllocError
 {
     match parse_version(body) {
         Ok(version) => append_good(&Value::Version(version), text),
+        Err(_) => Ok(false),
+    }
+}
+
+/// Appends what follows the name of a field whose value is the name of a source package.
+#[inline(never)]
+fn append_as_source(body: &[u8], text: &mut Vec<u8>) -> Result<bool, AllocError>
+    ensures good { result ≡ Ok true
+        → AppendsValue kinds.Source body.now text.old.items text.new.items }
+    ensures refused { result ≡ Ok false → IsSome (kind_refusal kinds.Source body.now) }
+{
+    match SourceName::parse(body) {
+        Ok(source) => append_good(&Value::Source(source), text),
+        Err(_) => Ok(false),
+    }
+}
+
+/// Appends what follows the name of a field whose value is a word of Multi-Arch.
+#[inline(never)]
+fn append_as_multi_arch(body: &[u8], text: &mut Vec<u8>) -> Result<bool, AllocError>
+    ensures good { result ≡ Ok true
+        → AppendsValue kinds.MultiArch body.now text.old.items text.new.items }
+    ensures refused { result ≡ Ok false → IsSome (kind_refusal kinds.MultiArch body.now) }
+{
+    match MultiArch::parse(body) {
+        Ok(word) => append_good(&Value::MultiArch(word), text),
         Err(_) => Ok(false),
     }
 }
