@@ -5,11 +5,12 @@ use Rattle.std.proofs.lemmas.List.{map-append, take_more}
 use Rattle.deb_base.specs.Bodies.{Line, file_limit}
 use Rattle.deb_base.specs.declared.code.Code.TheVariants.{BadVersion, FileTooLong}
 use Rattle.deb_sort.specs.Refusals.{first_refusal, is_bad, line_behind, refusal_of}
-use Rattle.deb_sort.specs.VersionLines.{text_of, texts_of}
+use Rattle.deb_sort.specs.VersionLines.{texts_of}
 use Rattle.deb_syntax.specs.Lines.{lines_of}
-use Rattle.deb_sort.specs.declared.version_line.VersionLine.{VersionLine}
+use Rattle.deb_version.specs.Kept.{text_of}
+use Rattle.deb_version.specs.declared.version_text.VersionText.{VersionText}
 
-pub texts_push : (lines : List VersionLine) (l : VersionLine) (texts : List (Bor (List ℕ))) (i : ℕ) (d : Bor (List ℕ)) → i < length texts
+pub texts_push : (lines : List VersionText) (l : VersionText) (texts : List (Bor (List ℕ))) (i : ℕ) (d : Bor (List ℕ)) → i < length texts
     → texts_of lines ≡ map (λ t. t.now) (take i texts) → text_of l ≡ (get_or texts i d).now → texts_of (lines ++ l ∷ []) ≡ map (λ t. t.now) (take (i + 1) texts)
 texts_push lines l texts i d below so_far is =
     map-append text_of lines (l ∷ []) ∙ ap (λ ls. ls ++ text_of l ∷ []) so_far ∙ ap (λ t. map (λ t. t.now) (take i texts) ++ t ∷ []) is

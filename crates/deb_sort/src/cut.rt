@@ -7,15 +7,15 @@ ghost use Rattle.deb_syntax.specs.Lines.{lines_of};
 ghost use Rattle.deb_sort.specs.Refusals.{first_refusal, refusal_of, line_behind};
 ghost use Rattle.deb_sort.specs.VersionLines.{texts_of};
 
-use crate::version_line::VersionLine;
 use deb_base::{Code, FILE_LIMIT, Fault, Refusal};
+use deb_version::VersionText;
 use std::alloc::{AllocError, Global};
 
 /// The lines of a text, each a version, or the refusal of the text.
 pub(crate) fn version_lines<'a>(
     alloc: Global,
     text: &'a [u8],
-) -> Result<Vec<VersionLine<'a>>, Fault>
+) -> Result<Vec<VersionText<'a>>, Fault>
     ensures ok { IfOk result (λ lines. texts_of lines.items ≡ lines_of text.now) }
     ensures accepted { IfOk result (λ _. refusal_of text.now ≡ None) }
     ensures fault { IfErr result
@@ -51,7 +51,7 @@ fn cut_lines<'a>(alloc: Global, text: &'a [u8]) -> Result<Vec<&'a [u8]>, AllocEr
 }
 
 /// The versions of lines, or the refusal of the first that is none.
-fn parse_lines<'a>(alloc: Global, texts: &[&'a [u8]]) -> Result<Vec<VersionLine<'a>>, Fault>
+fn parse_lines<'a>(alloc: Global, texts: &[&'a [u8]]) -> Result<Vec<VersionText<'a>>, Fault>
     ensures ok { IfOk result (λ lines. texts_of lines.items ≡ map (λ text. text.now) texts.now) }
     ensures accepted { IfOk result
         (λ _. first_refusal 1 (map (λ text. text.now) texts.now) ≡ None) }
@@ -60,7 +60,7 @@ fn parse_lines<'a>(alloc: Global, texts: &[&'a [u8]]) -> Result<Vec<VersionLine<
 {
     let mut lines = Vec::with_capacity(alloc, texts.len())?;
     for i in 0..texts.len() {
-        let Ok(line) = VersionLine::parse(texts[i]) else {
+        let Ok(line) = VersionText::parse(texts[i]) else {
             return Err(Fault::Refused(Refusal {
                 code: Code::BadVersion,
                 line: i as u64 + 1,

@@ -10,12 +10,10 @@
 //! - [`sort`] writes the lines of the file in Debian's order or in reverse order. They keep their
 //!   spelling, and lines of equal versions keep their order.
 //! - It refuses the first line that isn't a version, with its number, and then writes nothing.
-//! - The whole file is held in memory, with four slices for each line: the line, its epoch, its
-//!   upstream version and its revision.
+//! - The whole file is held in memory, with a slice for each line.
 #![tactic(auto)]
 
 mod cut;
 mod sorting;
-mod version_line;
 
 pub use sorting::sort;

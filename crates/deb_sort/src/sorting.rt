@@ -10,8 +10,8 @@ ghost use Rattle.deb_sort.specs.Sorting.{Sorts};
 ghost use Rattle.deb_sort.specs.VersionLines.{texts_of};
 
 use crate::cut::version_lines;
-use crate::version_line::VersionLine;
 use deb_base::{FILE_LIMIT, Fault, Sink, Source, put_pieces, read_text};
+use deb_version::VersionText;
 use std::alloc::{AllocError, Global};
 
 /// Writes the lines of a file in Debian's order of their versions, or in reverse order. Each line
@@ -46,25 +46,25 @@ pub fn sort<R: Source, W: Sink>(
 }
 
 /// Puts lines in the order of their versions.
-fn sort_lines(lines: &mut Vec<VersionLine<'_>>, reverse: bool) -> Result<(), AllocError>
+fn sort_lines(lines: &mut Vec<VersionText<'_>>, reverse: bool) -> Result<(), AllocError>
     ensures { OnOk result (Sorts reverse (texts_of lines.old.items) (texts_of lines.new.items)) }
 {
     if reverse {
-        lines.sort_by(|line, other| other.version.cmp(&line.version))
+        lines.sort_by(|line, other| other.version().cmp(&line.version()))
     } else {
-        lines.sort_by(|line, other| line.version.cmp(&other.version))
+        lines.sort_by(|line, other| line.version().cmp(&other.version()))
     }
 }
 
 /// Writes lines, each with a newline after it.
-fn write_lines<W: Sink>(out: &mut W, lines: &[VersionLine<'_>]) -> Result<(), Fault>
+fn write_lines<W: Sink>(out: &mut W, lines: &[VersionText<'_>]) -> Result<(), Fault>
     ensures written { Puts (W.held out.old) (W.held out.new) result
         (with_newlines (texts_of lines.now)) }
     ensures fault { IfErr result (λ fault. fault ≡ Fault.Write) }
     ensures counts_failure { W.failures out.new ≡ write_failures_after (W.failures out.old) result }
 {
     for line in lines {
-        put_pieces(out, &[line.text, b"\n"])?;
+        put_pieces(out, &[line.text(), b"\n"])?;
     }
     Ok(())
 }
