@@ -198,7 +198,10 @@ const NAMES: [&'static str; 28] = [
 #[test]
 fn usual_names_are_found_near_the_front(rt: HostRuntime) {
     for name in &NAMES {
-        assert!(rt; matches!(is_found(rt.alloc(), name.as_bytes()), Ok(true)), "{name}");
+        assert!(rt;
+            matches!(is_found(rt.alloc(), name.as_bytes()), Ok(true)),
+            "{name}"
+        );
     }
 }
 
