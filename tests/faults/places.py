@@ -23,9 +23,12 @@ MOVES = re.compile(r"\$0x([0-9a-f]+),%rsp")
 GOES_TO = re.compile(r"(\$0x[0-9a-f]+),%r11")
 # What never takes memory, though its code may: a buffered writer takes its 8 KiB as it is made.
 HAS_ROOM = {"std::io::buffered::BufWriter::write_cold"}
-# The same of this project's functions: of the values that this one reads, none is a relation, and
-# only relations take memory.
-READS_NO_RELATION = {"deb_control::paragraph_check::visit_as_kind"}
+# The same of this project's functions: of the values that these read, none is a relation, and only
+# relations take memory.
+READS_NO_RELATION = {
+    "deb_control::paragraph_check::visit_as_kind",
+    "deb_control::paragraph_check::visit_as_source",
+}
 
 
 def output(*words):
