@@ -1,14 +1,13 @@
 -- A number that is put under a name, where the last number and the lists of several are kept apart.
-use Rattle.std.proofs.Common.{◌≡◌, ◌≢◌, ℕ, ◌-◌, ◌==◌, Bool, true, false, cond, ◌&&◌, nat_lt, List, [], ◌∷◌, ◌++◌, length, Option, None, Some, Result, Ok, Err, OnOk, Vec, refl, sym, ap, ◌∙◌, subst, arith, inl, inr}
+use Rattle.std.proofs.Common.{◌≡◌, ◌≢◌, ℕ, ◌-◌, ◌==◌, Bool, true, false, cond, ◌&&◌, nat_lt, List, [], ◌∷◌, ◌++◌, length, Option, None, Some, Result, Ok, Err, OnOk, Vec, refl, sym, ap, ◌∙◌, subst, inl, inr}
 use Rattle.std.specs.Global.{Global}
 use Rattle.std.specs.Option.{unwrap_or}
 use Rattle.indexmap.specs.IndexMap.{UpdatesBy, get_by}
 use Rattle.std.specs.List.{slice_index}
 use Rattle.std.specs.Str.{bytes_eq}
 use Rattle.std.proofs.lemmas.Bool.{and_parts, cases_Bool, eqb-true, false≢true}
-use Rattle.std.proofs.lemmas.Option.{slice_get-get_or}
 use Rattle.std.proofs.lemmas.Slice.Eq.{bytes_eq-Decides}
-use Rattle.deb_index.specs.Maps.{EndInLast, PutsLast, ends_in_last, is_last, last_of, last_under, list_under, numbers_under, numbers_with, put_last}
+use Rattle.deb_index.specs.Maps.{EndInLast, PutsLast, ends_in_last, is_last, last_under, list_under, numbers_under, numbers_with, put_last}
 use Rattle.deb_index.specs.declared.names.Names.{Names}
 use Rattle.deb_index.proofs.Counted.{appended_last}
 use Rattle.deb_index.proofs.Lookups.{updated}
@@ -87,16 +86,6 @@ apart_list n before list apart =
       | inl same ↦ absurd (apart (eqb-true before n same))
       | inr other ↦ ap (λ v. cond v list (Some (numbers_with list (Some before) ++ n ∷ []))) (sym other)
     ]
-
--- the last number is that of the list, or else the only one
-pub last-with : (list : Option (List ℕ)) (last : Option ℕ) → ends_in_last list last ≡ true → last ≡ last_of (numbers_with list last)
-last-with None None ends = refl
-last-with None (Some n) ends = refl
-last-with (Some xs) None ends = absurd (false≢true ends)
-last-with (Some []) (Some n) ends = absurd (false≢true ends)
-last-with (Some (x ∷ xs)) (Some n) ends =
-    let parts = and_parts (nat_lt 0 (length (x ∷ xs))) (slice_index (x ∷ xs) (length (x ∷ xs) - 1) == n) ends in
-    ap Some (sym (eqb-true (slice_index (x ∷ xs) (length (x ∷ xs) - 1)) n parts.1)) ∙ sym (slice_get-get_or (x ∷ xs) (length (x ∷ xs) - 1) 0 (omega arith))
 
 -- the same from the clauses of an insert and of an append to a list
 module _ (key : Vec ℕ Global) (name : List ℕ) (n before : ℕ) (old new : Names) (ends : EndInLast old) (key_is : key.items ≡ name)

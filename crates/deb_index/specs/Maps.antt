@@ -1,6 +1,6 @@
 -- The numbers of packages under a name, as maps from names to numbers have them.
 use Rattle.std.specs.Prelude.{◌≡◌, ℕ, ◌-◌, ◌==◌, ◌&&◌, nat_lt, Bool, true, false, cond, length, List, [], ◌∷◌, ◌++◌, map, Option, None, Some, Vec, refl}
-use Rattle.std.specs.List.{slice_get, slice_index}
+use Rattle.std.specs.List.{slice_index}
 use Rattle.std.specs.Option.{option_map}
 use Rattle.std.specs.Str.{bytes_eq}
 use Rattle.indexmap.specs.IndexMap.{IndexMap, get_by}
@@ -23,10 +23,6 @@ numbers_with None None = []
 -- the numbers under a name
 abbrev pub numbers_under : Names → List ℕ → List ℕ
 numbers_under names name = numbers_with (list_under names.lists name) (last_under names name)
-
--- the last number of a list
-abbrev pub last_of : List ℕ → Option ℕ
-last_of xs = slice_get xs (length xs - 1)
 
 -- a number is the last of a list
 abbrev pub is_last : ℕ → List ℕ → Bool
@@ -56,9 +52,6 @@ pub record PutsLast (name : List ℕ) (n : ℕ) (old new : Names) : Type 0 where
 worked-put : (put_last 1 [] ≡ 1 ∷ []) × (put_last 2 (1 ∷ []) ≡ 1 ∷ 2 ∷ [])
     × (put_last 2 (1 ∷ 2 ∷ []) ≡ 1 ∷ 2 ∷ [])
 worked-put = (refl, refl, refl)
-
-worked-last : (last_of [] ≡ None) × (last_of (1 ∷ []) ≡ Some 1) × (last_of (1 ∷ 3 ∷ []) ≡ Some 3)
-worked-last = (refl, refl, refl)
 
 -- no number, one, and a list
 worked-with : (numbers_with None None ≡ []) × (numbers_with None (Some 3) ≡ 3 ∷ [])

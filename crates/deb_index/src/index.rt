@@ -16,7 +16,7 @@ ghost use Rattle.deb_index.specs.Crowds.{AreCrowds, AreMeeting};
 ghost use Rattle.deb_index.specs.FirstLines.{first_lines, line_at};
 ghost use Rattle.deb_index.specs.Kept.{line_of, listed_of, spelling_of};
 ghost use Rattle.deb_index.specs.Listing.{ListsAll};
-ghost use Rattle.deb_index.specs.Maps.{EndInLast, last_of, numbers_under};
+ghost use Rattle.deb_index.specs.Maps.{numbers_under};
 ghost use Rattle.deb_index.specs.Named.{has_name, numbers_of, package_at, provides};
 ghost use Rattle.deb_index.specs.Stores.{IsStore, lines_in, listed_in, spellings_in};
 ghost use Rattle.deb_index.specs.VersionSpellings.{spelling_at, version_body, version_spellings};
@@ -48,7 +48,6 @@ pub struct Index {
     ghost kept: { IsStore store },
     ghost named_are: { (name : List ℕ) → numbers_under named name
         ≡ numbers_of (has_name name) (listed_in store) },
-    ghost named_end: { EndInLast named },
     ghost provided_are: { (name : List ℕ) → numbers_under provided name
         ≡ numbers_of (provides name) (listed_in store) },
     ghost crowds_are: { AreCrowds store crowds },
@@ -132,14 +131,6 @@ impl Index {
         ensures { result.now ≡ numbers_of (has_name name.now) (packages_of self.now) }
     {
         self.named.of(name)
-    }
-
-    /// Returns the last of the numbers of the packages with this name, as their Package (Debian
-    /// Policy 5.6.7); `None` if there is no such package. Takes no memory.
-    pub fn last_package(&self, name: &[u8]) -> Option<u64>
-        ensures { result ≡ last_of (numbers_of (has_name name.now) (packages_of self.now)) }
-    {
-        self.named.last_of(name)
     }
 
     /// Returns the numbers of the packages that provide a name, in some version or without one

@@ -4,7 +4,7 @@ ghost use Rattle.std.specs.Prelude.{◌≡◌, ◌++◌, [], ◌∷◌, ℕ, Lis
 ghost use Rattle.std.specs.List.{list_any};
 ghost use Rattle.std.specs.Str.{bytes_eq};
 ghost use Rattle.deb_index.specs.Entries.{provision_at};
-ghost use Rattle.deb_index.specs.Maps.{EndInLast, PutsLast, last_of, list_under, numbers_under, numbers_with, put_last};
+ghost use Rattle.deb_index.specs.Maps.{EndInLast, PutsLast, list_under, numbers_under, numbers_with, put_last};
 ghost use Rattle.deb_index.specs.Named.{has_name, numbers_of, provides};
 ghost use Rattle.deb_index.specs.Stores.{listed_in};
 
@@ -32,10 +32,9 @@ pub(crate) struct Names {
 impl Names {
     /// The numbers of the packages that have a name, under that name.
     pub(crate) fn own(alloc: Global, store: &Store) -> Result<Names, AllocError>
-        ensures numbers { IfOk result (λ names. (name : List ℕ)
+        ensures { IfOk result (λ names. (name : List ℕ)
             → numbers_under names name
             ≡ numbers_of (has_name name) (listed_in store.now)) }
-        ensures lists { IfOk result EndInLast }
     {
         let mut names = Names::with_capacity(alloc, store.records.len())?;
         for (index, record) in store.records.iter().enumerate() {
@@ -69,14 +68,6 @@ impl Names {
             Some(number) => slice::from_ref(number),
             None => &[],
         }
-    }
-
-    /// The last number under a name. No memory is taken.
-    pub(crate) fn last_of(&self, name: &[u8]) -> Option<u64>
-        requires { EndInLast self.now }
-        ensures { result ≡ last_of (numbers_under self.now name.now) }
-    {
-        self.last.get(name).copied()
     }
 
     /// Appends the names under which there are many numbers.

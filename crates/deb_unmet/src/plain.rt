@@ -1,4 +1,4 @@
-//! Groups of one alternative that has at most a bound, which the last package of its name meets:
+//! Groups of one alternative that has at most a bound, which the first package of its name meets:
 //! most groups of an index are so, and these are found without parsing them.
 //!
 //! `false` or `None` says nothing of a group: it is then read alternative by alternative.
@@ -25,7 +25,7 @@ use deb_relation::{Env, Op};
 use deb_version::Version;
 
 /// Returns whether the group with a canonical text is one alternative, a name alone or with a
-/// bound, that the last package of this name meets.
+/// bound, that the first package of this name meets.
 pub(crate) fn is_plainly_met(question: &Question<'_>, group: &[u8]) -> bool
     ensures { OfGroup group.now (λ g. IsTrue result
         → trouble (environment_of question.now.environment.now)
@@ -33,7 +33,7 @@ pub(crate) fn is_plainly_met(question: &Question<'_>, group: &[u8]) -> bool
 {
     let (name, after) = group.split_at(len_before_space(group));
     match plain_bound(after) {
-        Some(bound) => is_package_name(name) && last_meets(question, name, &bound),
+        Some(bound) => is_package_name(name) && first_meets(question, name, &bound),
         None => false,
     }
 }
@@ -85,16 +85,16 @@ fn cut_close(text: &[u8]) -> Option<&[u8]>
     }
 }
 
-/// Whether the last package of this name meets the bound. Others aren't asked, since many may have
+/// Whether the first package of this name meets the bound. Others aren't asked, since many may have
 /// the name.
-fn last_meets(question: &Question<'_>, name: &[u8], bound: &Option<(Op, Version<'_>)>) -> bool
+fn first_meets(question: &Question<'_>, name: &[u8], bound: &Option<(Op, Version<'_>)>) -> bool
     ensures { IsTrue result → IsTrue (is_met (environment_of question.now.environment.now)
         (packages_of question.now.index.now) (plain name.now (option_map bound_of bound.now))) }
 {
-    let Some(number) = question.index.last_package(name) else {
+    let Some(number) = question.index.packages(name).first() else {
         return false;
     };
-    match question.index.package(number) {
+    match question.index.package(*number) {
         Some(candidate) => meets(&candidate, name, bound, question.environment),
         None => false,
     }

@@ -16,14 +16,11 @@ loop-index-preserved c =
           c.deref-record-items.ensures.value (c.loop-index.invariant.numbers name) (rw c.name.ensures at c.in_ok-put.ensures.numbers name);
     }
 
-pub returns-clause-numbers : goal.returns-clause-numbers
-returns-clause-numbers c = λ name.
+pub returns : goal.returns
+returns c = λ name.
     let store = c.args.store.now in
     let view = listed_by store.bytes.items store.entries.items in
     let all = c.deref-record-items.ensures.value in
     c.loop-index.invariant.numbers name
     ∙ ap (λ l. numbers_of (has_name name) (map view (take c.loop-index.index l))) (sym all)
     ∙ ap (λ l. numbers_of (has_name name) (map view l)) (take_all c.loop-index.index c.deref-record-items.result.now c.loop-index-test.false ∙ all)
-
-pub returns-clause-lists : goal.returns-clause-lists
-returns-clause-lists c = c.loop-index.invariant.lists

@@ -6,7 +6,7 @@ use Rattle.deb_index.specs.Kept.{listed_of}
 use Rattle.deb_index.specs.Meeting.{meets}
 use Rattle.deb_unmet.specs.Plain.{plain}
 use Rattle.deb_unmet.proofs.PlainGroups.{met_at}
-use Rattle.deb_unmet.proofs.plain.last_meets.Goals as goal
+use Rattle.deb_unmet.proofs.plain.first_meets.Goals as goal
 
 pub returns-in-Some-package : goal.returns-in-Some-package
 returns-in-Some-package c = λ met.
