@@ -22,6 +22,7 @@ pub record Merges (entries others : Entries) (names : List (List ℕ)) (rest oth
   pub differ : names ++ differing left other_left ≡ differing entries others
 
 -- a field that differs, and one that doesn't
-worked-differing_text : (differing_text (codes "A") (codes ": 1\n") (codes ": 2\n") ≡ codes "A" ∷ [])
+worked-differing_text : (differing_text (codes "A") (codes ": 1\n") (codes ": 2\n")
+    ≡ codes "A" ∷ [])
     × (differing_text (codes "A") (codes ": 1\n") (codes ": 1\n") ≡ [])
 worked-differing_text = (refl, refl)

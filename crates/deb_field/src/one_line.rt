@@ -12,7 +12,7 @@ pub(crate) fn holds_newline(body: &[u8]) -> bool
     body.contains(&b'\n')
 }
 
-/// Why a body is refused that has to be of one line, and whose line would be refused with this code.
+/// Why a body is refused that has to be of one line, and whose line is refused with this code.
 #[cold]
 pub(crate) fn refusal_of_line(body: &[u8], code: Code) -> Code
     ensures { line_refusal body.now (Some code) ≡ Some result }

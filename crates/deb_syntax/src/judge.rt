@@ -216,8 +216,8 @@ fn name_of(content: &[u8], rest: &[u8], line: Line) -> Result<NameAtFront, Fault
     }
 }
 
-/// The name at the start of a line, if it is one and a colon follows it. The line begins the rest of
-/// the text.
+/// The name at the start of a line, if it is one and a colon follows it. The line begins the rest
+/// of the text.
 #[tactic(auto, using(crate::proofs::FieldLines::naming))]
 fn name_at_front(content: &[u8], rest: &[u8]) -> Option<NameAtFront>
     requires { content.now ≡ take (length content.now) rest.now }

@@ -11,8 +11,8 @@ use std::simd::prelude::*;
 /// How many bytes are looked at in one step.
 const LANES: usize = 32;
 
-/// How many bytes are looked at in such steps. The search that is fast in long texts takes longer to
-/// begin.
+/// How many bytes are looked at in such steps. The search that is fast in long texts takes longer
+/// to begin.
 const NEAR: usize = 128;
 
 /// The offset of the first newline.
