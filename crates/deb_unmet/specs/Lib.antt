@@ -9,4 +9,5 @@ pub mod Spelled
 pub mod Paragraphs
 pub mod Files
 pub mod Asking
+pub mod Own
 pub mod Laws

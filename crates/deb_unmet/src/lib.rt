@@ -18,9 +18,11 @@ mod asking;
 mod group;
 pub mod laws;
 mod lines;
+mod own;
 mod paragraph;
 mod plain;
 mod trouble;
 
 pub use asked::{Asked, Request, Strength};
 pub use asking::{Summary, unmet};
+pub use own::unmet_in_itself;

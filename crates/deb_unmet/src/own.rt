@@ -1,0 +1,69 @@
+//! Writes the lines of an index in itself.
+
+ghost use Rattle.std.specs.Prelude.{◌≡◌, ℕ, List, Some, IfOk, IfErr};
+ghost use Rattle.deb_base.specs.Bodies.{file_limit};
+ghost use Rattle.deb_base.specs.Devices.{read_failures_after, write_failures_after, ReadFaultIffFailed, WriteFaultIffFailed};
+ghost use Rattle.deb_base.specs.Reading.{TakesNoMore};
+ghost use Rattle.deb_control.specs.Calls.{IfRefused};
+ghost use Rattle.deb_control.specs.Checking.{IsRefusalOfDocument};
+ghost use Rattle.deb_control.specs.Documents.{refusal_of};
+ghost use Rattle.deb_relation.specs.Environments.{environment_of};
+ghost use Rattle.deb_unmet.specs.Own.{StopsOwn, WritesOwn};
+
+use crate::asked::Strength;
+use crate::asking::Summary;
+use deb_base::{Fault, Sink, Source, VersionText};
+use deb_field::Doc;
+use deb_relation::Env;
+use std::alloc::Global;
+
+/// Reads an index of packages once, and writes a line for each group of its own relations that none
+/// of its packages meets, or may not meet (Debian Policy 7.1 and 7.2).
+///
+/// The lines are those of [`crate::unmet`] for the same file. None is written before the whole file
+/// has been read and has no refusal: of each package its name, its version, its architecture and
+/// the relations that are asked are kept until then.
+///
+/// At most 4,295,032,831 bytes are read: a file of the most bytes, and one piece. Promises about
+/// the text of the file hold for a reader whose bytes are known.
+///
+/// # Errors
+///
+/// - `Fault::Refused`: the file isn't accepted. This is its first refusal, with a code from 1 to 21
+///   and a line of the file, counted from 1. Nothing was written.
+/// - `Fault::Memory`: a growth of memory was refused; `Fault::Read`: a read failed in this call;
+///   `Fault::Write`: a write failed in this call. Nothing was written, or a prefix of the lines of
+///   an accepted file.
+pub fn unmet_in_itself<R: Source, W: Sink>(
+    alloc: Global,
+    environment: &Env,
+    strength: Strength,
+    versions: VersionText,
+    reader: &mut R,
+    writer: &mut W,
+) -> Result<Summary, Fault>
+    ensures ok { (text : List ℕ) → R.left reader.old ≡ Some text
+        → IfOk result (λ summary. WritesOwn strength versions (environment_of environment.now) text
+        summary (W.held writer.old) (W.held writer.new)) }
+    ensures refused { (text : List ℕ) → R.left reader.old ≡ Some text
+        → IfRefused result (λ refusal. refusal_of Doc.Packages text ≡ Some refusal) }
+    ensures stopped { (text : List ℕ) → R.left reader.old ≡ Some text
+        → IfErr result (λ _. StopsOwn strength versions (environment_of environment.now) text
+        (W.held writer.old) (W.held writer.new)) }
+    ensures reads_at_most { (text : List ℕ) → R.left reader.old ≡ Some text
+        → TakesNoMore text file_limit (R.left reader.new) }
+
+    // Whether or not the reader's bytes are known.
+    ensures unwritten { IfRefused result (λ _. writer.new ≡ writer.old) }
+    ensures refusal { IfRefused result IsRefusalOfDocument }
+    ensures counts_read_failure { R.failures reader.new ≡ read_failures_after
+        (R.failures reader.old) result }
+    ensures counts_write_failure { W.failures writer.new ≡ write_failures_after
+        (W.failures writer.old) result }
+    ensures fault_iff_read_failed { ReadFaultIffFailed (R.failures reader.old)
+        (R.failures reader.new) result }
+    ensures fault_iff_write_failed { WriteFaultIffFailed (W.failures writer.old)
+        (W.failures writer.new) result }
+{
+    Err(Fault::Memory)
+}
