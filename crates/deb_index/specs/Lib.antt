@@ -21,6 +21,7 @@ pub mod Maps
 pub mod Offers
 pub mod Crowds
 pub mod Listing
+pub mod Keeping
 pub mod Indexes
 pub mod AnswerStores
 pub mod Reported

@@ -1,6 +1,6 @@
 //! Indexes: reading one, and the packages under a name. `query` answers queries.
 
-ghost use Rattle.std.specs.Prelude.{◌≡◌, ◌-◌, ◌≤◌, ℕ, List, Some, Err, IfOk, IfErr, IfSome, IsTrue, length, map};
+ghost use Rattle.std.specs.Prelude.{◌≡◌, ◌-◌, ◌≤◌, ℕ, List, [], Some, Err, IfOk, IfErr, IfSome, IsTrue, length, map};
 ghost use Rattle.std.specs.List.{slice_get};
 ghost use Rattle.std.specs.Option.{option_map};
 ghost use Rattle.deb_base.specs.Bodies.{file_limit};
@@ -14,6 +14,7 @@ ghost use Rattle.deb_control.specs.Documents.{refusal_of};
 ghost use Rattle.deb_relation.specs.Views.{alternative_of};
 ghost use Rattle.deb_index.specs.Crowds.{AreCrowds, AreMeeting};
 ghost use Rattle.deb_index.specs.FirstLines.{first_lines, line_at};
+ghost use Rattle.deb_index.specs.Keeping.{KeepsAll};
 ghost use Rattle.deb_index.specs.Kept.{line_of, listed_of, spelling_of};
 ghost use Rattle.deb_index.specs.Listing.{ListsAll};
 ghost use Rattle.deb_index.specs.Maps.{numbers_under};
@@ -22,6 +23,7 @@ ghost use Rattle.deb_index.specs.Stores.{IsStore, lines_in, listed_in, spellings
 ghost use Rattle.deb_index.specs.VersionSpellings.{spelling_at, version_body, version_spellings};
 
 use crate::crowds::Crowds;
+use crate::keeper::{Keeper, NoKeeper};
 use crate::names::Names;
 use crate::offer::Packages;
 use crate::package::Package;
@@ -87,6 +89,39 @@ impl Index {
         ensures fault_iff_read_failed { ReadFaultIffFailed (R.failures reader.old)
             (R.failures reader.new) result }
     {
+        Index::read_with(alloc, reader, &mut NoKeeper)
+    }
+
+    /// The same, where `keeper` is given each paragraph after it has passed, in file order.
+    ///
+    /// # Errors
+    ///
+    /// Those of [`Index::read`]; `Fault::Memory` also where the keeper ran out of memory.
+    pub fn read_with<R: Source, K: Keeper>(
+        alloc: Global,
+        reader: &mut R,
+        keeper: &mut K,
+    ) -> Result<Index, Fault>
+        ensures ok { (text : List ℕ) → R.left reader.old ≡ Some text
+            → IfOk result (λ index. ListsAll text (packages_of index)) }
+        ensures lines { (text : List ℕ) → R.left reader.old ≡ Some text
+            → IfOk result (λ index. lines_of index ≡ first_lines text) }
+        ensures spellings { (text : List ℕ) → R.left reader.old ≡ Some text
+            → IfOk result (λ index. spellings_of index ≡ version_spellings text) }
+        ensures refused { (text : List ℕ) → R.left reader.old ≡ Some text
+            → IfRefused result (λ refusal. refusal_of Doc.Packages text ≡ Some refusal) }
+        ensures reads_at_most { (text : List ℕ) → R.left reader.old ≡ Some text
+            → TakesNoMore text file_limit (R.left reader.new) }
+        ensures keeps { (text : List ℕ) → R.left reader.old ≡ Some text → K.Keeps keeper.old []
+            → IfOk result (λ _. KeepsAll (K.Keeps keeper.new) text) }
+
+        // Whether or not the reader's bytes are known.
+        ensures fault { IfErr result (λ fault. IsReadersFault fault IsRefusalOfDocument) }
+        ensures counts_read_failure { R.failures reader.new ≡ read_failures_after
+            (R.failures reader.old) result }
+        ensures fault_iff_read_failed { ReadFaultIffFailed (R.failures reader.old)
+            (R.failures reader.new) result }
+    {
         let mut checked = Checked::new(alloc, Doc::Packages);
         let mut builder = PackageBuilder::new(alloc);
         let mut store = Store::new(alloc);
@@ -101,6 +136,7 @@ impl Index {
                 unreachable!()
             };
             store.push(&builder, version_body(&paragraph), paragraph.first_line())?;
+            keeper.keep(&paragraph, &builder.texts)?;
         }
         // No file has so many paragraphs.
         unreachable!()

@@ -24,7 +24,7 @@ const VERSION: usize = 53;
 /// What is kept of the fields of a paragraph while it is checked.
 #[derive(Drop)]
 pub(crate) struct PackageBuilder {
-    texts: FieldTexts,
+    pub(crate) texts: FieldTexts,
     pub(crate) multi_arch: Option<MultiArch>,
 }
 

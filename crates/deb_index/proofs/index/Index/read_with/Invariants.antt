@@ -3,7 +3,7 @@ use Rattle.deb_control.specs.ReadingOn.{shown}
 use Rattle.deb_control.proofs.ShownSoFar.{ShownSoFar}
 use Rattle.deb_index.specs.Stores.{IsStore}
 use Rattle.deb_index.proofs.Indexed.{ListsGiven}
-use Rattle.deb_index.proofs.index.Index.read.Given as goal
+use Rattle.deb_index.proofs.index.Index.read_with.Given as goal
 
 abbrev pub invariant-loop-count : goal.invariant-loop-count
 invariant-loop-count g l = record {

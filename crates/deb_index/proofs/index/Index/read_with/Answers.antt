@@ -11,7 +11,7 @@ use Rattle.deb_index.proofs.Indexed.{ListsGiven, lists_all, none_listed, one_lis
 use Rattle.deb_index.proofs.ListedValues.{lists-kept}
 use Rattle.deb_index.proofs.Stored.{no_packages}
 use Rattle.deb_index.proofs.ReadLines.{all_lines, all_spellings}
-use Rattle.deb_index.proofs.index.Index.read.Goals as goal
+use Rattle.deb_index.proofs.index.Index.read_with.Goals as goal
 
 pub loop-count-init : goal.loop-count-init
 loop-count-init g c =
