@@ -1,6 +1,7 @@
+pub mod Joined
 pub mod LastPieces
-pub mod Mapped
 pub mod Meanings
 pub mod Refusals
+pub mod Repeated
+pub mod RunLemmas
 pub mod SortedFiles
-pub mod WrittenLines

@@ -10,10 +10,12 @@
 //! - [`sort`] writes the lines of the file in Debian's order or in reverse order. They keep their
 //!   spelling, and lines of equal versions keep their order.
 //! - It refuses the first line that isn't a version, with its number, and then writes nothing.
-//! - The whole file is held in memory, with a slice for each line.
+//! - The whole file is held in memory, with a slice and a number for each line. Neighbours that are
+//!   spelled alike are sorted as one.
 #![tactic(auto)]
 
 mod cut;
+mod equal_lines;
 mod sorting;
 
 pub use sorting::sort;

@@ -7,11 +7,10 @@ ghost use Rattle.deb_base.specs.Reading.{TakesNoMore};
 ghost use Rattle.deb_syntax.specs.Lines.{with_newlines};
 ghost use Rattle.deb_sort.specs.Files.{SortsFile};
 ghost use Rattle.deb_sort.specs.Sorting.{Sorts};
-ghost use Rattle.deb_sort.specs.VersionLines.{texts_of};
+ghost use Rattle.deb_sort.specs.VersionLines.{run_lines, lines_of_runs};
 
-use crate::cut::version_lines;
+use crate::equal_lines::{EqualLines, equal_lines};
 use deb_base::{FILE_LIMIT, Fault, Sink, Source, put_pieces, read_text};
-use deb_version::VersionText;
 use std::alloc::{AllocError, Global};
 
 /// Writes the lines of a file in Debian's order of their versions, or in reverse order. Each line
@@ -40,31 +39,45 @@ pub fn sort<R: Source, W: Sink>(
         → TakesNoMore text file_limit (R.left source.new) }
 {
     let text = read_text(alloc, source, FILE_LIMIT)?;
-    let mut lines = version_lines(alloc, text.as_slice())?;
-    sort_lines(&mut lines, reverse)?;
-    write_lines(out, lines.as_slice())
+    let mut runs = equal_lines(alloc, text.as_slice())?;
+    sort_runs(&mut runs, reverse)?;
+    write_runs(out, runs.as_slice())
 }
 
-/// Puts lines in the order of their versions.
-fn sort_lines(lines: &mut Vec<VersionText<'_>>, reverse: bool) -> Result<(), AllocError>
-    ensures { OnOk result (Sorts reverse (texts_of lines.old.items) (texts_of lines.new.items)) }
+/// Puts runs in the order of their versions.
+fn sort_runs(runs: &mut Vec<EqualLines<'_>>, reverse: bool) -> Result<(), AllocError>
+    ensures { OnOk result
+        (Sorts reverse (lines_of_runs runs.old.items) (lines_of_runs runs.new.items)) }
 {
     if reverse {
-        lines.sort_by(|line, other| other.version().cmp(&line.version()))
+        runs.sort_by(|run, other| other.line.version().cmp(&run.line.version()))
     } else {
-        lines.sort_by(|line, other| line.version().cmp(&other.version()))
+        runs.sort_by(|run, other| run.line.version().cmp(&other.line.version()))
     }
 }
 
-/// Writes lines, each with a newline after it.
-fn write_lines<W: Sink>(out: &mut W, lines: &[VersionText<'_>]) -> Result<(), Fault>
+/// Writes the lines of runs, each with a newline after it.
+fn write_runs<W: Sink>(out: &mut W, runs: &[EqualLines<'_>]) -> Result<(), Fault>
     ensures written { Puts (W.held out.old) (W.held out.new) result
-        (with_newlines (texts_of lines.now)) }
+        (with_newlines (lines_of_runs runs.now)) }
     ensures fault { IfErr result (λ fault. fault ≡ Fault.Write) }
     ensures counts_failure { W.failures out.new ≡ write_failures_after (W.failures out.old) result }
 {
-    for line in lines {
-        put_pieces(out, &[line.text(), b"\n"])?;
+    for run in runs {
+        write_run(out, run)?;
+    }
+    Ok(())
+}
+
+/// Writes the lines of one run, each with a newline after it.
+fn write_run<W: Sink>(out: &mut W, run: &EqualLines<'_>) -> Result<(), Fault>
+    ensures written { Puts (W.held out.old) (W.held out.new) result
+        (with_newlines (run_lines run.now)) }
+    ensures fault { IfErr result (λ fault. fault ≡ Fault.Write) }
+    ensures counts_failure { W.failures out.new ≡ write_failures_after (W.failures out.old) result }
+{
+    for _ in 0..run.count {
+        put_pieces(out, &[run.line.text(), b"\n"])?;
     }
     Ok(())
 }
