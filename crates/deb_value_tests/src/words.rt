@@ -98,8 +98,7 @@ const LINES: [(&str, &str); 38] = [
     (
         "unmet --arch amd64 --recommends x",
         "Ok(Run(Call { job: Unmet { arch: \"amd64\", profiles: [], \
-        dependents: Index(Recommends), versions: Canonical }, first: Some(\"x\"), \
-        second: Some(\"x\") }))",
+        dependents: Index(Recommends), versions: Canonical }, first: Some(\"x\"), second: None }))",
     ),
     (
         "unmet --arch amd64 --spelled --kind sources x -",

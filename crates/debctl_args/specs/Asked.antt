@@ -517,21 +517,21 @@ query_asked rows =
     option_map_or (query_of_file rows) (first_of (codes "relation-from") rows)
     (option_map_or (query_of_word rows) (first_of (codes "relation") rows) relation_or_file)
 
--- the file whose groups `unmet` tries: the index where no other is given
-abbrev pub file_asked : List Row → Text
-file_asked rows = unwrap_or (first_of (codes "path") rows) (word_in (codes "index") rows)
+-- the file beside the index of `unmet` is standard input: not where there is none
+abbrev pub has_input_beside : List Row → Bool
+has_input_beside rows = option_map_or is_standard_input (first_of (codes "path") rows) false
 
--- `unmet` of a file, or of the index, which is read twice: not both are standard input
+-- `unmet` of a file, or without one of the index itself: not both files are standard input
 abbrev pub unmet_of_files : List Row → Dependents → Asked
 unmet_of_files rows dependents =
-    if is_standard_input (word_in (codes "index") rows) && is_standard_input (file_asked rows)
+    if is_standard_input (word_in (codes "index") rows) && has_input_beside rows
     then standard_input_twice
     else asks (record {
       wanted = finds_unmet (word_in (codes "arch") rows)
           (profiles_asked (first_of (codes "profiles") rows)) dependents
           (versions_asked (flag_asked (first_of (codes "spelled") rows)));
       first = Some (word_in (codes "index") rows);
-      second = Some (file_asked rows);
+      second = first_of (codes "path") rows;
     })
 
 -- `unmet` of a kind that an index hasn't: with a file of that kind

@@ -436,38 +436,38 @@ abbrev unmet_line : List Text → List Text
 unmet_line words = line (codes "unmet" ∷ codes "--arch" ∷ codes "amd64" ∷ words)
 
 -- what is asked of the index `x`, and of another file
-abbrev asks_unmet : Dependents → Text → Option Asked
+abbrev asks_unmet : Dependents → Option Text → Option Asked
 asks_unmet dependents path =
     Some (asks (record {
       wanted = finds_unmet (codes "amd64") [] dependents Canonical;
       first = Some (codes "x");
-      second = Some path;
+      second = path;
     }))
 
 unmet_of_an_index : asked_of (unmet_line (codes "x" ∷ []))
-    ≡ asks_unmet (dependents.Index Depends) (codes "x")
+    ≡ asks_unmet (dependents.Index Depends) None
 unfolding clap_on_literals kind_asked
 unmet_of_an_index = refl
 
 unmet_of_another_index : asked_of (unmet_line (codes "x" ∷ codes "y" ∷ []))
-    ≡ asks_unmet (dependents.Packages Depends) (codes "y")
+    ≡ asks_unmet (dependents.Packages Depends) (Some (codes "y"))
 unfolding clap_on_literals kind_asked
 unmet_of_another_index = refl
 
 unmet_with_recommends : asked_of
     (unmet_line (codes "x" ∷ codes "--recommends" ∷ codes "y" ∷ codes "-kbinary" ∷ []))
-    ≡ asks_unmet (dependents.Binary Recommends) (codes "y")
+    ≡ asks_unmet (dependents.Binary Recommends) (Some (codes "y"))
 unfolding clap_on_literals kind_asked
 unmet_with_recommends = refl
 
 unmet_of_sources_in_input : asked_of
     (unmet_line (codes "--kind" ∷ codes "sources" ∷ codes "x" ∷ codes "-" ∷ []))
-    ≡ asks_unmet dependents.Sources (codes "-")
+    ≡ asks_unmet dependents.Sources (Some (codes "-"))
 unfolding clap_on_literals kind_asked
 unmet_of_sources_in_input = refl
 
 unmet_of_a_source : asked_of (unmet_line (codes "--kind=source" ∷ codes "x" ∷ codes "y" ∷ []))
-    ≡ asks_unmet dependents.Source (codes "y")
+    ≡ asks_unmet dependents.Source (Some (codes "y"))
 unfolding clap_on_literals kind_asked
 unmet_of_a_source = refl
 
@@ -486,16 +486,25 @@ unmet_with_spelled_versions : asked_of (unmet_line (codes "--spelled" ∷ codes 
     ≡ Some (asks (record {
       wanted = finds_unmet (codes "amd64") [] (dependents.Index Depends) Spelled;
       first = Some (codes "x");
-      second = Some (codes "x");
+      second = None;
     }))
 unfolding clap_on_literals kind_asked
 unmet_with_spelled_versions = refl
 
--- an index that is standard input can't be read twice
+-- an index in itself that is standard input
+unmet_of_an_index_in_input : asked_of (unmet_line (codes "-" ∷ []))
+    ≡ Some (asks (record {
+      wanted = finds_unmet (codes "amd64") [] (dependents.Index Depends) Canonical;
+      first = Some (codes "-");
+      second = None;
+    }))
+unfolding clap_on_literals kind_asked
+unmet_of_an_index_in_input = refl
+
+-- not both files are standard input
 standard_input_for_index_and_file : map (λ words. asked_of (unmet_line words))
-    ((codes "-" ∷ []) ∷ (codes "-" ∷ codes "-" ∷ [])
-    ∷ (codes "-" ∷ codes "-" ∷ codes "--kind=sources" ∷ []) ∷ [])
-    ≡ Some standard_input_twice ∷ Some standard_input_twice ∷ Some standard_input_twice ∷ []
+    ((codes "-" ∷ codes "-" ∷ []) ∷ (codes "-" ∷ codes "-" ∷ codes "--kind=sources" ∷ []) ∷ [])
+    ≡ Some standard_input_twice ∷ Some standard_input_twice ∷ []
 unfolding clap_on_literals kind_asked
 standard_input_for_index_and_file = refl
 
@@ -503,14 +512,14 @@ standard_input_for_index_and_file = refl
 kinds_of_an_index : map (λ kind. asked_of (unmet_line (codes "--kind" ∷ kind ∷ codes "x" ∷ [])))
     (codes "packages" ∷ codes "binary" ∷ codes "sources" ∷ codes "source" ∷ codes "any"
     ∷ codes "foo" ∷ [])
-    ≡ asks_unmet (dependents.Index Depends) (codes "x") ∷ Some kind_of_path ∷ Some kind_of_path
+    ≡ asks_unmet (dependents.Index Depends) None ∷ Some kind_of_path ∷ Some kind_of_path
     ∷ Some kind_of_path ∷ Some no_relations ∷ Some unknown_kind ∷ []
 unfolding clap_on_literals kind_asked
 kinds_of_an_index = refl
 
 -- the index given again is another file, which is read as a file is
 unmet_of_the_index_as_a_file : asked_of (unmet_line (codes "x" ∷ codes "x" ∷ []))
-    ≡ asks_unmet (dependents.Packages Depends) (codes "x")
+    ≡ asks_unmet (dependents.Packages Depends) (Some (codes "x"))
 unfolding clap_on_literals kind_asked
 unmet_of_the_index_as_a_file = refl
 
@@ -518,9 +527,10 @@ unmet_of_the_index_as_a_file = refl
 kinds_without_recommends : map (λ kind. asked_of
     (unmet_line (codes "--kind" ∷ kind ∷ codes "x" ∷ codes "y" ∷ [])))
     (codes "packages" ∷ codes "binary" ∷ codes "sources" ∷ codes "source" ∷ [])
-    ≡ asks_unmet (dependents.Packages Depends) (codes "y")
-    ∷ asks_unmet (dependents.Binary Depends) (codes "y")
-    ∷ asks_unmet dependents.Sources (codes "y") ∷ asks_unmet dependents.Source (codes "y") ∷ []
+    ≡ asks_unmet (dependents.Packages Depends) (Some (codes "y"))
+    ∷ asks_unmet (dependents.Binary Depends) (Some (codes "y"))
+    ∷ asks_unmet dependents.Sources (Some (codes "y"))
+    ∷ asks_unmet dependents.Source (Some (codes "y")) ∷ []
 unfolding clap_on_literals kind_asked
 kinds_without_recommends = refl
 
@@ -528,7 +538,7 @@ kinds_without_recommends = refl
 kinds_with_recommends : map (λ kind. asked_of
     (unmet_line (codes "--recommends" ∷ codes "--kind" ∷ kind ∷ codes "x" ∷ codes "y" ∷ [])))
     (codes "packages" ∷ codes "sources" ∷ codes "source" ∷ codes "any" ∷ [])
-    ≡ asks_unmet (dependents.Packages Recommends) (codes "y") ∷ Some no_recommends
+    ≡ asks_unmet (dependents.Packages Recommends) (Some (codes "y")) ∷ Some no_recommends
     ∷ Some no_recommends ∷ Some no_relations ∷ []
 unfolding clap_on_literals kind_asked
 kinds_with_recommends = refl

@@ -12,9 +12,9 @@ use crate::commands::{
     same_command, sort_command, unmet_command, version_key_command,
 };
 use crate::found_arguments::{
-    all_given, detail_in, diff_detail_in, end_in, extent_in, file_in, flag_in, given, index_in,
-    is_standard_input_twice, kind_in, least_in, names_file, owned_texts, packages_in, path_in,
-    profiles_in, strength_in, version_text_in, versions_in, word_in,
+    all_given, detail_in, diff_detail_in, end_in, extent_in, flag_in, given, has_input_beside,
+    index_in, is_standard_input_twice, kind_in, least_in, names_file, owned_texts, packages_in,
+    path_in, profiles_in, strength_in, version_text_in, versions_in, word_in,
 };
 use crate::jobs::{Audit, Call, Demands, Dependents, DiffKind, Explain, Extent, Files, Job, Task};
 use crate::operator_argument::operator_named;
@@ -96,7 +96,7 @@ impl From<AllocError> for UsageFault {
 ///   `usage: unknown operator`, `usage: unknown command` or `usage: unknown code` for a K, an OP, a
 ///   COMMAND or an N that isn't known; `usage: standard input twice` for `same - -`, for `diff - -`
 ///   of a kind other than `any`, for an audit with two paths `-`, for a query whose relation and
-///   index are both standard input, and for an `unmet` that reads standard input twice; `usage:
+///   index are both standard input, and for an `unmet` whose two files are; `usage:
 ///   explain takes one file, code, relation or version` for an `explain` with two of these, where a
 ///   kind, `--all` or a path names a file; `usage: audit takes paths, or --files0-from` for an
 ///   audit with neither paths nor a list, or with both; `usage: query takes a relation, or
@@ -545,13 +545,13 @@ fn unmet_of_files(
     ensures { Answers (unmet_of_files (rows_of (found_of found.now)) dependents) result }
 {
     let index = word_in(found, "index");
-    if index == "-" && file_in(found) == "-" {
+    if index == "-" && has_input_beside(found) {
         return Err(usage(alloc, "usage: standard input twice"));
     }
     let arch = String::from_str(alloc, word_in(found, "arch"))?;
     let profiles = profiles_in(alloc, found)?;
     let first = String::from_str(alloc, index)?;
-    let second = String::from_str(alloc, file_in(found))?;
+    let second = path_in(alloc, found)?;
     Ok(Task::Run(Call {
         job: Job::Unmet {
             arch,
@@ -560,7 +560,7 @@ fn unmet_of_files(
             versions: version_text_in(found),
         },
         first: Some(first),
-        second: Some(second),
+        second,
     }))
 }
 

@@ -2,7 +2,7 @@
 
 ghost use Rattle.std.specs.Prelude.{◌≡◌, nat_lt, count_by, map, codes, string_bytes, option_map, IfOk, option_copied};
 ghost use Rattle.clap.specs.Words.{all_of, first_of, found_of, rows_of};
-ghost use Rattle.debctl_args.specs.Asked.{comma_pieces, detail_asked, diff_detail_asked, end_asked, extent_asked, file_asked, flag_asked, index_asked, is_standard_input, kind_asked, least_asked, names_file, packages_in, profiles_asked, strength_in, texts_asked, versions_asked, word_in, MeansKind, MeansLeast};
+ghost use Rattle.debctl_args.specs.Asked.{comma_pieces, detail_asked, diff_detail_asked, end_asked, extent_asked, flag_asked, has_input_beside, index_asked, is_standard_input, kind_asked, least_asked, names_file, packages_in, profiles_asked, strength_in, texts_asked, versions_asked, word_in, MeansKind, MeansLeast};
 
 use crate::arguments::{UsageFault, usage};
 use crate::jobs::{Dependents, Detail, DiffDetail, Extent, LineEnd, Strength};
@@ -185,13 +185,13 @@ pub(crate) fn index_in<'a>(found: &ArgMatches<'a>) -> &'a str
     }
 }
 
-/// Returns the path of the file whose groups `unmet` tries: the index if no other is given.
-pub(crate) fn file_in<'a>(found: &ArgMatches<'a>) -> &'a str
-    ensures { result.now ≡ file_asked (rows_of (found_of found.now)) }
+/// Whether the file beside the index of `unmet` is standard input.
+pub(crate) fn has_input_beside(found: &ArgMatches<'_>) -> bool
+    ensures { result ≡ has_input_beside (rows_of (found_of found.now)) }
 {
     match given(found, "path") {
-        Some(path) => path,
-        None => word_in(found, "index"),
+        Some(path) => path == "-",
+        None => false,
     }
 }
 

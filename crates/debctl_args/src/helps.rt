@@ -392,8 +392,7 @@ that it is unmet in each.
 Each group is tried by itself: a package without a line may still not be installable,
 because of what its dependencies depend on or conflict with.
 
-Without PATH the file is INDEX, which is opened and read twice. A pipe can't be read
-twice: INDEX can be `-` only if PATH is another file.
+Without PATH the file is INDEX, and nothing is printed before all of it has been read.
 
 Exit statuses:
   0  nothing is printed: each group is met or ignored

@@ -81,7 +81,7 @@ pub enum Job {
         versions: VersionText,
     },
     /// `unmet`: find the groups of a whole file that no package of an index meets. The index is the
-    /// first file, and the file with the groups is the second.
+    /// first file, and the file with the groups is the second, or the index if there is none.
     Unmet {
         arch: String,
         profiles: Vec<String>,
@@ -133,7 +133,7 @@ pub enum Detail {
 /// The file whose groups `unmet` tries, and which of its fields.
 #[derive(Clone, Copy, Debug, PartialEq, Eq)]
 pub enum Dependents {
-    /// The index itself, which is read again.
+    /// The index itself.
     Index(Strength),
     /// Another index of binary packages.
     Packages(Strength),
@@ -157,8 +157,8 @@ pub enum Strength {
 /// A command and the paths of the files that it reads.
 ///
 /// If `check`, `normalise`, `sort` or `query` has no path, the file is standard input. `same`,
-/// `diff`, `query --relation-from` and `unmet` have both paths, and no other job has a second one.
-/// Those of an `unmet` of the index itself are the same.
+/// `diff`, `query --relation-from` and `unmet` have both paths, except for an `unmet` of the index
+/// itself, and no other job has a second one.
 #[derive(Debug, PartialEq, Eq, Drop)]
 pub struct Call {
     pub job: Job,
