@@ -46,7 +46,7 @@ returns-in_err-is_met-clause-cut_off g c = λ text told.
     let so_far = c.loop-count.invariant.shown in
     let current = rw c.if-not-branch.false at c.in_ok-advance.ensures.passes.current in
     let visits = rw so_far.reads at c.in_ok-advance.ensures.passes.keeps (ap Ok c.if-not-branch.false) in
-    let given = given_texts _ _ _ _ _ c.in-Some.view _ c.in-Some.ensures.seen current c.spelled_for.ensures visits in
+    let given = given_texts _ _ _ _ _ c.in-Some.view _ c.in-Some.ensures.seen current c.of.ensures.texts c.of.ensures.version visits in
     rw (p.1, p.2) (cut_after _ text _ _ _ _ c.in_err-is_met.field-0.0 (c.in_err-is_met.ensures.puts given.values given.has) (asked_read so_far.holds text (shows-front so_far text told)))
 
 pub returns-in_err-is_met-clause-write : goal.returns-in_err-is_met-clause-write
@@ -56,7 +56,7 @@ returns-in_err-is_met-clause-write g c = λ text told.
     let seen = c.in_ok-advance.ensures.passes.given in
     let current = rw c.if-not-branch.false at c.in_ok-advance.ensures.passes.current in
     let visits = rw so_far.reads at c.in_ok-advance.ensures.passes.keeps (ap Ok c.if-not-branch.false) in
-    let given = given_texts _ _ _ _ _ c.in-Some.view _ c.in-Some.ensures.seen current c.spelled_for.ensures visits in
+    let given = given_texts _ _ _ _ _ c.in-Some.view _ c.in-Some.ensures.seen current c.of.ensures.texts c.of.ensures.version visits in
     rw (p.1, p.2) (failed_after so_far.holds seen given.values given.are c.loop-count.count so_far.numbered text _ _ c.in_err-is_met.field-0.0 given.version (c.in_err-is_met.ensures.puts given.values given.has) (shows-front_next so_far (passing_seen _ seen) (rw c.if-not-branch.false at c.in_ok-advance.ensures.passes.checks) text told))
 
 pub returns-in_err-is_met-clause-reads_at_most : goal.returns-in_err-is_met-clause-reads_at_most
@@ -68,7 +68,7 @@ loop-count-preserved g c =
     let seen = c.in_ok-advance.ensures.passes.given in
     let current = rw c.if-not-branch.false at c.in_ok-advance.ensures.passes.current in
     let visits = rw so_far.reads at c.in_ok-advance.ensures.passes.keeps (ap Ok c.if-not-branch.false) in
-    let given = given_texts _ _ _ _ _ c.in-Some.view _ c.in-Some.ensures.seen current c.spelled_for.ensures visits in
+    let given = given_texts _ _ _ _ _ c.in-Some.view _ c.in-Some.ensures.seen current c.of.ensures.texts c.of.ensures.version visits in
     let puts = rw given.version at c.in_ok-is_met.ensures.puts given.values given.has in
     let all_is : c.if-is_empty.is_empty ≡ (c.loop-count.is_empty && c.in_ok-is_met.is_met) =
     elim c.if-is_empty.branch [
