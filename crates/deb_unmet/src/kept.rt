@@ -212,6 +212,7 @@ impl Keeper for KeptParagraphs {
 
     fn keep(&mut self, paragraph: &CheckedView<'_>, texts: &FieldTexts) -> Result<(), AllocError> {
         let kept = KeptParagraph::of(self.alloc, paragraph, texts)?;
-        self.paragraphs.push(kept)
+        self.paragraphs.push(kept)?;
+        Ok(())
     }
 }
