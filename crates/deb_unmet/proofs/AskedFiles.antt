@@ -1,5 +1,5 @@
 -- What is known of the lines that were written while a file is read, and at its end.
-use Rattle.std.proofs.Common.{◌≡◌, ℕ, ◌+◌, Bool, true, ◌&&◌, List, [], ◌∷◌, ◌++◌, length, map, Option, Ok, Err, refl, sym, ap, ◌∙◌, subst, append_assoc, append-nil, arith}
+use Rattle.std.proofs.Common.{◌≡◌, ℕ, ◌+◌, Bool, true, ◌&&◌, List, [], ◌∷◌, ◌++◌, length, map, Option, Result, Ok, Err, refl, sym, ap, ◌∙◌, subst, append_assoc, append-nil, arith}
 use Rattle.std.proofs.KnownBytes.{Appends-nil, Appends-trans}
 use Rattle.std.specs.Io.KnownBytes.{Appends}
 use Rattle.deb_base.specs.Devices.{AppendsFront}
@@ -7,6 +7,7 @@ use Rattle.deb_base.specs.declared.fault.Fault.{Fault}
 use Rattle.deb_base.specs.declared.fault.Fault.TheVariants.{Refused, Memory, Read, Write}
 use Rattle.deb_base.proofs.Writes.{AppendsFront-then}
 use Rattle.deb_syntax.specs.Answers.{Seen, next_answer}
+use Rattle.deb_syntax.specs.Fields.{Field}
 use Rattle.deb_field.specs.Values.{ValueMeaning}
 use Rattle.deb_control.specs.Calls.{IfCutOff, IfRefused, IfWriteFailed}
 use Rattle.deb_control.specs.Documents.{Meaning, Accepted}
@@ -52,6 +53,10 @@ given-lines asks text n (seen ∷ given) [] same next = refl
 given-lines asks text n (seen ∷ given) (v ∷ values) same next =
     ap (λ f. lines_of asks (n + 1) f v ++ lines_given asks (n + 1) given values) (sym (ap fields_of_seen next.0))
     ∙ ap (λ l. lines_of asks (n + 1) (fields_of_seen (next_answer text n)) v ++ l) (given-lines asks text (n + 1) given values (omega (arith, same)) next.1)
+
+-- what is put of a paragraph with this text of its version
+pub puts_lines : (asks : Asks) (number : ℕ) (fields : List Field) (values : ValueEntries ValueMeaning) (version : List ℕ) (r : Result Bool Fault) (held writes : Option (List ℕ)) → version ≡ version_word asks.versions fields values → PutsLines (paragraph_lines asks.asked asks.environment asks.packages number version values) r held writes → PutsLines (lines_of asks number fields values) r held writes
+puts_lines asks number fields values version r held writes is puts = subst (λ v. PutsLines (paragraph_lines asks.asked asks.environment asks.packages number v values) r held writes) is puts
 
 -- Exactly the lines of these paragraphs were written.
 pub record HasAsked (asks : Asks) (old new : Option (List ℕ)) (empty : Bool) (given : List Seen) : Type 0 where
@@ -108,15 +113,15 @@ module _ {asks : Asks} {old held : Option (List ℕ)} {empty : Bool} {given : Li
           (AppendsFront-then old held writes _ _ has.written put);
     }
 
-    pub failed_after : (text : List ℕ) (writes : Option (List ℕ)) (version : List ℕ) (fault : Fault) → version ≡ version_word asks.versions seen.fields values → PutsLines (paragraph_lines asks.asked asks.environment asks.packages (count + 1) version values) (Err fault) held writes → ShownFront (doc_of asks.asked) text (given ++ seen ∷ []) → IfWriteFailed {T = Summary} (Err fault) (WritesSome asks text old writes)
-    failed_after text writes version (Refused refusal) is puts shown = tt
-    failed_after text writes version Memory is puts shown = tt
-    failed_after text writes version Read is puts shown = tt
-    failed_after text writes version Write is puts shown = record {
+    pub failed_after : (text : List ℕ) (writes : Option (List ℕ)) (fault : Fault) → PutsLines (lines_of asks (count + 1) seen.fields values) (Err fault) held writes → ShownFront (doc_of asks.asked) text (given ++ seen ∷ []) → IfWriteFailed {T = Summary} (Err fault) (WritesSome asks text old writes)
+    failed_after text writes (Refused refusal) puts shown = tt
+    failed_after text writes Memory puts shown = tt
+    failed_after text writes Read puts shown = tt
+    failed_after text writes Write puts shown = record {
       first = map (bodies_seen (doc_of asks.asked)) (given ++ seen ∷ []);
       more = shown.more;
       passed = shown.passed;
-      lines = asked_front writes (subst (λ v. AppendsFront held writes (paragraph_lines asks.asked asks.environment asks.packages (count + 1) v values)) is puts) shown.next;
+      lines = asked_front writes puts shown.next;
     }
 
   -- there is no further paragraph

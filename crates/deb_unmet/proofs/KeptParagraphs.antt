@@ -42,8 +42,8 @@ module _ (texts : KeptTexts) (kept : KeptParagraph) (fields : List Field) (value
   text-has name text is = record { is = is; regular = holds.regular name }
 
   pub kept-have : (strength : Strength) → HaveRelations (fields_with strength) (names_of (texts.pre_depends ∷ texts.depends ∷ texts.recommends ∷ [])) values
-  kept-have Depends = (text-has (codes "Pre-Depends") texts.pre_depends.now (text-at 4), text-has (codes "Depends") texts.depends.now (text-at 5), tt)
-  kept-have Recommends = (text-has (codes "Pre-Depends") texts.pre_depends.now (text-at 4), text-has (codes "Depends") texts.depends.now (text-at 5), text-has (codes "Recommends") texts.recommends.now (text-at 6), tt)
+  kept-have Depends = (text-has (codes "Pre-Depends") texts.pre_depends.now (text-at 4), (text-has (codes "Depends") texts.depends.now (text-at 5), tt))
+  kept-have Recommends = (text-has (codes "Pre-Depends") texts.pre_depends.now (text-at 4), (text-has (codes "Depends") texts.depends.now (text-at 5), (text-has (codes "Recommends") texts.recommends.now (text-at 6), tt)))
 
 -- a paragraph that was given
 pub is_kept : (texts : FieldTexts) (view : CheckedView) (seen : Seen) (kept : KeptParagraph) → ((values : ValueEntries ValueMeaning) → HasTexts texts values → HoldsTexts (fields_in view) values kept) → VisitsValues KeepsTexts texts docs.Packages seen → (passing_judged view).seen ≡ seen → IsKept seen kept

@@ -1,7 +1,7 @@
 -- What is known of the lines of an index in itself that were written so far, and at their end.
 use Rattle.std.proofs.Common.{◌≡◌, ℕ, ◌+◌, ◌<◌, ◌≤◌, Bool, true, ◌&&◌, List, [], ◌∷◌, ◌++◌, drop, get_or, length, Option, Ok, Err, refl, sym, ap, ◌∙◌, subst, append_assoc, append-nil, length-append, arith, drop_of_length-le}
 use Rattle.std.proofs.KnownBytes.{Appends-nil}
-use Rattle.std.proofs.Math.Seq.{drop-cons}
+use Rattle.std.proofs.lemmas.List.{drop_more}
 use Rattle.std.specs.Io.KnownBytes.{Appends}
 use Rattle.deb_base.specs.Devices.{AppendsFront}
 use Rattle.deb_base.specs.declared.fault.Fault.{Fault}
@@ -19,12 +19,9 @@ use Rattle.deb_control.proofs.GivenValues.{pairwise-length}
 use Rattle.deb_index.specs.Listed.{Listed}
 use Rattle.deb_index.specs.Listing.{ListsAll}
 use Rattle.deb_unmet.specs.Asking.{PutsLines}
-use Rattle.deb_unmet.specs.Fields.{paragraph_lines}
 use Rattle.deb_unmet.specs.Files.{Asks, file_lines, lines_of}
 use Rattle.deb_unmet.specs.KeptParagraphs.{AreKept, IsKept}
 use Rattle.deb_unmet.specs.Own.{BeginsOwn, WritesOwn, asks_own}
-use Rattle.deb_unmet.specs.Spelled.{version_word}
-use Rattle.deb_unmet.specs.declared.asked.Asked.TheVariants.{Packages}
 use Rattle.deb_unmet.specs.declared.asked.Strength.{Strength}
 use Rattle.deb_unmet.specs.declared.kept.KeptParagraph.{KeptParagraph}
 use Rattle.deb_unmet.proofs.AskedFiles.{HasAsked, all_given, given-lines, lines_given, lines_given-append, none_asked, one_asked}
@@ -85,7 +82,7 @@ module _ (strength : Strength) (versions : VersionText) (environment : Environme
     pub left : AreKept (drop (i + 1) kept) more
 
   pub next_own : {held : Option (List ℕ)} {empty : Bool} {i : ℕ} (d : KeptParagraph) → HasOwn held empty i → i < length kept → NextOwn held empty i (get_or kept i d)
-  next_own {held} {empty} {i} d has within = go has.more has.all (subst (λ l. AreKept l has.more) (drop-cons kept i d within) has.left)
+  next_own {held} {empty} {i} d has within = go has.more has.all (subst (λ l. AreKept l has.more) (drop_more kept i d within) has.left)
     where
       go : (more : List Seen) → given ≡ has.done ++ more → AreKept (get_or kept i d ∷ drop (i + 1) kept) more → NextOwn held empty i (get_or kept i d)
       go [] all left = absurd left
@@ -125,15 +122,15 @@ module _ (strength : Strength) (versions : VersionText) (environment : Environme
           subst (AppendsFront old writes) (sym lines_all ∙ given-lines asks text 0 given meaning (pairwise-length (AreValuesOf docs.Packages) given meaning are_all) are_next)
           (AppendsFront-then old held writes _ _ next.asked.written (AppendsFront-more held writes line (lines_given asks (i + 1) next.more others) put))
 
-    pub stopped_own : (text : List ℕ) (writes : Option (List ℕ)) (fault : Fault) (version : List ℕ) → version ≡ version_word versions next.seen.fields next.is.values → PutsLines (paragraph_lines (Packages strength) environment packages (i + 1) version next.is.values) (Err fault) held writes → ListsAll text packages → AreNext text 0 given → ((meaning : Meaning) → Packaged given meaning → Accepted docs.Packages text meaning) → BeginsOwn strength versions environment text old writes
-    stopped_own text writes fault version is puts lists are_next accepted =
+    pub stopped_own : (text : List ℕ) (writes : Option (List ℕ)) (fault : Fault) → PutsLines line (Err fault) held writes → ListsAll text packages → AreNext text 0 given → ((meaning : Meaning) → Packaged given meaning → Accepted docs.Packages text meaning) → BeginsOwn strength versions environment text old writes
+    stopped_own text writes fault puts lists are_next accepted =
         let rest = kept_values next.more (drop (i + 1) kept) next.left in
         record {
           packages = packages;
           lists = lists;
           meaning = meaning rest.0 rest.1;
           accepted = accepted (meaning rest.0 rest.1) (are_all rest.0 rest.1);
-          written = front_of rest.0 rest.1 text writes (puts_front fault line held writes (subst (λ v. PutsLines (paragraph_lines (Packages strength) environment packages (i + 1) v next.is.values) (Err fault) held writes) is puts)) are_next;
+          written = front_of rest.0 rest.1 text writes (puts_front fault line held writes puts) are_next;
         }
 
   -- there is no further paragraph

@@ -49,14 +49,14 @@ relation-at (field ∷ fields) (text ∷ texts) values zero within have = have.0
 relation-at (field ∷ fields) (text ∷ texts) values (suc i) within have = relation-at fields texts values i (omega (arith, within)) have.1
 
 -- the lines of all fields, with the heading of the texts, are those of the values
-pub lines-of_texts : (p : Paragraph) (values : ValueEntries ValueMeaning) (environment own : Environment) (packages : List Listed) → HasTextsOf p.asked p.texts values → own ≡ own_or (own_environment p.asked environment p.texts.architecture.now) environment → fields_lines own packages (heading_in p) values (fields_asked p.asked) ≡ paragraph_lines p.asked environment packages p.number p.texts.version.now values
+pub lines-of_texts : (p : Paragraph) (values : ValueEntries ValueMeaning) (environment own : Environment) (packages : List Listed) → HasTextsOf p.asked p.texts.now values → own ≡ own_or (own_environment p.asked environment p.texts.now.architecture.now) environment → fields_lines own packages (heading_in p) values (fields_asked p.asked) ≡ paragraph_lines p.asked environment packages p.number p.texts.now.version.now values
 lines-of_texts p values environment own packages has is_own =
     let lines : List ℕ → List ℕ → List ℕ = λ name architecture.
     fields_lines (own_or (own_environment p.asked environment architecture) environment) packages
-    (concat (codes " " ∷ decimal p.number ∷ codes " " ∷ name ∷ codes " " ∷ p.texts.version.now ∷ codes " " ∷ architecture ∷ codes " " ∷ [])) values (fields_asked p.asked)
+    (concat (codes " " ∷ decimal p.number ∷ codes " " ∷ name ∷ codes " " ∷ p.texts.now.version.now ∷ codes " " ∷ architecture ∷ codes " " ∷ [])) values (fields_asked p.asked)
     in
     ap (λ e. fields_lines e packages (heading_in p) values (fields_asked p.asked)) is_own
-    ∙ ap (λ name. lines name p.texts.architecture.now) has.name
+    ∙ ap (λ name. lines name p.texts.now.architecture.now) has.name
     ∙ ap (lines (word_under (name_field p.asked) values)) has.architecture
 
 -- the texts of relations in the rows of the fields that are asked
@@ -68,14 +68,14 @@ module _ (texts : FieldTexts) (values : ValueEntries ValueMeaning) (has : HasTex
   in_rows rows = relation_at texts (get_or rows 0 0) ∷ relation_at texts (get_or rows 1 0) ∷ relation_at texts (get_or rows 2 0) ∷ []
 
   with-have : (strength : Strength) → HaveRelations (fields_with strength) (in_rows (rows_with strength)) values
-  with-have Depends = (text-has (codes "Pre-Depends"), text-has (codes "Depends"), tt)
-  with-have Recommends = (text-has (codes "Pre-Depends"), text-has (codes "Depends"), text-has (codes "Recommends"), tt)
+  with-have Depends = (text-has (codes "Pre-Depends"), (text-has (codes "Depends"), tt))
+  with-have Recommends = (text-has (codes "Pre-Depends"), (text-has (codes "Depends"), (text-has (codes "Recommends"), tt)))
 
   asked-have : (asked : Asked) → HaveRelations (fields_asked asked) (in_rows (rows_asked asked)) values
   asked-have (Packages strength) = with-have strength
   asked-have (Binary strength) = with-have strength
-  asked-have Sources = (text-has (codes "Build-Depends"), text-has (codes "Build-Depends-Arch"), text-has (codes "Build-Depends-Indep"), tt)
-  asked-have Source = (text-has (codes "Build-Depends"), text-has (codes "Build-Depends-Arch"), text-has (codes "Build-Depends-Indep"), tt)
+  asked-have Sources = (text-has (codes "Build-Depends"), (text-has (codes "Build-Depends-Arch"), (text-has (codes "Build-Depends-Indep"), tt)))
+  asked-have Source = (text-has (codes "Build-Depends"), (text-has (codes "Build-Depends-Arch"), (text-has (codes "Build-Depends-Indep"), tt)))
 
   pub relations-have : (asked : Asked) (rows : List ℕ) (relations : List (List ℕ)) → rows ≡ rows_asked asked → relations ≡ in_rows rows → HaveRelations (fields_asked asked) relations values
   relations-have asked rows relations are is = rw (is, are) (asked-have asked)

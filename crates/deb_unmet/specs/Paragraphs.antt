@@ -47,8 +47,8 @@ pub record HasTextsOf (asked : Asked) (texts : LineTexts) (values : ValueEntries
 -- ` NUMBER PACKAGE VERSION ARCHITECTURE `
 abbrev pub heading_in : Paragraph → List ℕ
 heading_in p =
-    concat (codes " " ∷ decimal p.number ∷ codes " " ∷ p.texts.name.now ∷ codes " "
-    ∷ p.texts.version.now ∷ codes " " ∷ p.texts.architecture.now ∷ codes " " ∷ [])
+    concat (codes " " ∷ decimal p.number ∷ codes " " ∷ p.texts.now.name.now ∷ codes " "
+    ∷ p.texts.now.version.now ∷ codes " " ∷ p.texts.now.architecture.now ∷ codes " " ∷ [])
 
 -- those of the paragraph that passes
 worked-fields : (paragraph : CheckedView)
@@ -67,24 +67,24 @@ worked-relations : IsRegularRelation (groups_of (value_under (codes "depends") t
 unfolding group_text
 worked-relations regular = (
   record { is = refl; regular = record { groups = tt; ascend = tt } },
-  record { is = refl; regular = regular },
-  tt,
+  (record { is = refl; regular = regular }, tt),
 )
 
-abbrev to : List ℕ → Bor (List ℕ)
-to text = record { ref_ptr = (0, 0); now = text }
+abbrev to : {T : Type 0} → T → Bor T
+to value = record { ref_ptr = (0, 0); now = value }
 
 abbrev paragraph : Paragraph
 paragraph = record {
   asked = Source;
   number = 7;
   texts =
-      record {
+      to
+      (record {
         name = to (codes "xx");
         version = to (codes "1.0-0");
         architecture = to (codes "source");
         relations = to [] ∷ to [] ∷ to [] ∷ [];
-      };
+      });
 }
 
 worked-heading : heading_in paragraph ≡ codes " 7 xx 1.0-0 source "

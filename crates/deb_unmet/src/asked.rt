@@ -75,6 +75,7 @@ impl Asked {
 
     /// Returns the rows of the fields that are asked, in the table of fields; one that it doesn't
     /// have if only two are asked.
+    #[tactic(auto, unfolding(deb_base::specs::Kinds::known_row))]
     pub(crate) fn rows(self) -> [usize; 3]
         ensures { result ≡ rows_asked self }
     {
@@ -85,6 +86,7 @@ impl Asked {
     }
 
     /// Returns the row of the field that names the package, in the table of fields.
+    #[tactic(auto, unfolding(deb_base::specs::Kinds::known_row))]
     pub(crate) fn name_row(self) -> usize
         ensures { result ≡ known_row (name_field self) }
     {
@@ -131,6 +133,7 @@ fn fields_with(strength: Strength) -> &'static [&'static [u8]]
     }
 }
 
+#[tactic(auto, unfolding(deb_base::specs::Kinds::known_row))]
 fn rows_with(strength: Strength) -> [usize; 3]
     ensures { result ≡ rows_with strength }
 {

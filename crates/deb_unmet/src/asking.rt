@@ -112,7 +112,7 @@ pub fn unmet<R: Source, W: Sink>(
         let paragraph = Paragraph {
             asked: request.asked,
             number: count + 1,
-            texts: LineTexts::of(request, &view, &texts),
+            texts: &LineTexts::of(request, &view, &texts),
         };
         let is_met = write_paragraph(alloc, &question, &paragraph, writer)?;
         is_empty = is_empty && is_met;
@@ -133,10 +133,10 @@ pub(crate) fn write_paragraph<W: Sink>(
     writer: &mut W,
 ) -> Result<bool, Fault>
     ensures puts { (values : ValueEntries ValueMeaning)
-        → HasTextsOf paragraph.now.asked paragraph.now.texts values
+        → HasTextsOf paragraph.now.asked paragraph.now.texts.now values
         → PutsLines (paragraph_lines paragraph.now.asked
         (environment_of question.now.environment.now) (packages_of question.now.index.now)
-        paragraph.now.number paragraph.now.texts.version.now values) result (W.held writer.old)
+        paragraph.now.number paragraph.now.texts.now.version.now values) result (W.held writer.old)
         (W.held writer.new) }
     ensures counts_failure { W.failures writer.new ≡ write_failures_after
         (W.failures writer.old) result }

@@ -1,6 +1,6 @@
 //! What is kept of the paragraphs of an index until all of them are read.
 
-ghost use Rattle.std.specs.Prelude.{◌≡◌, [], drop, length, take, IfOk};
+ghost use Rattle.std.specs.Prelude.{◌≡◌, List, [], ◌∷◌, drop, length, take, IfOk};
 ghost use Rattle.std.specs.List.{concat};
 ghost use Rattle.deb_control.specs.FieldTexts.{HasTexts};
 ghost use Rattle.deb_control.specs.ValueFiles.{ValueEntries};
@@ -35,7 +35,6 @@ struct KeptTexts<'a> {
 
 impl<'a> KeptTexts<'a> {
     /// Those of a paragraph that was checked.
-    #[tactic(auto, unfolding(deb_base::specs::Kinds::known_row))]
     fn of(paragraph: &CheckedView<'a>, texts: &'a FieldTexts) -> KeptTexts<'a>
         ensures { (values : ValueEntries ValueMeaning) → HasTexts texts.now values
             → texts_in result ≡ paragraph_texts (fields_in paragraph.now) values }

@@ -65,7 +65,6 @@ impl<'a> LineTexts<'a> {
 }
 
 /// Returns the text of the version that the lines have.
-#[tactic(auto, unfolding(deb_base::specs::Kinds::known_row))]
 fn version_of<'a>(
     versions: VersionText,
     paragraph: &CheckedView<'a>,
@@ -91,7 +90,6 @@ pub(crate) fn spelled_body<'a>(paragraph: &CheckedView<'a>) -> &'a [u8]
 }
 
 /// Returns the architecture of a binary package, and `source` for a source package.
-#[tactic(auto, unfolding(deb_base::specs::Kinds::known_row))]
 fn architecture_of<'a>(asked: Asked, texts: &'a FieldTexts) -> &'a [u8]
     ensures { (values : ValueEntries ValueMeaning) → HasTexts texts.now values
         → result.now ≡ architecture_of asked values }

@@ -24,10 +24,10 @@ pub(crate) fn append_lines(
     paragraph: &Paragraph<'_>,
 ) -> Result<(), AllocError>
     ensures { (values : ValueEntries ValueMeaning)
-        → HasTextsOf paragraph.now.asked paragraph.now.texts values
+        → HasTextsOf paragraph.now.asked paragraph.now.texts.now values
         → OnOk result (out.new.items ≡ out.old.items ++ paragraph_lines paragraph.now.asked
         (environment_of question.now.environment.now) (packages_of question.now.index.now)
-        paragraph.now.number paragraph.now.texts.version.now values) }
+        paragraph.now.number paragraph.now.texts.now.version.now values) }
 {
     let own = own_environment(
         alloc,
@@ -79,7 +79,7 @@ fn append_fields(
     paragraph: &Paragraph<'_>,
 ) -> Result<(), AllocError>
     ensures { (values : ValueEntries ValueMeaning)
-        → HasTextsOf paragraph.now.asked paragraph.now.texts values
+        → HasTextsOf paragraph.now.asked paragraph.now.texts.now values
         → OnOk result (out.new.items ≡ out.old.items ++ fields_lines
         (environment_of question.now.environment.now) (packages_of question.now.index.now)
         (heading_in paragraph.now) values (fields_asked paragraph.now.asked)) }

@@ -13,7 +13,7 @@ ghost use Rattle.deb_index.specs.Keeping.{KeepsAll};
 ghost use Rattle.deb_index.specs.Listing.{ListsAll};
 ghost use Rattle.deb_unmet.specs.Asking.{IsWritersFault};
 ghost use Rattle.deb_unmet.specs.KeptParagraphs.{AreKept};
-ghost use Rattle.deb_unmet.specs.Own.{BeginsOwn, StopsOwn, WritesOwn};
+ghost use Rattle.deb_unmet.specs.Own.{StopsOwn, WritesOwn};
 
 use crate::asked::{Asked, Strength};
 use crate::asking::{Summary, write_paragraph};
@@ -108,7 +108,7 @@ fn write_kept<W: Sink>(
         (environment_of question.now.environment.now) text summary (W.held writer.old)
         (W.held writer.new)) }
     ensures stopped { (text : List ℕ) → ListsAll text (packages_of question.now.index.now)
-        → KeepsAll (AreKept kept.now) text → IfErr result (λ _. BeginsOwn strength versions
+        → KeepsAll (AreKept kept.now) text → IfErr result (λ _. StopsOwn strength versions
         (environment_of question.now.environment.now) text (W.held writer.old)
         (W.held writer.new)) }
     ensures counts_failure { W.failures writer.new ≡ write_failures_after
@@ -120,7 +120,7 @@ fn write_kept<W: Sink>(
         let paragraph = Paragraph {
             asked: Asked::Packages(strength),
             number: count as u64 + 1,
-            texts: kept[count].line_texts(versions),
+            texts: &kept[count].line_texts(versions),
         };
         let is_met = write_paragraph(alloc, question, &paragraph, writer)?;
         is_empty = is_empty && is_met;

@@ -13,7 +13,7 @@ use std::alloc::AllocError;
 pub(crate) struct Paragraph<'a> {
     pub(crate) asked: Asked,
     pub(crate) number: u64,
-    pub(crate) texts: LineTexts<'a>,
+    pub(crate) texts: &'a LineTexts<'a>,
 }
 
 impl Paragraph<'_> {

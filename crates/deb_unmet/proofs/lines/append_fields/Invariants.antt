@@ -11,6 +11,6 @@ use Rattle.deb_unmet.proofs.lines.append_fields.Given as goal
 
 abbrev pub invariant-loop-row : goal.invariant-loop-row
 invariant-loop-row l =
-    (values : ValueEntries ValueMeaning) → HasTextsOf l.paragraph.asked l.paragraph.texts values
+    (values : ValueEntries ValueMeaning) → HasTextsOf l.paragraph.asked l.paragraph.texts.now values
     → l.out.items ++ fields_lines (environment_of l.question.environment.now) (packages_of l.question.index.now) (heading_in l.paragraph) values (names_of (drop l.row l.fields))
     ≡ l.initial.out.items ++ fields_lines (environment_of l.question.environment.now) (packages_of l.question.index.now) (heading_in l.paragraph) values (fields_asked l.paragraph.asked)

@@ -1,10 +1,6 @@
 use Rattle.std.proofs.Common.{◌≡◌, ◌&&◌, Err, refl, sym, ap, ◌∙◌}
-use Rattle.std.proofs.lemmas.Result.{err_from_is_err_and}
-use Rattle.deb_relation.specs.Environments.{environment_of}
-use Rattle.deb_index.specs.Indexes.{packages_of}
 use Rattle.deb_unmet.proofs.OwnLines.{end_own, next_own, none_own, one_own, stopped_own}
 use Rattle.deb_unmet.proofs.own.write_kept.Goals as goal
-use Rattle.deb_unmet.proofs.own.write_kept.Goals.{then-is_empty, else-is_empty}
 
 pub loop-count-init : goal.loop-count-init
 loop-count-init g c = record {
@@ -13,26 +9,7 @@ loop-count-init g c = record {
 }
 
 pub loop-count-preserved : goal.loop-count-preserved
-loop-count-preserved g c = record {
-  lines = λ given are.
-      let next = next_own _ _ _ _ _ given _ _ (c.loop-count.invariant.lines given are) c.loop-count-test.true in
-      let all_is : c.if-is_empty.is_empty ≡ (c.loop-count.is_empty && c.in_ok-is_met.is_met) =
-      elim c.if-is_empty.branch [
-        | then-is_empty w ↦ w.is_empty-is ∙ ap (λ b. b && c.in_ok-is_met.is_met) (sym w.if-is_empty.true)
-        | else-is_empty w ↦ w.is_empty-is ∙ w.if-is_empty.false ∙ ap (λ b. b && c.in_ok-is_met.is_met) (sym w.if-is_empty.false)
-      ] in
-      one_own _ _ _ _ _ given _ next _ c.in_ok-is_met.is_met c.if-is_empty.is_empty
-      (rw (c.line_texts.ensures.version next.seen.fields next.is.values next.is.holds) at c.in_ok-is_met.ensures.puts next.is.values (c.line_texts.ensures.texts next.seen.fields next.is.values c.args.strength next.is.holds)) all_is;
-  writes = c.in_ok-is_met.ensures.counts_failure ∙ c.loop-count.invariant.writes;
-}
-
-pub returns-in_err-is_met-clause-stopped : goal.returns-in_err-is_met-clause-stopped
-returns-in_err-is_met-clause-stopped g c = λ text lists keeps.
-    let p = err_from_is_err_and c.from_residual.result c.from_residual.ensures.1 in
-    let next = next_own _ _ _ _ _ keeps.given _ _ (c.loop-count.invariant.lines keeps.given keeps.keeps) c.loop-count-test.true in
-    rw (p.1, p.2)
-    (stopped_own _ _ _ _ _ keeps.given _ next text _ c.in_err-is_met.field-0.0 _ (c.line_texts.ensures.version next.seen.fields next.is.values next.is.holds)
-    (c.in_err-is_met.ensures.puts next.is.values (c.line_texts.ensures.texts next.seen.fields next.is.values c.args.strength next.is.holds)) lists keeps.next keeps.accepted)
+loop-count-preserved g c = c.index-kept-count.is
 
 pub returns-clause-ok : goal.returns-clause-ok
 returns-clause-ok g c = λ text lists keeps.

@@ -8,5 +8,5 @@ pub returns-clause-texts : goal.returns-clause-texts
 returns-clause-texts c = λ values has. record {
   name = c.word.ensures ∙ ap (word_at c.args.texts.now) c.name_row.ensures ∙ has.word (name_field c.args.request.asked);
   architecture = c.architecture_of.ensures values has;
-  relations = relations-have c.args.texts.now values has c.args.request.asked c.rows.result _ c.rows.ensures refl;
+  relations = relations-have c.args.texts.now values has c.args.request.asked c.rows-rows.result _ c.rows-rows.ensures (rw (c.relation.ensures, c.relation-2.ensures, c.relation-3.ensures) refl);
 }
