@@ -81,10 +81,10 @@ module _ (strength : Strength) (versions : VersionText) (environment : Environme
     pub is : IsKept seen k
     pub left : AreKept (drop (i + 1) kept) more
 
-  pub next_own : {held : Option (List ℕ)} {empty : Bool} {i : ℕ} (d : KeptParagraph) → HasOwn held empty i → i < length kept → NextOwn held empty i (get_or kept i d)
-  next_own {held} {empty} {i} d has within = go has.more has.all (subst (λ l. AreKept l has.more) (drop_more kept i d within) has.left)
+  pub next_own : {held : Option (List ℕ)} {empty : Bool} (i : ℕ) (k : KeptParagraph) → HasOwn held empty i → i < length kept → k ≡ get_or kept i k → NextOwn held empty i k
+  next_own {held} {empty} i k has within is = go has.more has.all (subst (λ l. AreKept l has.more) (drop_more kept i k within ∙ ap (λ first. first ∷ drop (i + 1) kept) (sym is)) has.left)
     where
-      go : (more : List Seen) → given ≡ has.done ++ more → AreKept (get_or kept i d ∷ drop (i + 1) kept) more → NextOwn held empty i (get_or kept i d)
+      go : (more : List Seen) → given ≡ has.done ++ more → AreKept (k ∷ drop (i + 1) kept) more → NextOwn held empty i k
       go [] all left = absurd left
       go (seen ∷ more) all left = record { done = has.done; seen = seen; more = more; all = all; numbered = has.numbered; asked = has.asked; is = left.0; left = left.1 }
 

@@ -131,10 +131,9 @@ impl KeptParagraph {
             → IfOk result (HoldsTexts (fields_in paragraph.now) values) }
     {
         let kept = KeptTexts::of(paragraph, texts);
-        Ok(KeptParagraph {
-            lens: kept.lens()?,
-            bytes: kept.joined(alloc)?,
-        })
+        let lens = kept.lens()?;
+        let bytes = kept.joined(alloc)?;
+        Ok(KeptParagraph { bytes, lens })
     }
 
     fn texts(&self) -> KeptTexts<'_>

@@ -1,4 +1,4 @@
-use Rattle.std.proofs.Common.{◌≡◌, ◌+◌, ◌&&◌, [], Ok, Some, refl, sym, ap, ◌∙◌, subst}
+use Rattle.std.proofs.Common.{◌≡◌, ◌+◌, ◌&&◌, [], Ok, Err, Some, refl, sym, ap, ◌∙◌, subst}
 use Rattle.std.proofs.lemmas.Result.{err_from_is_err_and}
 use Rattle.deb_control.specs.Checking.{FitsChecked, passing_seen}
 use Rattle.deb_control.specs.CheckedStates.{checked_state}
@@ -61,7 +61,7 @@ returns-in_err-is_met-clause-write g c = λ text told.
     let current = rw c.if-not-branch.false at c.in_ok-advance.ensures.passes.current in
     let visits = rw so_far.reads at c.in_ok-advance.ensures.passes.keeps (ap Ok c.if-not-branch.false) in
     let given = given_texts c.args.request c.of.result _ _ _ c.in-Some.view _ c.in-Some.ensures.seen current c.of.ensures.texts c.of.ensures.version visits in
-    rw (p.1, p.2) (failed_after so_far.holds seen given.values given.are c.loop-count.count so_far.numbered text _ c.in_err-is_met.field-0.0 (puts_lines asks (c.loop-count.count + 1) seen.fields given.values _ _ _ _ given.version (c.in_err-is_met.ensures.puts given.values given.has)) (shows-front_next so_far (passing_seen _ seen) (rw c.if-not-branch.false at c.in_ok-advance.ensures.passes.checks) text told))
+    rw (p.1, p.2) (failed_after so_far.holds seen given.values given.are c.loop-count.count so_far.numbered text _ c.in_err-is_met.field-0.0 (puts_lines asks (c.loop-count.count + 1) seen.fields given.values _ (Err c.in_err-is_met.field-0.0) (g.W.Sink.held c.loop-count.writer) (g.W.Sink.held c.write_paragraph.new.writer) given.version (c.in_err-is_met.ensures.puts given.values given.has)) (shows-front_next so_far (passing_seen _ seen) (rw c.if-not-branch.false at c.in_ok-advance.ensures.passes.checks) text told))
 
 pub returns-in_err-is_met-clause-reads_at_most : goal.returns-in_err-is_met-clause-reads_at_most
 returns-in_err-is_met-clause-reads_at_most g c = shows-taken c.loop-count.invariant.shown c.in_ok-advance.ensures.passes.checks
@@ -74,7 +74,7 @@ loop-count-preserved g c =
     let current = rw c.if-not-branch.false at c.in_ok-advance.ensures.passes.current in
     let visits = rw so_far.reads at c.in_ok-advance.ensures.passes.keeps (ap Ok c.if-not-branch.false) in
     let given = given_texts c.args.request c.of.result _ _ _ c.in-Some.view _ c.in-Some.ensures.seen current c.of.ensures.texts c.of.ensures.version visits in
-    let puts = puts_lines asks (c.loop-count.count + 1) seen.fields given.values _ _ _ _ given.version (c.in_ok-is_met.ensures.puts given.values given.has) in
+    let puts = puts_lines asks (c.loop-count.count + 1) seen.fields given.values _ (Ok c.in_ok-is_met.is_met) (g.W.Sink.held c.loop-count.writer) (g.W.Sink.held c.write_paragraph.new.writer) given.version (c.in_ok-is_met.ensures.puts given.values given.has) in
     let all_is : c.if-is_empty.is_empty ≡ (c.loop-count.is_empty && c.in_ok-is_met.is_met) =
     elim c.if-is_empty.branch [
       | then-is_empty w ↦ w.is_empty-is ∙ ap (λ b. b && c.in_ok-is_met.is_met) (sym w.if-is_empty.true)
