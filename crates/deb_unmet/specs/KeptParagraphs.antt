@@ -102,7 +102,7 @@ lens = record {
 }
 
 worked-cut : (cut_texts (lens_in lens) (codes "xx1.01.0-0allaa, bbcc") ≡ texts)
-    × (cut_texts (lens_in lens) (codes "xx1") ≡ codes "xx" ∷ codes "1" ∷ [] ∷ [] ∷ [] ∷ [] ∷ [] ∷ [])
+    × (cut_texts (2 ∷ 3 ∷ []) (codes "xx1") ≡ codes "xx" ∷ codes "1" ∷ [] ∷ [])
 worked-cut = (refl, refl)
 
 abbrev to : List ℕ → Bor (List ℕ)
@@ -121,5 +121,6 @@ worked-in : texts_in
 worked-in = refl
 
 -- those of a paragraph are its bytes, cut
-worked-kept : (kept : KeptParagraph) → texts_kept kept ≡ cut_texts (lens_in kept.lens) kept.bytes.items
+worked-kept : (kept : KeptParagraph)
+    → texts_kept kept ≡ cut_texts (lens_in kept.lens) kept.bytes.items
 worked-kept kept = refl

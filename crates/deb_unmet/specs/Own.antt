@@ -75,8 +75,8 @@ listed name version architecture =
 
 abbrev packages : List Listed
 packages =
-    listed (codes "xx") (codes "1.0") (codes "amd64") ∷ listed (codes "aa") (codes "2") (codes "all")
-    ∷ []
+    listed (codes "xx") (codes "1.0") (codes "amd64")
+    ∷ listed (codes "aa") (codes "2") (codes "all") ∷ []
 
 abbrev first : ValueEntries ValueMeaning
 first =
@@ -96,17 +96,18 @@ second =
     ∷ (codes "Package", NameMeans (codes "aa"))
     ∷ (codes "Version", VersionMeans (version_in (codes "2"))) ∷ []
 
-worked-own : (file_lines (asks_own Depends Canonical (environment_with (codes "amd64") []) packages)
-    file (first ∷ second ∷ []) ≡ codes "unmet 1 xx 1.0 amd64 Depends bb\n")
-    × (file_lines (asks_own Depends Canonical (environment_with (codes "amd64") []) []) file
-    (first ∷ second ∷ [])
+abbrev for_amd64 : Environment
+for_amd64 = environment_with (codes "amd64") []
+
+worked-own : (file_lines (asks_own Depends Canonical for_amd64 packages) file
+    (first ∷ second ∷ []) ≡ codes "unmet 1 xx 1.0 amd64 Depends bb\n")
+    × (file_lines (asks_own Depends Canonical for_amd64 []) file (first ∷ second ∷ [])
     ≡ codes "unmet 1 xx 1.0 amd64 Depends aa\nunmet 1 xx 1.0 amd64 Depends bb\n"
     ++ codes "unmet 2 aa 2 all Depends xx\n")
 unfolding group_text digits
 worked-own = (refl, refl)
 
-worked-spelled : file_lines
-    (asks_own Recommends Spelled (environment_with (codes "amd64") []) packages) file
+worked-spelled : file_lines (asks_own Recommends Spelled for_amd64 packages) file
     (first ∷ second ∷ [])
     ≡ codes "unmet 1 xx 01.0-0 amd64 Depends bb\nunmet 1 xx 01.0-0 amd64 Recommends cc\n"
 unfolding group_text digits file_limit paragraph_limit is_utf8 chars encode

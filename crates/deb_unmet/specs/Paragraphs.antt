@@ -37,7 +37,7 @@ HaveRelations (field ∷ fields) [] values = ⊥
 HaveRelations (field ∷ fields) (text ∷ texts) values =
     IsRelationText text (value_under field values) × HaveRelations fields texts values
 
--- These are texts of a paragraph with these values; of which text of its version, isn't said.
+-- These are texts of a paragraph with these values; the version may be spelled in any way.
 pub record HasTextsOf (asked : Asked) (texts : LineTexts) (values : ValueEntries ValueMeaning) :
     Type 0 where
   pub name : texts.name.now ≡ word_under (name_field asked) values

@@ -6,7 +6,6 @@ ghost use Rattle.deb_control.specs.FieldTexts.{HasTexts};
 ghost use Rattle.deb_control.specs.ValueFiles.{ValueEntries};
 ghost use Rattle.deb_field.specs.Values.{ValueMeaning};
 ghost use Rattle.deb_syntax.specs.Fields.{Field};
-ghost use Rattle.deb_unmet.specs.Asked.{request_for};
 ghost use Rattle.deb_unmet.specs.KeptParagraphs.{HoldsTexts, KeepsParagraphs, lens_in, paragraph_texts, texts_in, texts_kept};
 ghost use Rattle.deb_unmet.specs.Paragraphs.{HasTextsOf, fields_in};
 ghost use Rattle.deb_unmet.specs.Spelled.{version_word};
