@@ -1,11 +1,11 @@
 //! Tests of `unmet`: the lines of each kind of file, in pieces, long ones, and what is written
-//! before a refusal.
+//! before a refusal; and the lines of an index in itself.
 
 use deb_base::{Code, Fault, Input, Output, Refusal, VersionText};
 use deb_devices::{Pieces, SIZES};
 use deb_index::Index;
 use deb_relation::Env;
-use deb_unmet::{Asked, Request, Strength, Summary, unmet};
+use deb_unmet::{Asked, Request, Strength, Summary, unmet, unmet_in_itself};
 use std::io::Write;
 use std::test::Fail;
 
@@ -166,5 +166,50 @@ fn lines_before_a_refusal(rt: HostRuntime) -> Result<(), Fail> {
     };
     assert!(rt; answer == Err(Fault::Refused(refusal)));
     assert!(rt; held.as_slice() == b"unmet 1 xx 1 all Depends zz\n".as_slice());
+    Ok(())
+}
+
+const OWN: &[u8] = b"Package: xx\nVersion: 0:1.00\nArchitecture: all\n\
+    Depends: yy, bb, zz | xx\nPre-Depends: cc\nRecommends: dd\n\n\
+    Package: yy\nVersion: 2\nArchitecture: amd64\nDepends: xx, yy (>= 3)\n";
+
+const OWN_LINES: &[u8] = b"unmet 1 xx 1.0 all Pre-Depends cc\nunmet 1 xx 1.0 all Depends bb\n\
+    unmet 2 yy 2 amd64 Depends yy (>= 3)\n";
+
+const OWN_SPELLED_LINES: &[u8] = b"unmet 1 xx 0:1.00 all Pre-Depends cc\n\
+    unmet 1 xx 0:1.00 all Depends bb\nunmet 1 xx 0:1.00 all Recommends dd\n\
+    unmet 2 yy 2 amd64 Depends yy (>= 3)\n";
+
+#[test]
+fn lines_of_an_index_in_itself(rt: HostRuntime) -> Result<(), Fail> {
+    let environment = Env::new(rt.alloc(), b"amd64", &[])?;
+    for size in SIZES {
+        for (strength, versions, lines) in [
+            (Strength::Depends, VersionText::Canonical, OWN_LINES),
+            (
+                Strength::Recommends,
+                VersionText::Spelled,
+                OWN_SPELLED_LINES,
+            ),
+        ] {
+            let mut held = Vec::new(rt.alloc());
+            let summary = unmet_in_itself(
+                rt.alloc(),
+                &environment,
+                strength,
+                versions,
+                &mut Input::new(Pieces::new(OWN, size, 0)),
+                &mut Output::new(&mut held),
+            )?;
+            let wanted = Summary {
+                paragraphs: 2,
+                is_empty: false,
+            };
+            assert!(rt;
+                summary == wanted && held.as_slice() == lines,
+                "pieces of {size}"
+            );
+        }
+    }
     Ok(())
 }

@@ -1,5 +1,5 @@
 -- What is known of the lines that were written while a file is read, and at its end.
-use Rattle.std.proofs.Common.{◌≡◌, ℕ, ◌+◌, Bool, true, ◌&&◌, List, [], ◌∷◌, ◌++◌, length, map, Option, Ok, Err, refl, sym, ap, ◌∙◌, subst, append_assoc, append-nil, arith}
+use Rattle.std.proofs.Common.{◌≡◌, ℕ, ◌+◌, Bool, true, ◌&&◌, List, [], ◌∷◌, ◌++◌, length, map, Option, Result, Ok, Err, refl, sym, ap, ◌∙◌, subst, append_assoc, append-nil, arith}
 use Rattle.std.proofs.KnownBytes.{Appends-nil, Appends-trans}
 use Rattle.std.specs.Io.KnownBytes.{Appends}
 use Rattle.deb_base.specs.Devices.{AppendsFront}
@@ -7,9 +7,10 @@ use Rattle.deb_base.specs.declared.fault.Fault.{Fault}
 use Rattle.deb_base.specs.declared.fault.Fault.TheVariants.{Refused, Memory, Read, Write}
 use Rattle.deb_base.proofs.Writes.{AppendsFront-then}
 use Rattle.deb_syntax.specs.Answers.{Seen, next_answer}
+use Rattle.deb_syntax.specs.Fields.{Field}
 use Rattle.deb_field.specs.Values.{ValueMeaning}
 use Rattle.deb_control.specs.Calls.{IfCutOff, IfRefused, IfWriteFailed}
-use Rattle.deb_control.specs.Documents.{Meaning}
+use Rattle.deb_control.specs.Documents.{Meaning, Accepted}
 use Rattle.deb_control.specs.GivenParagraphs.{AreNext, bodies_seen}
 use Rattle.deb_control.specs.Pairs.{Pairwise}
 use Rattle.deb_control.specs.Paragraphs.{AreValuesOf}
@@ -29,23 +30,33 @@ abbrev pub lines_given : Asks → ℕ → List Seen → Meaning → List ℕ
 lines_given asks n (seen ∷ given) (values ∷ more) = lines_of asks (n + 1) seen.fields values ++ lines_given asks (n + 1) given more
 lines_given asks n given values = []
 
+-- and those of more paragraphs
+pub lines_given-append : (asks : Asks) (n : ℕ) (given : List Seen) (values : Meaning) (more : List Seen) (others : Meaning) → length values ≡ length given → lines_given asks n (given ++ more) (values ++ others) ≡ lines_given asks n given values ++ lines_given asks (n + length given) more others
+lines_given-append asks n [] [] more others same = ap (λ k. lines_given asks k more others) (omega arith)
+lines_given-append asks n [] (v ∷ values) more others same = absurd (omega (arith, same))
+lines_given-append asks n (first ∷ given) [] more others same = absurd (omega (arith, same))
+lines_given-append asks n (first ∷ given) (v ∷ values) more others same =
+    ap (λ l. lines_of asks (n + 1) first.fields v ++ l) (lines_given-append asks (n + 1) given values more others (omega (arith, same)))
+    ∙ sym (append_assoc (lines_of asks (n + 1) first.fields v) (lines_given asks (n + 1) given values) (lines_given asks (n + 1 + length given) more others))
+    ∙ ap (λ k. (lines_of asks (n + 1) first.fields v ++ lines_given asks (n + 1) given values) ++ lines_given asks k more others) (omega arith)
+
 lines_given-push : (asks : Asks) (n : ℕ) (given : List Seen) (values : Meaning) (seen : Seen) (more : ValueEntries ValueMeaning) → length values ≡ length given → lines_given asks n (given ++ seen ∷ []) (values ++ more ∷ []) ≡ lines_given asks n given values ++ lines_of asks (n + length given + 1) seen.fields more
-lines_given-push asks n [] [] seen more same = append-nil (lines_of asks (n + 1) seen.fields more) ∙ ap (λ k. lines_of asks (k + 1) seen.fields more) (omega arith)
-lines_given-push asks n [] (v ∷ values) seen more same = absurd (omega (arith, same))
-lines_given-push asks n (first ∷ given) [] seen more same = absurd (omega (arith, same))
-lines_given-push asks n (first ∷ given) (v ∷ values) seen more same =
-    ap (λ l. lines_of asks (n + 1) first.fields v ++ l) (lines_given-push asks (n + 1) given values seen more (omega (arith, same)))
-    ∙ sym (append_assoc (lines_of asks (n + 1) first.fields v) (lines_given asks (n + 1) given values) (lines_of asks (n + 1 + length given + 1) seen.fields more))
-    ∙ ap (λ k. (lines_of asks (n + 1) first.fields v ++ lines_given asks (n + 1) given values) ++ lines_of asks (k + 1) seen.fields more) (omega arith)
+lines_given-push asks n given values seen more same =
+    lines_given-append asks n given values (seen ∷ []) (more ∷ []) same
+    ∙ ap (λ l. lines_given asks n given values ++ l) (append-nil (lines_of asks (n + length given + 1) seen.fields more))
 
 -- they are those of the file
-given-lines : (asks : Asks) (text : List ℕ) (n : ℕ) (given : List Seen) (values : Meaning) → length values ≡ length given → AreNext text n given → lines_given asks n given values ≡ lines_from asks text n values
+pub given-lines : (asks : Asks) (text : List ℕ) (n : ℕ) (given : List Seen) (values : Meaning) → length values ≡ length given → AreNext text n given → lines_given asks n given values ≡ lines_from asks text n values
 given-lines asks text n [] [] same next = refl
 given-lines asks text n [] (v ∷ values) same next = absurd (omega (arith, same))
 given-lines asks text n (seen ∷ given) [] same next = refl
 given-lines asks text n (seen ∷ given) (v ∷ values) same next =
     ap (λ f. lines_of asks (n + 1) f v ++ lines_given asks (n + 1) given values) (sym (ap fields_of_seen next.0))
     ∙ ap (λ l. lines_of asks (n + 1) (fields_of_seen (next_answer text n)) v ++ l) (given-lines asks text (n + 1) given values (omega (arith, same)) next.1)
+
+-- what is put of a paragraph with this text of its version
+pub puts_lines : (asks : Asks) (number : ℕ) (fields : List Field) (values : ValueEntries ValueMeaning) (version : List ℕ) (r : Result Bool Fault) (held writes : Option (List ℕ)) → version ≡ version_word asks.versions fields values → PutsLines (paragraph_lines asks.asked asks.environment asks.packages number version values) r held writes → PutsLines (lines_of asks number fields values) r held writes
+puts_lines asks number fields values version r held writes is puts = subst (λ v. PutsLines (paragraph_lines asks.asked asks.environment asks.packages number v values) r held writes) is puts
 
 -- Exactly the lines of these paragraphs were written.
 pub record HasAsked (asks : Asks) (old new : Option (List ℕ)) (empty : Bool) (given : List Seen) : Type 0 where
@@ -102,26 +113,29 @@ module _ {asks : Asks} {old held : Option (List ℕ)} {empty : Bool} {given : Li
           (AppendsFront-then old held writes _ _ has.written put);
     }
 
-    pub failed_after : (text : List ℕ) (writes : Option (List ℕ)) (version : List ℕ) (fault : Fault) → version ≡ version_word asks.versions seen.fields values → PutsLines (paragraph_lines asks.asked asks.environment asks.packages (count + 1) version values) (Err fault) held writes → ShownFront (doc_of asks.asked) text (given ++ seen ∷ []) → IfWriteFailed {T = Summary} (Err fault) (WritesSome asks text old writes)
-    failed_after text writes version (Refused refusal) is puts shown = tt
-    failed_after text writes version Memory is puts shown = tt
-    failed_after text writes version Read is puts shown = tt
-    failed_after text writes version Write is puts shown = record {
+    pub failed_after : (text : List ℕ) (writes : Option (List ℕ)) (fault : Fault) → PutsLines (lines_of asks (count + 1) seen.fields values) (Err fault) held writes → ShownFront (doc_of asks.asked) text (given ++ seen ∷ []) → IfWriteFailed {T = Summary} (Err fault) (WritesSome asks text old writes)
+    failed_after text writes (Refused refusal) puts shown = tt
+    failed_after text writes Memory puts shown = tt
+    failed_after text writes Read puts shown = tt
+    failed_after text writes Write puts shown = record {
       first = map (bodies_seen (doc_of asks.asked)) (given ++ seen ∷ []);
       more = shown.more;
       passed = shown.passed;
-      lines = asked_front writes (subst (λ v. AppendsFront held writes (paragraph_lines asks.asked asks.environment asks.packages (count + 1) v values)) is puts) shown.next;
+      lines = asked_front writes puts shown.next;
     }
 
   -- there is no further paragraph
-  pub all_asked : (text : List ℕ) (count : ℕ) → length given ≡ count → ShownAll (doc_of asks.asked) text given → WritesUnmet asks text (record { paragraphs = count; is_empty = empty }) old held
-  all_asked text count counted shown = record {
+  pub all_given : (text : List ℕ) (count : ℕ) → length given ≡ count → AreNext text 0 given → ((meaning : Meaning) → Pairwise (AreValuesOf (doc_of asks.asked)) given meaning → Accepted (doc_of asks.asked) text meaning) → WritesUnmet asks text (record { paragraphs = count; is_empty = empty }) old held
+  all_given text count counted next accepted = record {
     meaning = has.values;
-    accepted = accepted-given (doc_of asks.asked) text given has.values shown has.are;
+    accepted = accepted has.values has.are;
     count = same_length ∙ counted;
-    written = subst (Appends old held) (given-lines asks text 0 given has.values same_length shown.next) has.written;
-    is_empty = has.is_empty ∙ ap is_nothing (given-lines asks text 0 given has.values same_length shown.next);
+    written = subst (Appends old held) (given-lines asks text 0 given has.values same_length next) has.written;
+    is_empty = has.is_empty ∙ ap is_nothing (given-lines asks text 0 given has.values same_length next);
   }
+
+  pub all_asked : (text : List ℕ) (count : ℕ) → length given ≡ count → ShownAll (doc_of asks.asked) text given → WritesUnmet asks text (record { paragraphs = count; is_empty = empty }) old held
+  all_asked text count counted shown = all_given text count counted shown.next (λ meaning are. accepted-given (doc_of asks.asked) text given meaning shown are)
 
   -- the file is refused after them
   pub asked_refused : (text : List ℕ) (fault : Fault) → IfRefused {T = Summary} (Err fault) (ShownRefused (doc_of asks.asked) text given) → IfRefused {T = Summary} (Err fault) (λ refusal. WritesRefused asks text refusal old held)

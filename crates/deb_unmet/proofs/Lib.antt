@@ -6,3 +6,5 @@ pub mod PlainGroups
 pub mod Decided
 pub mod ParagraphLines
 pub mod SpelledVersions
+pub mod KeptParagraphs
+pub mod OwnLines

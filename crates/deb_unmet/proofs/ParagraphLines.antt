@@ -1,19 +1,17 @@
--- The lines of a paragraph by the texts that are kept of it.
-use Rattle.std.proofs.Common.{◌≡◌, ℕ, ◌+◌, ◌<◌, List, [], ◌∷◌, ◌++◌, length, drop, get_or, cond, Option, None, Some, option_map, Bor, add-one, codes, sym, ap, ◌∙◌, append_assoc}
+-- The lines of a paragraph by the texts that they have of it.
+use Rattle.std.proofs.Common.{◌≡◌, ℕ, zero, suc, ◌+◌, ◌<◌, List, [], ◌∷◌, ◌++◌, length, drop, get_or, Option, Some, Bor, add-one, arith, codes, sym, ap, ◌∙◌, append_assoc, subst}
 use Rattle.std.proofs.Math.Seq.{drop-cons}
 use Rattle.std.specs.Fmt.{decimal}
 use Rattle.std.specs.List.{concat, flat_map}
+use Rattle.deb_base.specs.Kinds.{known_row}
 use Rattle.deb_base.specs.declared.doc.Doc.{Doc}
-use Rattle.deb_base.specs.declared.version_text.VersionText.{VersionText}
-use Rattle.deb_base.specs.declared.version_text.VersionText.TheVariants.{Canonical, Spelled}
 use Rattle.deb_relation.specs.Applying.{Environment}
 use Rattle.deb_relation.specs.Views.{names_of}
 use Rattle.deb_syntax.specs.Answers.{Seen}
-use Rattle.deb_syntax.specs.Fields.{Field}
 use Rattle.deb_field.specs.Values.{ValueMeaning}
 use Rattle.deb_control.specs.CheckedStates.{passing_judged}
-use Rattle.deb_control.specs.FieldTexts.{HasTexts, KeepsTexts, word_kept}
-use Rattle.deb_control.specs.FieldWords.{word_under}
+use Rattle.deb_control.specs.FieldTexts.{HasTexts, KeepsTexts, relation_at}
+use Rattle.deb_control.specs.FieldWords.{value_under, word_under}
 use Rattle.deb_control.specs.Paragraphs.{AreValuesOf}
 use Rattle.deb_control.specs.ValueFiles.{ValueEntries}
 use Rattle.deb_control.specs.Visiting.{VisitsValues}
@@ -22,10 +20,16 @@ use Rattle.deb_control.specs.declared.field_texts.FieldTexts.{FieldTexts}
 use Rattle.deb_control.proofs.KeptTexts.{has-texts}
 use Rattle.deb_control.proofs.PassingParagraphs.{values-passing}
 use Rattle.deb_index.specs.Listed.{Listed}
-use Rattle.deb_unmet.specs.Asked.{fields_asked, is_binary, name_field}
+use Rattle.deb_unmet.specs.Asked.{fields_asked, fields_with, name_field, rows_asked, rows_with}
 use Rattle.deb_unmet.specs.Fields.{fields_lines, own_environment, own_or, paragraph_lines}
-use Rattle.deb_unmet.specs.Paragraphs.{architecture_in, fields_in, heading_in, spelled_for, spelled_or, version_in}
+use Rattle.deb_unmet.specs.Paragraphs.{HasTextsOf, HaveRelations, IsRelationText, fields_in, heading_in}
 use Rattle.deb_unmet.specs.Spelled.{version_word}
+use Rattle.deb_unmet.specs.declared.asked.Asked.{Asked}
+use Rattle.deb_unmet.specs.declared.asked.Asked.TheVariants.{Packages, Binary, Sources, Source}
+use Rattle.deb_unmet.specs.declared.asked.Request.{Request}
+use Rattle.deb_unmet.specs.declared.asked.Strength.{Strength}
+use Rattle.deb_unmet.specs.declared.asked.Strength.TheVariants.{Depends, Recommends}
+use Rattle.deb_unmet.specs.declared.line_texts.LineTexts.{LineTexts}
 use Rattle.deb_unmet.specs.declared.paragraph.Paragraph.{Paragraph}
 
 -- the lines of one more field
@@ -37,41 +41,61 @@ lines-next line fields i d out now all within one before =
     ∙ ap (λ fs. out ++ flat_map line (names_of fs)) (sym (drop-cons fields i d within))
     ∙ before
 
--- those of all fields, with the heading of the texts, are those of the values
-pub lines-of_texts : (p : Paragraph) (values : ValueEntries ValueMeaning) (environment own : Environment) (packages : List Listed) (fields : List (List ℕ)) → HasTexts p.texts.now values → own ≡ own_or (own_environment p.asked environment (architecture_in p)) environment → fields ≡ fields_asked p.asked → fields_lines own packages (heading_in p) values fields ≡ paragraph_lines p.asked environment packages p.number (version_in p) values
-lines-of_texts p values environment own packages fields has is_own are =
+-- the text of the relation in the field at an index
+pub relation-at : (fields texts : List (List ℕ)) (values : ValueEntries ValueMeaning) (i : ℕ) → i < length fields → HaveRelations fields texts values → IsRelationText (get_or texts i []) (value_under (get_or fields i []) values)
+relation-at [] texts values i within have = absurd (omega (arith, within))
+relation-at (field ∷ fields) [] values i within have = absurd have
+relation-at (field ∷ fields) (text ∷ texts) values zero within have = have.0
+relation-at (field ∷ fields) (text ∷ texts) values (suc i) within have = relation-at fields texts values i (omega (arith, within)) have.1
+
+-- the lines of all fields, with the heading of the texts, are those of the values
+pub lines-of_texts : (p : Paragraph) (values : ValueEntries ValueMeaning) (environment own : Environment) (packages : List Listed) → HasTextsOf p.asked p.texts.now values → own ≡ own_or (own_environment p.asked environment p.texts.now.architecture.now) environment → fields_lines own packages (heading_in p) values (fields_asked p.asked) ≡ paragraph_lines p.asked environment packages p.number p.texts.now.version.now values
+lines-of_texts p values environment own packages has is_own =
     let lines : List ℕ → List ℕ → List ℕ = λ name architecture.
     fields_lines (own_or (own_environment p.asked environment architecture) environment) packages
-    (concat (codes " " ∷ decimal p.number ∷ codes " " ∷ name ∷ codes " " ∷ version_in p ∷ codes " " ∷ architecture ∷ codes " " ∷ [])) values (fields_asked p.asked)
+    (concat (codes " " ∷ decimal p.number ∷ codes " " ∷ name ∷ codes " " ∷ p.texts.now.version.now ∷ codes " " ∷ architecture ∷ codes " " ∷ [])) values (fields_asked p.asked)
     in
-    ap (λ e. fields_lines e packages (heading_in p) values fields) is_own
-    ∙ ap (fields_lines (own_or (own_environment p.asked environment (architecture_in p)) environment) packages (heading_in p) values) are
-    ∙ ap (λ name. lines name (architecture_in p)) (has.word (name_field p.asked))
-    ∙ ap (λ word. lines (word_under (name_field p.asked) values) (cond (is_binary p.asked) word (codes "source"))) (has.word (codes "Architecture"))
+    ap (λ e. fields_lines e packages (heading_in p) values (fields_asked p.asked)) is_own
+    ∙ ap (λ name. lines name p.texts.now.architecture.now) has.name
+    ∙ ap (lines (word_under (name_field p.asked) values)) has.architecture
 
--- the text of the version that is chosen
-version-chosen : (versions : VersionText) (spelled : Option (Bor (List ℕ))) (fields : List Field) (word : List ℕ) (values : ValueEntries ValueMeaning) → word ≡ word_under (codes "Version") values → option_map (λ text. text.now) spelled ≡ spelled_for versions fields → spelled_or spelled word ≡ version_word versions fields values
-version-chosen Canonical None fields word values is said = is
-version-chosen Canonical (Some text) fields word values is said = absurd cc
-version-chosen Spelled None fields word values is said = absurd cc
-version-chosen Spelled (Some text) fields word values is said = cc
+-- the texts of relations in the rows of the fields that are asked
+module _ (texts : FieldTexts) (values : ValueEntries ValueMeaning) (has : HasTexts texts values) where
+  text-has : (name : List ℕ) → IsRelationText (relation_at texts (known_row name)) (value_under name values)
+  text-has name = record { is = has.relation name; regular = has.regular name }
 
--- what is known of the paragraph that was given last: its values, that the texts are theirs, and which version was chosen
-pub record GivenTexts (versions : VersionText) (spelled : Option (Bor (List ℕ))) (texts : FieldTexts) (doc : Doc) (given : Seen) : Type 0 where
+  abbrev in_rows : List ℕ → List (List ℕ)
+  in_rows rows = relation_at texts (get_or rows 0 0) ∷ relation_at texts (get_or rows 1 0) ∷ relation_at texts (get_or rows 2 0) ∷ []
+
+  with-have : (strength : Strength) → HaveRelations (fields_with strength) (in_rows (rows_with strength)) values
+  with-have Depends = (text-has (codes "Pre-Depends"), (text-has (codes "Depends"), tt))
+  with-have Recommends = (text-has (codes "Pre-Depends"), (text-has (codes "Depends"), (text-has (codes "Recommends"), tt)))
+
+  asked-have : (asked : Asked) → HaveRelations (fields_asked asked) (in_rows (rows_asked asked)) values
+  asked-have (Packages strength) = with-have strength
+  asked-have (Binary strength) = with-have strength
+  asked-have Sources = (text-has (codes "Build-Depends"), (text-has (codes "Build-Depends-Arch"), (text-has (codes "Build-Depends-Indep"), tt)))
+  asked-have Source = (text-has (codes "Build-Depends"), (text-has (codes "Build-Depends-Arch"), (text-has (codes "Build-Depends-Indep"), tt)))
+
+  pub relations-have : (asked : Asked) (rows : List ℕ) (relations : List (List ℕ)) → rows ≡ rows_asked asked → relations ≡ in_rows rows → HaveRelations (fields_asked asked) relations values
+  relations-have asked rows relations are is = rw (is, are) (asked-have asked)
+
+-- what is known of the paragraph that was given last: its values, that the texts are theirs, and of which version
+pub record GivenTexts (request : Request) (texts : LineTexts) (doc : Doc) (given : Seen) : Type 0 where
   pub values : ValueEntries ValueMeaning
   pub are : AreValuesOf doc given values
-  pub has : HasTexts texts values
-  pub version : spelled_or spelled (word_kept texts (codes "Version")) ≡ version_word versions given.fields values
+  pub has : HasTextsOf request.asked texts values
+  pub version : texts.version.now ≡ version_word request.versions given.fields values
 
-pub given_texts : (versions : VersionText) (spelled : Option (Bor (List ℕ))) (texts : FieldTexts) (doc : Doc) (given : Seen) (view : CheckedView) (current : Option Seen) → Some (passing_judged view).seen ≡ current → current ≡ Some given → option_map (λ text. text.now) spelled ≡ spelled_for versions (fields_in view) → VisitsValues KeepsTexts texts doc given → GivenTexts versions spelled texts doc given
-given_texts versions spelled texts doc given view current seen is said visits =
+pub given_texts : (request : Request) (texts : LineTexts) (kept : FieldTexts) (doc : Doc) (given : Seen) (view : CheckedView) (current : Option Seen) → Some (passing_judged view).seen ≡ current → current ≡ Some given → ((values : ValueEntries ValueMeaning) → HasTexts kept values → HasTextsOf request.asked texts values) → ((values : ValueEntries ValueMeaning) → HasTexts kept values → texts.version.now ≡ version_word request.versions (fields_in view) values) → VisitsValues KeepsTexts kept doc given → GivenTexts request texts doc given
+given_texts request texts kept doc given view current seen is of_values version visits =
     let found = values-passing doc given visits.passes in
-    let has = has-texts texts doc given visits found.0 found.1 in
+    let has = has-texts kept doc given visits found.0 found.1 in
     let some : Some (passing_judged view).seen ≡ Some given = seen ∙ is in
     let same : (passing_judged view).seen ≡ given = cc in
     record {
       values = found.0;
       are = found.1;
-      has = has;
-      version = version-chosen versions spelled given.fields (word_kept texts (codes "Version")) found.0 (has.word (codes "Version")) (said ∙ ap (λ s. spelled_for versions s.fields) same);
+      has = of_values found.0 has;
+      version = version found.0 has ∙ ap (λ s. version_word request.versions s.fields found.0) same;
     }

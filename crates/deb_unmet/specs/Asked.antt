@@ -1,5 +1,6 @@
 -- Which relations of which kind of file are asked. Debian Policy 5.3, 5.4, 7.2 and 7.7.
-use Rattle.std.specs.Prelude.{◌≡◌, ℕ, Bool, true, false, List, [], ◌∷◌, map, codes, refl}
+use Rattle.std.specs.Prelude.{◌≡◌, ℕ, Bool, true, false, List, [], ◌∷◌, ◌++◌, map, codes, refl}
+use Rattle.deb_base.specs.Kinds.{known_row}
 use Rattle.deb_base.specs.declared.doc.Doc.{Doc}
 use Rattle.deb_base.specs.declared.doc.Doc.TheVariants as docs
 use Rattle.deb_base.specs.declared.version_text.VersionText.{VersionText}
@@ -34,6 +35,17 @@ fields_asked (Packages strength) = fields_with strength
 fields_asked (Binary strength) = fields_with strength
 fields_asked Sources = build_fields
 fields_asked Source = build_fields
+
+-- the rows of these fields in the table of fields; one that it doesn't have if there are only two
+abbrev pub rows_with : Strength → List ℕ
+rows_with Depends = map known_row (fields_with Depends) ++ 54 ∷ []
+rows_with Recommends = map known_row (fields_with Recommends)
+
+abbrev pub rows_asked : Asked → List ℕ
+rows_asked (Packages strength) = rows_with strength
+rows_asked (Binary strength) = rows_with strength
+rows_asked Sources = map known_row build_fields
+rows_asked Source = map known_row build_fields
 
 -- its paragraphs are binary packages
 abbrev pub is_binary : Asked → Bool
@@ -70,6 +82,12 @@ to_build = codes "Build-Depends" ∷ codes "Build-Depends-Arch" ∷ codes "Build
 worked-fields : map fields_asked all_asked
     ≡ strong ∷ with_recommends ∷ strong ∷ with_recommends ∷ to_build ∷ to_build ∷ []
 worked-fields = refl
+
+worked-rows : map rows_asked all_asked
+    ≡ (33 ∷ 15 ∷ 54 ∷ []) ∷ (33 ∷ 15 ∷ 37 ∷ []) ∷ (33 ∷ 15 ∷ 54 ∷ []) ∷ (33 ∷ 15 ∷ 37 ∷ [])
+    ∷ (7 ∷ 8 ∷ 9 ∷ []) ∷ (7 ∷ 8 ∷ 9 ∷ []) ∷ []
+unfolding known_row
+worked-rows = refl
 
 worked-packages : (map is_binary all_asked ≡ true ∷ true ∷ true ∷ true ∷ false ∷ false ∷ [])
     × (map name_field all_asked

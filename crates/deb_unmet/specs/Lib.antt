@@ -8,6 +8,7 @@ pub mod Fields
 pub mod Spelled
 pub mod Paragraphs
 pub mod Files
+pub mod KeptParagraphs
 pub mod Asking
 pub mod Own
 pub mod Laws

@@ -1,69 +1,92 @@
--- A paragraph that passes: its fields as they are in the file, and what its lines begin with.
--- Debian Policy 5.1; the form of the lines is this project's own.
-use Rattle.std.specs.Prelude.{◌≡◌, List, [], ◌∷◌, ◌++◌, ℕ, cond, Option, Some, None, codes, refl}
+-- A paragraph that passes: its fields as they are in the file, the texts that its lines have of it,
+-- and what they begin with. Debian Policy 5.1; the form of the lines is this project's own.
+use Rattle.std.specs.Prelude.{◌≡◌, List, [], ◌∷◌, ℕ, Option, codes, refl}
 use Rattle.std.specs.Borrow.{Bor}
 use Rattle.std.specs.Fmt.{decimal, digits}
 use Rattle.std.specs.List.{concat}
-use Rattle.deb_base.specs.declared.version_text.VersionText.{VersionText}
-use Rattle.deb_base.specs.declared.version_text.VersionText.TheVariants.{Canonical, Spelled}
+use Rattle.deb_relation.specs.Regular.{IsRegularRelation}
+use Rattle.deb_relation.specs.Texts.{group_text, relation_text}
+use Rattle.deb_relation.specs.Views.{names_of}
 use Rattle.deb_syntax.specs.Fields.{Field}
+use Rattle.deb_field.specs.Values.{ValueMeaning, RelationMeans}
 use Rattle.deb_control.specs.CheckedStates.{passing_judged}
-use Rattle.deb_control.specs.FieldTexts.{word_kept}
+use Rattle.deb_control.specs.FieldWords.{groups_of, value_under, word_under}
+use Rattle.deb_control.specs.ValueFiles.{ValueEntries}
 use Rattle.deb_control.specs.declared.checked_view.CheckedView.{CheckedView}
-use Rattle.deb_unmet.specs.Asked.{is_binary, name_field}
-use Rattle.deb_unmet.specs.Spelled.{spelled_in}
+use Rattle.deb_index.specs.Alternatives.{alone}
+use Rattle.deb_unmet.specs.Asked.{fields_asked, name_field}
+use Rattle.deb_unmet.specs.Fields.{architecture_of}
+use Rattle.deb_unmet.specs.declared.asked.Asked.{Asked}
 use Rattle.deb_unmet.specs.declared.asked.Asked.TheVariants.{Source}
+use Rattle.deb_unmet.specs.declared.line_texts.LineTexts.{LineTexts}
 use Rattle.deb_unmet.specs.declared.paragraph.Paragraph.{Paragraph}
 
 -- its fields as they are in the file
 abbrev pub fields_in : CheckedView → List Field
 fields_in paragraph = (passing_judged paragraph).seen.fields
 
--- the text by which the file spells the version, if the lines have that
-abbrev pub spelled_for : VersionText → List Field → Option (List ℕ)
-spelled_for Canonical fields = None
-spelled_for Spelled fields = Some (spelled_in fields)
+-- The text is the canonical one of the relation, or empty if there is none.
+pub record IsRelationText (text : List ℕ) (value : Option ValueMeaning) : Type 0 where
+  pub is : text ≡ relation_text (groups_of value)
+  pub regular : IsRegularRelation (groups_of value)
 
--- that text, or else the canonical one
-abbrev pub spelled_or : Option (Bor (List ℕ)) → List ℕ → List ℕ
-spelled_or None word = word
-spelled_or (Some text) word = text.now
+-- The first of these texts are those of the relations in fields.
+abbrev pub HaveRelations : List (List ℕ) → List (List ℕ) → ValueEntries ValueMeaning → Type 0
+HaveRelations [] texts values = Unit {0}
+HaveRelations (field ∷ fields) [] values = ⊥
+HaveRelations (field ∷ fields) (text ∷ texts) values =
+    IsRelationText text (value_under field values) × HaveRelations fields texts values
 
-abbrev pub version_in : Paragraph → List ℕ
-version_in p = spelled_or p.spelled (word_kept p.texts.now (codes "Version"))
-
--- the architecture of a binary package, and `source` for a source package
-abbrev pub architecture_in : Paragraph → List ℕ
-architecture_in p =
-    cond (is_binary p.asked) (word_kept p.texts.now (codes "Architecture")) (codes "source")
+-- These are texts of a paragraph with these values; the version may be spelled in any way.
+pub record HasTextsOf (asked : Asked) (texts : LineTexts) (values : ValueEntries ValueMeaning) :
+    Type 0 where
+  pub name : texts.name.now ≡ word_under (name_field asked) values
+  pub architecture : texts.architecture.now ≡ architecture_of asked values
+  pub relations : HaveRelations (fields_asked asked) (names_of texts.relations) values
 
 -- ` NUMBER PACKAGE VERSION ARCHITECTURE `
 abbrev pub heading_in : Paragraph → List ℕ
 heading_in p =
-    concat (codes " " ∷ decimal p.number ∷ codes " " ∷ word_kept p.texts.now (name_field p.asked)
-    ∷ codes " " ∷ version_in p ∷ codes " " ∷ architecture_in p ∷ codes " " ∷ [])
+    concat (codes " " ∷ decimal p.number ∷ codes " " ∷ p.texts.now.name.now ∷ codes " "
+    ∷ p.texts.now.version.now ∷ codes " " ∷ p.texts.now.architecture.now ∷ codes " " ∷ [])
 
 -- those of the paragraph that passes
 worked-fields : (paragraph : CheckedView)
     → fields_in paragraph ≡ (passing_judged paragraph).seen.fields
 worked-fields paragraph = refl
 
-abbrev to : List ℕ → Bor (List ℕ)
-to text = record { ref_ptr = (0, 0); now = text }
+abbrev two : ValueEntries ValueMeaning
+two =
+    (codes "Depends", RelationMeans ((alone (codes "aa") ∷ []) ∷ (alone (codes "bb") ∷ []) ∷ []))
+    ∷ []
 
-abbrev one : List Field
-one = record { name = codes "version"; line = 2; body = codes "1.0-0" } ∷ []
+-- there is no Pre-Depends, and of the last text nothing is said
+worked-relations : IsRegularRelation (groups_of (value_under (codes "depends") two))
+    → HaveRelations (codes "Pre-Depends" ∷ codes "Depends" ∷ [])
+    ([] ∷ codes "aa, bb" ∷ codes "cc" ∷ []) two
+unfolding group_text
+worked-relations regular = (
+  record { is = refl; regular = record { groups = tt; ascend = tt } },
+  (record { is = refl; regular = regular }, tt),
+)
 
-worked-spelled : (spelled_for Canonical one ≡ None)
-    × (spelled_for Spelled one ≡ Some (codes "1.0-0"))
-    × (spelled_for Spelled [] ≡ Some [])
-    × (spelled_or None (codes "1.0") ≡ codes "1.0")
-    × (spelled_or (Some (to (codes "1.0-0"))) (codes "1.0") ≡ codes "1.0-0")
-worked-spelled = (refl, refl, refl, refl, refl)
+abbrev to : {T : Type 0} → T → Bor T
+to value = record { ref_ptr = (0, 0); now = value }
 
-worked-heading : (p : Paragraph)
-    → heading_in
-    (record p { asked = Source; number = 7; spelled = Some (to (codes "1.0-0")) })
-    ≡ codes " 7 " ++ (word_kept p.texts.now (codes "Source") ++ codes " 1.0-0 source ")
+abbrev paragraph : Paragraph
+paragraph = record {
+  asked = Source;
+  number = 7;
+  texts =
+      to
+      (record {
+        name = to (codes "xx");
+        version = to (codes "1.0-0");
+        architecture = to (codes "source");
+        relations = to [] ∷ to [] ∷ to [] ∷ [];
+      });
+}
+
+worked-heading : heading_in paragraph ≡ codes " 7 xx 1.0-0 source "
 unfolding digits
-worked-heading p = refl
+worked-heading = refl

@@ -2,9 +2,10 @@
 
 ghost use Rattle.std.specs.Prelude.{◌≡◌};
 ghost use Rattle.deb_relation.specs.Views.{names_of};
-ghost use Rattle.deb_unmet.specs.Asked.{doc_of, fields_asked, fields_with, is_binary, name_field};
+ghost use Rattle.deb_base.specs.Kinds.{known_row};
+ghost use Rattle.deb_unmet.specs.Asked.{doc_of, fields_asked, fields_with, is_binary, name_field, rows_asked, rows_with};
 
-use deb_base::VersionText;
+use deb_base::{KNOWN_FIELDS, VersionText};
 use deb_field::Doc;
 
 /// The kind of a file, and which of its relations are asked.
@@ -72,20 +73,50 @@ impl Asked {
         }
     }
 
-    /// Returns the name of the field that names the package.
-    pub(crate) fn name_field(self) -> &'static [u8]
-        ensures { result.now ≡ name_field self }
+    /// Returns the rows of the fields that are asked, in the table of fields; one that it doesn't
+    /// have if only two are asked.
+    #[tactic(auto, unfolding(deb_base::specs::Kinds::known_row))]
+    pub(crate) fn rows(self) -> [usize; 3]
+        ensures { result ≡ rows_asked self }
     {
         match self {
-            Asked::Packages(_) | Asked::Binary(_) | Asked::Sources => b"Package",
-            Asked::Source => b"Source",
+            Asked::Packages(strength) | Asked::Binary(strength) => rows_with(strength),
+            Asked::Sources | Asked::Source => BUILD_ROWS,
+        }
+    }
+
+    /// Returns the row of the field that names the package, in the table of fields.
+    #[tactic(auto, unfolding(deb_base::specs::Kinds::known_row))]
+    pub(crate) fn name_row(self) -> usize
+        ensures { result ≡ known_row (name_field self) }
+    {
+        match self {
+            Asked::Packages(_) | Asked::Binary(_) | Asked::Sources => PACKAGE,
+            Asked::Source => SOURCE,
         }
     }
 }
 
-const DEPENDS: &'static [&'static [u8]] = &[b"Pre-Depends", b"Depends"];
+// The rows of fields in the table of fields.
+pub(crate) const ARCHITECTURE: usize = 0;
 
-const RECOMMENDS: &'static [&'static [u8]] = &[b"Pre-Depends", b"Depends", b"Recommends"];
+pub(crate) const DEPENDS: usize = 15;
+
+pub(crate) const PACKAGE: usize = 31;
+
+pub(crate) const PRE_DEPENDS: usize = 33;
+
+pub(crate) const RECOMMENDS: usize = 37;
+
+const SOURCE: usize = 44;
+
+pub(crate) const VERSION: usize = 53;
+
+const BUILD_ROWS: [usize; 3] = [7, 8, 9];
+
+const STRONG: &'static [&'static [u8]] = &[b"Pre-Depends", b"Depends"];
+
+const WITH_RECOMMENDS: &'static [&'static [u8]] = &[b"Pre-Depends", b"Depends", b"Recommends"];
 
 const BUILD: &'static [&'static [u8]] = &[
     b"Build-Depends",
@@ -97,7 +128,17 @@ fn fields_with(strength: Strength) -> &'static [&'static [u8]]
     ensures { names_of result.now ≡ fields_with strength }
 {
     match strength {
-        Strength::Depends => DEPENDS,
-        Strength::Recommends => RECOMMENDS,
+        Strength::Depends => STRONG,
+        Strength::Recommends => WITH_RECOMMENDS,
+    }
+}
+
+#[tactic(auto, unfolding(deb_base::specs::Kinds::known_row))]
+fn rows_with(strength: Strength) -> [usize; 3]
+    ensures { result ≡ rows_with strength }
+{
+    match strength {
+        Strength::Depends => [PRE_DEPENDS, DEPENDS, KNOWN_FIELDS],
+        Strength::Recommends => [PRE_DEPENDS, DEPENDS, RECOMMENDS],
     }
 }

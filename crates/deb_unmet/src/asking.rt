@@ -1,13 +1,11 @@
 //! Writes the lines of a file.
 
 ghost use Rattle.std.specs.Prelude.{◌≡◌, ℕ, List, Some, IfOk};
-ghost use Rattle.std.specs.Option.{option_map};
 ghost use Rattle.deb_base.specs.Bodies.{file_limit};
 ghost use Rattle.deb_base.specs.Devices.{read_failures_after, write_failures_after, ReadFaultIffFailed, WriteFaultIffFailed};
 ghost use Rattle.deb_base.specs.Reading.{TakesNoMore};
 ghost use Rattle.deb_control.specs.Calls.{IfRefused, IfCutOff, IfWriteFailed};
 ghost use Rattle.deb_control.specs.Checking.{IsRefusalOfDocument};
-ghost use Rattle.deb_control.specs.FieldTexts.{HasTexts};
 ghost use Rattle.deb_control.specs.ValueFiles.{ValueEntries};
 ghost use Rattle.deb_field.specs.Values.{ValueMeaning};
 ghost use Rattle.deb_relation.specs.Environments.{environment_of};
@@ -15,14 +13,15 @@ ghost use Rattle.deb_index.specs.Indexes.{packages_of};
 ghost use Rattle.deb_unmet.specs.Asking.{IsWritersFault, PutsLines, asks_of};
 ghost use Rattle.deb_unmet.specs.Fields.{paragraph_lines};
 ghost use Rattle.deb_unmet.specs.Files.{WritesRead, WritesRefused, WritesSome, WritesUnmet};
-ghost use Rattle.deb_unmet.specs.Paragraphs.{fields_in, spelled_for, version_in};
+ghost use Rattle.deb_unmet.specs.Paragraphs.{HasTextsOf};
 
 use crate::asked::Request;
 use crate::group::Question;
+use crate::line_texts::LineTexts;
 use crate::lines::append_lines;
 use crate::paragraph::Paragraph;
-use deb_base::{Fault, Sink, Source, VersionText, put_all};
-use deb_control::{Checked, CheckedView, FieldTexts};
+use deb_base::{Fault, Sink, Source, put_all};
+use deb_control::{Checked, FieldTexts};
 use deb_index::Index;
 use deb_relation::Env;
 use std::alloc::Global;
@@ -113,8 +112,7 @@ pub fn unmet<R: Source, W: Sink>(
         let paragraph = Paragraph {
             asked: request.asked,
             number: count + 1,
-            spelled: spelled_for(request.versions, &view),
-            texts: &texts,
+            texts: &LineTexts::of(request, &view, &texts),
         };
         let is_met = write_paragraph(alloc, &question, &paragraph, writer)?;
         is_empty = is_empty && is_met;
@@ -123,35 +121,22 @@ pub fn unmet<R: Source, W: Sink>(
     unreachable!()
 }
 
-/// Returns the text by which the file spells the version of a paragraph, if its lines have that.
-fn spelled_for<'a>(versions: VersionText, paragraph: &CheckedView<'a>) -> Option<&'a [u8]>
-    ensures { option_map (λ text. text.now) result
-        ≡ spelled_for versions (fields_in paragraph.now) }
-{
-    match versions {
-        VersionText::Canonical => None,
-        VersionText::Spelled => match paragraph.get(b"Version") {
-            Some(field) => Some(field.body),
-            None => Some(b""),
-        },
-    }
-}
-
 /// Writes the lines of a paragraph, and returns whether there is none.
 ///
 /// # Errors
 ///
 /// Out of memory: nothing was written; or `Fault::Write`: a prefix was.
-fn write_paragraph<W: Sink>(
+pub(crate) fn write_paragraph<W: Sink>(
     alloc: Global,
     question: &Question<'_>,
     paragraph: &Paragraph<'_>,
     writer: &mut W,
 ) -> Result<bool, Fault>
-    ensures puts { (values : ValueEntries ValueMeaning) → HasTexts paragraph.now.texts.now values
+    ensures puts { (values : ValueEntries ValueMeaning)
+        → HasTextsOf paragraph.now.asked paragraph.now.texts.now values
         → PutsLines (paragraph_lines paragraph.now.asked
         (environment_of question.now.environment.now) (packages_of question.now.index.now)
-        paragraph.now.number (version_in paragraph.now) values) result (W.held writer.old)
+        paragraph.now.number paragraph.now.texts.now.version.now values) result (W.held writer.old)
         (W.held writer.new) }
     ensures counts_failure { W.failures writer.new ≡ write_failures_after
         (W.failures writer.old) result }

@@ -2,19 +2,17 @@
 
 ghost use Rattle.std.specs.Prelude.{◌≡◌, ◌++◌, IfOk, OnOk};
 ghost use Rattle.std.specs.Option.{option_map};
-ghost use Rattle.deb_control.specs.FieldTexts.{HasTexts};
 ghost use Rattle.deb_control.specs.ValueFiles.{ValueEntries};
 ghost use Rattle.deb_field.specs.Values.{ValueMeaning};
 ghost use Rattle.deb_relation.specs.Environments.{environment_of};
-ghost use Rattle.deb_relation.specs.Views.{names_of};
 ghost use Rattle.deb_index.specs.Indexes.{packages_of};
+ghost use Rattle.deb_unmet.specs.Asked.{fields_asked};
 ghost use Rattle.deb_unmet.specs.Fields.{fields_lines, own_environment, own_or, paragraph_lines};
-ghost use Rattle.deb_unmet.specs.Paragraphs.{heading_in, version_in};
+ghost use Rattle.deb_unmet.specs.Paragraphs.{HasTextsOf, heading_in};
 
 use crate::asked::Asked;
 use crate::group::{Question, append_groups};
 use crate::paragraph::Paragraph;
-use deb_base::FieldId;
 use deb_relation::{Env, EnvFault};
 use std::alloc::{AllocError, Global};
 
@@ -25,28 +23,23 @@ pub(crate) fn append_lines(
     question: &Question<'_>,
     paragraph: &Paragraph<'_>,
 ) -> Result<(), AllocError>
-    ensures { (values : ValueEntries ValueMeaning) → HasTexts paragraph.now.texts.now values
+    ensures { (values : ValueEntries ValueMeaning)
+        → HasTextsOf paragraph.now.asked paragraph.now.texts.now values
         → OnOk result (out.new.items ≡ out.old.items ++ paragraph_lines paragraph.now.asked
         (environment_of question.now.environment.now) (packages_of question.now.index.now)
-        paragraph.now.number (version_in paragraph.now) values) }
+        paragraph.now.number paragraph.now.texts.now.version.now values) }
 {
     let own = own_environment(
         alloc,
         paragraph.asked,
         question.environment,
-        paragraph.architecture(),
+        paragraph.texts.architecture,
     )?;
     let own_question = Question {
         index: question.index,
         environment: own_or(own.as_ref(), question.environment),
     };
-    append_fields(
-        alloc,
-        out,
-        &own_question,
-        paragraph,
-        paragraph.asked.fields(),
-    )
+    append_fields(alloc, out, &own_question, paragraph)
 }
 
 /// Returns the own environment, if there is one, and else the other.
@@ -78,22 +71,23 @@ fn own_environment(
     }
 }
 
-/// Appends the lines of fields.
+/// Appends the lines of the fields that are asked.
 fn append_fields(
     alloc: Global,
     out: &mut Vec<u8>,
     question: &Question<'_>,
     paragraph: &Paragraph<'_>,
-    fields: &[&[u8]],
 ) -> Result<(), AllocError>
-    ensures { (values : ValueEntries ValueMeaning) → HasTexts paragraph.now.texts.now values
+    ensures { (values : ValueEntries ValueMeaning)
+        → HasTextsOf paragraph.now.asked paragraph.now.texts.now values
         → OnOk result (out.new.items ≡ out.old.items ++ fields_lines
         (environment_of question.now.environment.now) (packages_of question.now.index.now)
-        (heading_in paragraph.now) values (names_of fields.now)) }
+        (heading_in paragraph.now) values (fields_asked paragraph.now.asked)) }
 {
-    for field in fields {
-        let text = paragraph.texts.relation(FieldId::of(field).row());
-        append_groups(alloc, out, question, paragraph, field, text)?;
+    let fields = paragraph.asked.fields();
+    for row in 0..fields.len() {
+        let text = paragraph.texts.relation(row);
+        append_groups(alloc, out, question, paragraph, fields[row], text)?;
     }
     Ok(())
 }

@@ -8,12 +8,21 @@ ghost use Rattle.deb_control.specs.Calls.{IfRefused};
 ghost use Rattle.deb_control.specs.Checking.{IsRefusalOfDocument};
 ghost use Rattle.deb_control.specs.Documents.{refusal_of};
 ghost use Rattle.deb_relation.specs.Environments.{environment_of};
+ghost use Rattle.deb_index.specs.Indexes.{packages_of};
+ghost use Rattle.deb_index.specs.Keeping.{KeepsAll};
+ghost use Rattle.deb_index.specs.Listing.{ListsAll};
+ghost use Rattle.deb_unmet.specs.Asking.{IsWritersFault};
+ghost use Rattle.deb_unmet.specs.KeptParagraphs.{AreKept};
 ghost use Rattle.deb_unmet.specs.Own.{StopsOwn, WritesOwn};
 
-use crate::asked::Strength;
-use crate::asking::Summary;
+use crate::asked::{Asked, Strength};
+use crate::asking::{Summary, write_paragraph};
+use crate::group::Question;
+use crate::kept::{KeptParagraph, KeptParagraphs};
+use crate::paragraph::Paragraph;
 use deb_base::{Fault, Sink, Source, VersionText};
 use deb_field::Doc;
+use deb_index::Index;
 use deb_relation::Env;
 use std::alloc::Global;
 
@@ -65,5 +74,60 @@ pub fn unmet_in_itself<R: Source, W: Sink>(
     ensures fault_iff_write_failed { WriteFaultIffFailed (W.failures writer.old)
         (W.failures writer.new) result }
 {
-    Err(Fault::Memory)
+    let mut kept = KeptParagraphs::new(alloc);
+    let index = Index::read_with(alloc, reader, &mut kept)?;
+    let question = Question {
+        index: &index,
+        environment,
+    };
+    let summary = write_kept(
+        alloc,
+        &question,
+        strength,
+        versions,
+        &kept.paragraphs,
+        writer,
+    )?;
+    Ok(summary)
+}
+
+/// Writes the lines of the paragraphs of an index that are kept, over its own packages.
+///
+/// # Errors
+///
+/// Out of memory, or `Fault::Write`: a prefix of the lines was written.
+fn write_kept<W: Sink>(
+    alloc: Global,
+    question: &Question<'_>,
+    strength: Strength,
+    versions: VersionText,
+    kept: &[KeptParagraph],
+    writer: &mut W,
+) -> Result<Summary, Fault>
+    ensures ok { (text : List ℕ) → ListsAll text (packages_of question.now.index.now)
+        → KeepsAll (AreKept kept.now) text → IfOk result (λ summary. WritesOwn strength versions
+        (environment_of question.now.environment.now) text summary (W.held writer.old)
+        (W.held writer.new)) }
+    ensures stopped { (text : List ℕ) → ListsAll text (packages_of question.now.index.now)
+        → KeepsAll (AreKept kept.now) text → IfErr result (λ _. StopsOwn strength versions
+        (environment_of question.now.environment.now) text (W.held writer.old)
+        (W.held writer.new)) }
+    ensures counts_failure { W.failures writer.new ≡ write_failures_after
+        (W.failures writer.old) result }
+    ensures fault { IsWritersFault result }
+{
+    let mut is_empty = true;
+    for count in 0..kept.len() {
+        let paragraph = Paragraph {
+            asked: Asked::Packages(strength),
+            number: count as u64 + 1,
+            texts: &kept[count].line_texts(versions),
+        };
+        let is_met = write_paragraph(alloc, question, &paragraph, writer)?;
+        is_empty = is_empty && is_met;
+    }
+    Ok(Summary {
+        paragraphs: kept.len() as u64,
+        is_empty,
+    })
 }

@@ -1,23 +1,19 @@
 //! A paragraph as its lines name it.
 
 ghost use Rattle.std.specs.Prelude.{◌≡◌, ◌++◌, ◌∷◌, OnOk};
-ghost use Rattle.deb_control.specs.FieldTexts.{word_kept};
-ghost use Rattle.deb_unmet.specs.Paragraphs.{architecture_in, heading_in, version_in};
+ghost use Rattle.deb_unmet.specs.Paragraphs.{heading_in};
 
 use crate::asked::Asked;
-use deb_base::FieldId;
-use deb_control::FieldTexts;
+use crate::line_texts::LineTexts;
 use itoa::Buffer;
 use std::alloc::AllocError;
 
-/// A paragraph: what its file is asked, its number there, the text by which the file spells its
-/// version if the lines have that, and its words and relations.
+/// A paragraph: what its file is asked, its number there, and the texts that its lines have of it.
 #[derive(Clone, Copy)]
 pub(crate) struct Paragraph<'a> {
     pub(crate) asked: Asked,
     pub(crate) number: u64,
-    pub(crate) spelled: Option<&'a [u8]>,
-    pub(crate) texts: &'a FieldTexts,
+    pub(crate) texts: &'a LineTexts<'a>,
 }
 
 impl Paragraph<'_> {
@@ -27,38 +23,11 @@ impl Paragraph<'_> {
     {
         let mut buffer = Buffer::new();
         append_spaced(out, buffer.format(self.number).as_bytes())?;
-        append_spaced(out, self.word(self.asked.name_field()))?;
-        append_spaced(out, self.version())?;
-        append_spaced(out, self.architecture())?;
+        append_spaced(out, self.texts.name)?;
+        append_spaced(out, self.texts.version)?;
+        append_spaced(out, self.texts.architecture)?;
         out.push(b' ')?;
         Ok(())
-    }
-
-    /// Returns the text of the version that the lines have.
-    fn version(&self) -> &[u8]
-        ensures { result.now ≡ version_in self.now }
-    {
-        match self.spelled {
-            Some(spelled) => spelled,
-            None => self.word(b"Version"),
-        }
-    }
-
-    /// Returns the architecture of a binary package, and `source` for a source package.
-    pub(crate) fn architecture(&self) -> &[u8]
-        ensures { result.now ≡ architecture_in self.now }
-    {
-        if self.asked.is_binary() {
-            self.word(b"Architecture")
-        } else {
-            b"source"
-        }
-    }
-
-    fn word(&self, name: &[u8]) -> &[u8]
-        ensures { result.now ≡ word_kept self.now.texts.now name.now }
-    {
-        self.texts.word(FieldId::of(name).row())
     }
 }
 

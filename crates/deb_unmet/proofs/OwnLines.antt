@@ -1,0 +1,147 @@
+-- What is known of the lines of an index in itself that were written so far, and at their end.
+use Rattle.std.proofs.Common.{◌≡◌, ℕ, ◌+◌, ◌<◌, ◌≤◌, Bool, true, ◌&&◌, List, [], ◌∷◌, ◌++◌, drop, get_or, length, Option, Ok, Err, refl, sym, ap, ◌∙◌, subst, append_assoc, append-nil, length-append, arith, drop_of_length-le}
+use Rattle.std.proofs.KnownBytes.{Appends-nil}
+use Rattle.std.proofs.lemmas.List.{drop_more}
+use Rattle.std.specs.Io.KnownBytes.{Appends}
+use Rattle.deb_base.specs.Devices.{AppendsFront}
+use Rattle.deb_base.specs.declared.fault.Fault.{Fault}
+use Rattle.deb_base.specs.declared.fault.Fault.TheVariants.{Refused, Memory, Read, Write}
+use Rattle.deb_base.specs.declared.doc.Doc.TheVariants as docs
+use Rattle.deb_base.specs.declared.version_text.VersionText.{VersionText}
+use Rattle.deb_base.proofs.Writes.{AppendsFront-more, AppendsFront-then}
+use Rattle.deb_relation.specs.Applying.{Environment}
+use Rattle.deb_syntax.specs.Answers.{Seen}
+use Rattle.deb_control.specs.Documents.{Meaning, Accepted}
+use Rattle.deb_control.specs.GivenParagraphs.{AreNext}
+use Rattle.deb_control.specs.Pairs.{Pairwise}
+use Rattle.deb_control.specs.Paragraphs.{AreValuesOf}
+use Rattle.deb_control.proofs.GivenValues.{pairwise-length}
+use Rattle.deb_index.specs.Listed.{Listed}
+use Rattle.deb_index.specs.Listing.{ListsAll}
+use Rattle.deb_unmet.specs.Asking.{PutsLines}
+use Rattle.deb_unmet.specs.Files.{Asks, file_lines, lines_of}
+use Rattle.deb_unmet.specs.KeptParagraphs.{AreKept, IsKept}
+use Rattle.deb_unmet.specs.Own.{BeginsOwn, WritesOwn, asks_own}
+use Rattle.deb_unmet.specs.declared.asked.Strength.{Strength}
+use Rattle.deb_unmet.specs.declared.kept.KeptParagraph.{KeptParagraph}
+use Rattle.deb_unmet.proofs.AskedFiles.{HasAsked, all_given, given-lines, lines_given, lines_given-append, none_asked, one_asked}
+
+abbrev Packaged : List Seen → Meaning → Type 0
+Packaged = Pairwise (AreValuesOf docs.Packages)
+
+-- values of paragraphs that are kept
+kept_values : (given : List Seen) (kept : List KeptParagraph) → AreKept kept given → (values : Meaning) × Packaged given values
+kept_values [] [] are = ([], tt)
+kept_values [] (k ∷ kept) are = absurd are
+kept_values (seen ∷ given) [] are = absurd are
+kept_values (seen ∷ given) (k ∷ kept) are =
+    let more = kept_values given kept are.1 in
+    (are.0.values ∷ more.0, (are.0.are, more.1))
+
+kept_length : (given : List Seen) (kept : List KeptParagraph) → AreKept kept given → length kept ≡ length given
+kept_length given kept are = pairwise-length IsKept given kept are
+
+packaged-append : (given more : List Seen) (values others : Meaning) → Packaged given values → Packaged more others → Packaged (given ++ more) (values ++ others)
+packaged-append [] more [] others are rest = rest
+packaged-append [] more (v ∷ values) others are rest = absurd are
+packaged-append (seen ∷ given) more [] others are rest = absurd are
+packaged-append (seen ∷ given) more (v ∷ values) others are rest = (are.0, packaged-append given more values others are.1 rest)
+
+-- a call that failed has written a front
+puts_front : (fault : Fault) (lines : List ℕ) (old new : Option (List ℕ)) → PutsLines lines (Err fault) old new → AppendsFront old new lines
+puts_front (Refused refusal) lines old new puts = absurd puts
+puts_front Memory lines old new puts = record { front = []; rest = lines; whole = refl; appended = subst (λ held. Appends old held []) puts (Appends-nil old) }
+puts_front Read lines old new puts = absurd puts
+puts_front Write lines old new puts = puts
+
+module _ (strength : Strength) (versions : VersionText) (environment : Environment) (packages : List Listed) (kept : List KeptParagraph) (given : List Seen) (old : Option (List ℕ)) where
+  abbrev asks : Asks
+  asks = asks_own strength versions environment packages
+
+  -- The lines of so many paragraphs were written, and these are left.
+  pub record HasOwn (held : Option (List ℕ)) (empty : Bool) (i : ℕ) : Type 0 where
+    pub done : List Seen
+    pub more : List Seen
+    pub all : given ≡ done ++ more
+    pub numbered : length done ≡ i
+    pub asked : HasAsked asks old held empty done
+    pub left : AreKept (drop i kept) more
+
+  pub none_own : AreKept kept given → HasOwn old true 0
+  none_own are = record { done = []; more = given; all = refl; numbered = refl; asked = none_asked asks old; left = are }
+
+  -- The next one, and those after it.
+  pub record NextOwn (held : Option (List ℕ)) (empty : Bool) (i : ℕ) (k : KeptParagraph) : Type 0 where
+    pub done : List Seen
+    pub seen : Seen
+    pub more : List Seen
+    pub all : given ≡ done ++ seen ∷ more
+    pub numbered : length done ≡ i
+    pub asked : HasAsked asks old held empty done
+    pub is : IsKept seen k
+    pub left : AreKept (drop (i + 1) kept) more
+
+  pub next_own : {held : Option (List ℕ)} {empty : Bool} (i : ℕ) (k : KeptParagraph) → HasOwn held empty i → i < length kept → k ≡ get_or kept i k → NextOwn held empty i k
+  next_own {held} {empty} i k has within is = go has.more has.all (subst (λ l. AreKept l has.more) (drop_more kept i k within ∙ ap (λ first. first ∷ drop (i + 1) kept) (sym is)) has.left)
+    where
+      go : (more : List Seen) → given ≡ has.done ++ more → AreKept (k ∷ drop (i + 1) kept) more → NextOwn held empty i k
+      go [] all left = absurd left
+      go (seen ∷ more) all left = record { done = has.done; seen = seen; more = more; all = all; numbered = has.numbered; asked = has.asked; is = left.0; left = left.1 }
+
+  module _ {held : Option (List ℕ)} {empty : Bool} {i : ℕ} {k : KeptParagraph} (next : NextOwn held empty i k) where
+    abbrev line : List ℕ
+    line = lines_of asks (i + 1) next.seen.fields next.is.values
+
+    pub one_own : (writes : Option (List ℕ)) (one all : Bool) → PutsLines line (Ok one) held writes → all ≡ (empty && one) → HasOwn writes all (i + 1)
+    one_own writes one all puts all_is = record {
+      done = next.done ++ next.seen ∷ [];
+      more = next.more;
+      all = next.all ∙ sym (append_assoc next.done (next.seen ∷ []) next.more);
+      numbered = omega (arith, next.numbered, length-append next.done (next.seen ∷ []));
+      asked = one_asked next.asked next.seen next.is.values next.is.are i next.numbered writes one all puts all_is;
+      left = next.left;
+    }
+
+    -- a front of its lines is one of all lines
+    module _ (others : Meaning) (rest : Packaged next.more others) where
+      abbrev meaning : Meaning
+      meaning = next.asked.values ++ next.is.values ∷ others
+
+      are_all : Packaged given meaning
+      are_all = subst (λ g. Packaged g meaning) (sym next.all)
+          (packaged-append next.done (next.seen ∷ next.more) next.asked.values (next.is.values ∷ others) next.asked.are (next.is.are, rest))
+
+      lines_all : lines_given asks 0 given meaning ≡ lines_given asks 0 next.done next.asked.values ++ (line ++ lines_given asks (i + 1) next.more others)
+      lines_all =
+          ap (λ g. lines_given asks 0 g meaning) next.all
+          ∙ lines_given-append asks 0 next.done next.asked.values (next.seen ∷ next.more) (next.is.values ∷ others) (pairwise-length (AreValuesOf docs.Packages) next.done next.asked.values next.asked.are)
+          ∙ ap (λ n. lines_given asks 0 next.done next.asked.values ++ lines_given asks n (next.seen ∷ next.more) (next.is.values ∷ others)) (omega (arith, next.numbered))
+
+      front_of : (text : List ℕ) (writes : Option (List ℕ)) → AppendsFront held writes line → AreNext text 0 given → AppendsFront old writes (file_lines asks text meaning)
+      front_of text writes put are_next =
+          subst (AppendsFront old writes) (sym lines_all ∙ given-lines asks text 0 given meaning (pairwise-length (AreValuesOf docs.Packages) given meaning are_all) are_next)
+          (AppendsFront-then old held writes _ _ next.asked.written (AppendsFront-more held writes line (lines_given asks (i + 1) next.more others) put))
+
+    pub stopped_own : (text : List ℕ) (writes : Option (List ℕ)) (fault : Fault) → PutsLines line (Err fault) held writes → ListsAll text packages → AreNext text 0 given → ((meaning : Meaning) → Packaged given meaning → Accepted docs.Packages text meaning) → BeginsOwn strength versions environment text old writes
+    stopped_own text writes fault puts lists are_next accepted =
+        let rest = kept_values next.more (drop (i + 1) kept) next.left in
+        record {
+          packages = packages;
+          lists = lists;
+          meaning = meaning rest.0 rest.1;
+          accepted = accepted (meaning rest.0 rest.1) (are_all rest.0 rest.1);
+          written = front_of rest.0 rest.1 text writes (puts_front fault line held writes puts) are_next;
+        }
+
+  -- there is no further paragraph
+  pub end_own : {held : Option (List ℕ)} {empty : Bool} {i : ℕ} → HasOwn held empty i → length kept ≤ i → AreKept kept given → (text : List ℕ) → ListsAll text packages → AreNext text 0 given → ((meaning : Meaning) → Packaged given meaning → Accepted docs.Packages text meaning) → WritesOwn strength versions environment text (record { paragraphs = length kept; is_empty = empty }) old held
+  end_own {held} {empty} {i} has past are text lists are_next accepted = record {
+    packages = packages;
+    lists = lists;
+    written = all_given (subst (HasAsked asks old held empty) (sym (given_done has.more (subst (λ l. AreKept l has.more) (drop_of_length-le kept past) has.left) has.all)) has.asked)
+        text (length kept) (sym (kept_length given kept are)) are_next accepted;
+  }
+    where
+      given_done : (more : List Seen) → AreKept [] more → given ≡ has.done ++ more → given ≡ has.done
+      given_done [] none all = all ∙ append-nil has.done
+      given_done (seen ∷ more) none all = absurd none

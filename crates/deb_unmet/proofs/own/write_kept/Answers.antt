@@ -1,0 +1,49 @@
+use Rattle.std.proofs.Common.{◌≡◌, ◌+◌, ◌&&◌, Ok, Err, refl, sym, ap, ◌∙◌, inr}
+use Rattle.std.proofs.lemmas.Result.{err_from_is_err_and}
+use Rattle.deb_relation.specs.Environments.{environment_of}
+use Rattle.deb_index.specs.Indexes.{packages_of}
+use Rattle.deb_unmet.specs.Own.{asks_own}
+use Rattle.deb_unmet.proofs.AskedFiles.{puts_lines}
+use Rattle.deb_unmet.proofs.OwnLines.{end_own, next_own, none_own, one_own, stopped_own}
+use Rattle.deb_unmet.proofs.own.write_kept.Goals as goal
+use Rattle.deb_unmet.proofs.own.write_kept.Goals.{then-is_empty, else-is_empty}
+
+pub loop-count-init : goal.loop-count-init
+loop-count-init g c = record {
+  lines = λ given are. none_own _ _ _ _ _ given _ are;
+  writes = refl;
+}
+
+pub loop-count-preserved : goal.loop-count-preserved
+loop-count-preserved g c =
+    let environment = environment_of c.args.question.now.environment.now in
+    let packages = packages_of c.args.question.now.index.now in
+    let all_is : c.if-is_empty.is_empty ≡ (c.loop-count.is_empty && c.in_ok-is_met.is_met) =
+    elim c.if-is_empty.branch [
+      | then-is_empty w ↦ w.is_empty-is ∙ ap (λ b. b && c.in_ok-is_met.is_met) (sym w.if-is_empty.true)
+      | else-is_empty w ↦ w.is_empty-is ∙ w.if-is_empty.false ∙ ap (λ b. b && c.in_ok-is_met.is_met) (sym w.if-is_empty.false)
+    ] in
+    record {
+      lines = λ given are.
+          let next = next_own c.args.strength c.args.versions environment packages c.args.kept.now given (g.W.Sink.held c.args.writer.now) c.loop-count.count c.index-kept-count.result (c.loop-count.invariant.lines given are) c.loop-count-test.true c.index-kept-count.is in
+          let puts = puts_lines (asks_own c.args.strength c.args.versions environment packages) (c.loop-count.count + 1) next.seen.fields next.is.values c.line_texts.result.version.now (Ok c.in_ok-is_met.is_met) (g.W.Sink.held c.loop-count.writer) (g.W.Sink.held c.write_paragraph.new.writer)
+          (c.line_texts.ensures.version next.seen.fields next.is.values next.is.holds) (c.in_ok-is_met.ensures.puts next.is.values (c.line_texts.ensures.texts next.seen.fields next.is.values c.args.strength next.is.holds)) in
+          one_own c.args.strength c.args.versions environment packages c.args.kept.now given (g.W.Sink.held c.args.writer.now) next (g.W.Sink.held c.write_paragraph.new.writer) c.in_ok-is_met.is_met c.if-is_empty.is_empty puts all_is;
+      writes = c.in_ok-is_met.ensures.counts_failure ∙ c.loop-count.invariant.writes;
+    }
+
+pub returns-in_err-is_met-clause-stopped : goal.returns-in_err-is_met-clause-stopped
+returns-in_err-is_met-clause-stopped g c = λ text lists keeps.
+    let p = err_from_is_err_and c.from_residual.result c.from_residual.ensures.1 in
+    let fault = c.in_err-is_met.field-0.0 in
+    let environment = environment_of c.args.question.now.environment.now in
+    let packages = packages_of c.args.question.now.index.now in
+    let next = next_own c.args.strength c.args.versions environment packages c.args.kept.now keeps.given (g.W.Sink.held c.args.writer.now) c.loop-count.count c.index-kept-count.result (c.loop-count.invariant.lines keeps.given keeps.keeps) c.loop-count-test.true c.index-kept-count.is in
+    let puts = puts_lines (asks_own c.args.strength c.args.versions environment packages) (c.loop-count.count + 1) next.seen.fields next.is.values c.line_texts.result.version.now (Err fault) (g.W.Sink.held c.loop-count.writer) (g.W.Sink.held c.write_paragraph.new.writer)
+    (c.line_texts.ensures.version next.seen.fields next.is.values next.is.holds) (c.in_err-is_met.ensures.puts next.is.values (c.line_texts.ensures.texts next.seen.fields next.is.values c.args.strength next.is.holds)) in
+    rw p.1
+    (inr (stopped_own c.args.strength c.args.versions environment packages c.args.kept.now keeps.given (g.W.Sink.held c.args.writer.now) next text (g.W.Sink.held c.write_paragraph.new.writer) fault puts lists keeps.next keeps.accepted))
+
+pub returns-clause-ok : goal.returns-clause-ok
+returns-clause-ok g c = λ text lists keeps.
+    end_own _ _ _ _ _ keeps.given _ (c.loop-count.invariant.lines keeps.given keeps.keeps) c.loop-count-test.false keeps.keeps text lists keeps.next keeps.accepted

@@ -1,0 +1,102 @@
+//! The texts that the lines of a paragraph have of it.
+
+ghost use Rattle.std.specs.Prelude.{◌≡◌, get_or, []};
+ghost use Rattle.deb_control.specs.FieldTexts.{HasTexts};
+ghost use Rattle.deb_control.specs.ValueFiles.{ValueEntries};
+ghost use Rattle.deb_field.specs.Values.{ValueMeaning};
+ghost use Rattle.deb_relation.specs.Views.{names_of};
+ghost use Rattle.deb_unmet.specs.Fields.{architecture_of};
+ghost use Rattle.deb_unmet.specs.Paragraphs.{HasTextsOf, fields_in};
+ghost use Rattle.deb_unmet.specs.Spelled.{spelled_in, version_word};
+
+use crate::asked::{ARCHITECTURE, Asked, Request, VERSION};
+use deb_base::VersionText;
+use deb_control::{CheckedView, FieldTexts};
+
+/// How many relations are asked at most.
+const MOST_ASKED: usize = 3;
+
+/// The name, the version and the architecture that lines have of a paragraph, and the canonical
+/// texts of the relations that are asked, in their order.
+#[derive(Clone, Copy)]
+pub(crate) struct LineTexts<'a> {
+    pub(crate) name: &'a [u8],
+    pub(crate) version: &'a [u8],
+    pub(crate) architecture: &'a [u8],
+    pub(crate) relations: [&'a [u8]; MOST_ASKED],
+}
+
+impl<'a> LineTexts<'a> {
+    /// Those of a paragraph that was checked, of which these texts are kept.
+    pub(crate) fn of(
+        request: Request,
+        paragraph: &CheckedView<'a>,
+        texts: &'a FieldTexts,
+    ) -> LineTexts<'a>
+        ensures texts { (values : ValueEntries ValueMeaning) → HasTexts texts.now values
+            → HasTextsOf request.asked result values }
+        ensures version { (values : ValueEntries ValueMeaning) → HasTexts texts.now values
+            → result.version.now ≡ version_word request.versions (fields_in paragraph.now) values }
+    {
+        let rows = request.asked.rows();
+        LineTexts {
+            name: texts.word(request.asked.name_row()),
+            version: version_of(request.versions, paragraph, texts),
+            architecture: architecture_of(request.asked, texts),
+            relations: [
+                texts.relation(rows[0]),
+                texts.relation(rows[1]),
+                texts.relation(rows[2]),
+            ],
+        }
+    }
+
+    /// Returns the canonical text of the relation that is asked after so many; empty if there is
+    /// none.
+    pub(crate) fn relation(&self, row: usize) -> &'a [u8]
+        ensures { result.now ≡ get_or (names_of self.now.relations) row [] }
+    {
+        if row < MOST_ASKED {
+            self.relations[row]
+        } else {
+            b""
+        }
+    }
+}
+
+/// Returns the text of the version that the lines have.
+fn version_of<'a>(
+    versions: VersionText,
+    paragraph: &CheckedView<'a>,
+    texts: &'a FieldTexts,
+) -> &'a [u8]
+    ensures { (values : ValueEntries ValueMeaning) → HasTexts texts.now values
+        → result.now ≡ version_word versions (fields_in paragraph.now) values }
+{
+    match versions {
+        VersionText::Canonical => texts.word(VERSION),
+        VersionText::Spelled => spelled_body(paragraph),
+    }
+}
+
+/// Returns the text by which the file spells the version of a paragraph; empty if there is none.
+pub(crate) fn spelled_body<'a>(paragraph: &CheckedView<'a>) -> &'a [u8]
+    ensures { result.now ≡ spelled_in (fields_in paragraph.now) }
+{
+    match paragraph.get(b"Version") {
+        Some(field) => field.body,
+        None => b"",
+    }
+}
+
+/// Returns the architecture of a binary package, and `source` for a source package.
+fn architecture_of<'a>(asked: Asked, texts: &'a FieldTexts) -> &'a [u8]
+    ensures { (values : ValueEntries ValueMeaning) → HasTexts texts.now values
+        → result.now ≡ architecture_of asked values }
+{
+    if asked.is_binary() {
+        texts.word(ARCHITECTURE)
+    } else {
+        b"source"
+    }
+}
