@@ -8,6 +8,7 @@ use Rattle.deb_control.specs.Pairs.{Pairwise}
 use Rattle.deb_control.specs.Paragraphs.{AreValuesOf}
 use Rattle.deb_control.proofs.GivenValues.{accepted-given, pairwise-push}
 use Rattle.deb_control.proofs.ShownSoFar.{ShownAll}
+use Rattle.deb_index.specs.Keeping.{KeepsAll}
 use Rattle.deb_index.specs.Listed.{Listed}
 use Rattle.deb_index.specs.Listing.{Lists, ListsAll, SeenLists}
 use Rattle.deb_index.specs.Stores.{line_by, lines_in, listed_by, listed_in, spelling_by, spellings_in}
@@ -19,6 +20,11 @@ pub record ListsGiven (store : Store) (given : List Seen) : Type 0 where
   pub listed : Pairwise SeenLists given (listed_in store)
   pub lines : lines_in store ≡ map (λ seen. seen.first) given
   pub spellings : spellings_in store ≡ map (λ seen. version_body seen.fields) given
+
+-- While a file is read: the packages of its first paragraphs, and what a keeper keeps of these if it kept nothing before.
+pub record ReadGiven {K : Type 0} (Keeps : K → List Seen → Type 0) (first now : K) (store : Store) (given : List Seen) : Type 0 where
+  pub lists : ListsGiven store given
+  pub keeps : Keeps first [] → Keeps now given
 
 pub none_listed : (store : Store) → store.records.items ≡ [] → ListsGiven store []
 none_listed store none = record {
@@ -50,3 +56,15 @@ pub lists_all : (text : List ℕ) (given : List Seen) (packages : List Listed) �
 lists_all text given packages shown listed =
     let values = values_listed given packages listed in
     record { meaning = values.0; accepted = accepted-given Packages text given values.0 shown values.1; listed = values.2 }
+
+pub read_more : {K : Type 0} (Keeps : K → List Seen → Type 0) (first old now : K) (before after : Store) (given more : List Seen) → ReadGiven Keeps first old before given → ListsGiven after more → (Keeps old given → Keeps now more) → ReadGiven Keeps first now after more
+read_more Keeps first old now before after given more read lists keeps = record { lists = lists; keeps = λ none. keeps (read.keeps none) }
+
+-- and what is kept of all paragraphs
+pub keeps_all : {K : Type 0} (Keeps : K → List Seen → Type 0) (first now : K) (store : Store) (text : List ℕ) (given : List Seen) → ShownAll Packages text given → ReadGiven Keeps first now store given → Keeps first [] → KeepsAll (Keeps now) text
+keeps_all Keeps first now store text given shown read none = record {
+  given = given;
+  next = shown.next;
+  accepted = λ values are. accepted-given Packages text given values shown are;
+  keeps = read.keeps none;
+}

@@ -19,6 +19,7 @@ use Rattle.deb_base.specs.declared.doc.Doc.TheVariants.{Packages}
 use Rattle.deb_control.specs.Acceptance.{has_values}
 use Rattle.deb_control.specs.Checking.{is_judged}
 use Rattle.deb_control.specs.Documents.{rules_of}
+use Rattle.deb_control.specs.FieldTexts.{KeepsTexts}
 use Rattle.deb_control.specs.FieldWords.{groups_of, word_of}
 use Rattle.deb_control.specs.Visiting.{VisitsValues}
 use Rattle.deb_control.specs.ShownValues.{shown_of}
@@ -152,6 +153,10 @@ lists-read seen name version architecture multi_arch provisions named versioned 
   where
     under : (name : List ℕ) (o : Option ValueMeaning) → (has : HasValue Packages seen name o) → find byte_order (canonical_name name) named.values ≡ o
     under name o has = ap (find byte_order (canonical_name name)) (one_list_of_values seen named.values has.values named.are has.are) ∙ sym has.found
+
+-- the words and relations among what is kept
+pub visits-texts : (kept : PackageBuilder) (seen : Seen) → VisitsValues KeepsVisited kept Packages seen → VisitsValues KeepsTexts kept.texts Packages seen
+visits-texts kept seen keeps = record { passes = keeps.passes; fields = keeps.fields; visited = keeps.visited; all = keeps.all; spelled = keeps.spelled; visits = keeps.visits.texts }
 
 -- what was kept of its fields are the texts of that package
 pub record ListsKept (kept : PackageBuilder) (seen : Seen) : Type 0 where

@@ -34,7 +34,11 @@ pub(crate) struct NoKeeper;
 impl Keeper for NoKeeper {
     ghost Keeps = { λ keeper given. Unit {0} };
 
-    fn keep(&mut self, _paragraph: &CheckedView<'_>, _texts: &FieldTexts) -> Result<(), AllocError> {
+    fn keep(
+        &mut self,
+        _paragraph: &CheckedView<'_>,
+        _texts: &FieldTexts,
+    ) -> Result<(), AllocError> {
         Ok(())
     }
 }

@@ -2,11 +2,11 @@ use Rattle.deb_base.specs.declared.doc.Doc.TheVariants.{Packages}
 use Rattle.deb_control.specs.ReadingOn.{shown}
 use Rattle.deb_control.proofs.ShownSoFar.{ShownSoFar}
 use Rattle.deb_index.specs.Stores.{IsStore}
-use Rattle.deb_index.proofs.Indexed.{ListsGiven}
+use Rattle.deb_index.proofs.Indexed.{ReadGiven}
 use Rattle.deb_index.proofs.index.Index.read_with.Given as goal
 
 abbrev pub invariant-loop-count : goal.invariant-loop-count
 invariant-loop-count g l = record {
-  shown : ShownSoFar Packages (shown (g.R.Source.left l.initial.reader) (g.R.Source.failures l.initial.reader)) (ListsGiven l.store) l.checked (shown (g.R.Source.left l.reader) (g.R.Source.failures l.reader)) l.count;
+  shown : ShownSoFar Packages (shown (g.R.Source.left l.initial.reader) (g.R.Source.failures l.initial.reader)) (ReadGiven g.K.Keeper.Keeps l.initial.keeper l.keeper l.store) l.checked (shown (g.R.Source.left l.reader) (g.R.Source.failures l.reader)) l.count;
   kept : IsStore l.store;
 }
