@@ -1,14 +1,14 @@
 -- Status 2 of the jobs on versions, and the words of a query and of `unmet`, by the job.
 use Rattle.std.proofs.Common.{◌≡◌, ◌⊎◌, ℕ, List, map, Option, String, Vec, Global, refl, subst, sym, string_bytes}
-use Rattle.std.specs.Prelude.{IsFalse}
+use Rattle.std.specs.Prelude.{IsFalse, IsTrue}
 use Rattle.std.specs.Io.KnownBytes.{Appends}
 use Rattle.deb_base.specs.Lines.{refusal_line}
 use Rattle.deb_index.specs.Questions.{Question, question}
 use Rattle.debctl_commands.specs.JobDevices.{ReaderOfJob, WriterOfJob}
 use Rattle.debctl_commands.specs.QueryFrom.{AreRefusedFrom, ReportsFrom, ReportsRefusalFrom}
 use Rattle.debctl_commands.specs.QueryJob.{AreRefused, query_options}
-use Rattle.debctl_commands.specs.Running.{IfRefusedRelation, IfRefusedWords, IsRefused, Reported, asked_of_file, words_of_unmet}
-use Rattle.debctl_commands.specs.UnmetJob.{AreRefusedBefore, ReportsRefusalOfUnmet, ReportsUnmet, Words, has_environment, words}
+use Rattle.debctl_commands.specs.Running.{IfRefusedRelation, IfRefusedWords, IfSecondUnread, IsRefused, Reported, asked_of_file, words_of_unmet}
+use Rattle.debctl_commands.specs.UnmetJob.{AreRefusedBefore, ReportsRefusalOfUnmet, ReportsUnmet, Words, has_environment, is_index, words}
 use Rattle.debctl_commands.specs.VersionJobs.{bad_version, IsNoVersion}
 use Rattle.deb_base.specs.declared.version_text.VersionText.{VersionText}
 use Rattle.debctl_commands.specs.declared.query_job.QueryOptions.{QueryOptions}
@@ -90,6 +90,10 @@ module _ (job : Job) (arch : String Global) (profiles : Vec (String Global) Glob
   pub unmet_unread_file : (left : Option (List ℕ)) (P : Type 0) → (AreRefusedBefore (words target (map string_bytes items) tried chosen) left → P) → IfRefusedRelation job left P
   unmet_unread_file left P then =
       subst (λ (asked : Job). IfRefusedRelation asked left P) (sym is) (of_unmet (λ w. AreRefusedBefore w left → P) arch profiles dependents versions target items tried chosen target_is items_is tried_is chosen_is then)
+
+  -- the index in itself leaves the second file
+  pub unmet_unread_second : (P : Type 0) → (IsTrue (is_index tried) → P) → IfSecondUnread job P
+  unmet_unread_second P then = subst (λ (asked : Job). IfSecondUnread asked P) (sym is) (subst (λ d. IsTrue (is_index d) → P) tried_is then)
 
   -- the answer, and its report
   pub unmet_reported : {W E : Type 0} (first second : ReaderOfJob) (out : WriterOfJob W) (err : WriterOfJob E) (status : ℕ)

@@ -1,8 +1,7 @@
 -- From how `unmet` ends to what each status says of it.
-use Rattle.std.proofs.Common.{◌≡◌, ◌⊎◌, ◌<◌, ◌==◌, ◌++◌, ℕ, Bool, true, false, List, length, Option, Some, Result, Ok, Err, inl, inr, arith, refl, ap, sym, subst, ◌∙◌, cond}
-use Rattle.std.specs.Prelude.{⊤, IsTrue, IsFalse}
+use Rattle.std.proofs.Common.{◌≡◌, ◌⊎◌, ◌<◌, ◌++◌, ℕ, Bool, true, false, List, length, Option, Some, Result, Ok, Err, inl, inr, arith, refl, ap, sym, subst, ◌∙◌}
+use Rattle.std.specs.Prelude.{⊤, IsTrue, IsFalse, if◌then◌else◌}
 use Rattle.std.specs.Io.KnownBytes.{Appends}
-use Rattle.std.proofs.lemmas.Bool.{eqb-true}
 use Rattle.deb_base.specs.Devices.{read_failures_after, write_failures_after}
 use Rattle.deb_base.specs.Faults.{IsReadersFault, RefusedOrMemory}
 use Rattle.deb_base.specs.Lines.{refusal_line}
@@ -19,14 +18,16 @@ use Rattle.deb_control.proofs.ComparedSoFar.{none_refused}
 use Rattle.deb_index.specs.Listed.{Listed}
 use Rattle.deb_index.specs.Listing.{ListsAll}
 use Rattle.deb_index.specs.Questions.{bad_environment}
-use Rattle.deb_unmet.specs.Files.{WritesRefused, WritesUnmet}
+use Rattle.deb_unmet.specs.Asking.{asks_of}
+use Rattle.deb_unmet.specs.Files.{WritesUnmet}
 use Rattle.deb_unmet.specs.declared.asking.Summary.{Summary}
 use Rattle.debctl_args.specs.declared.jobs.Dependents.{Dependents}
-use Rattle.debctl_args.specs.declared.jobs.Dependents.TheVariants.{Index, Packages, Binary, Sources, Source}
+use Rattle.debctl_args.specs.declared.jobs.Dependents.TheVariants.{Index}
+use Rattle.debctl_args.specs.declared.jobs.Strength.{Strength}
 use Rattle.debctl_commands.specs.JobDevices.{ReaderOfJob, WriterOfJob}
 use Rattle.debctl_commands.specs.Reporting.{status_of, ReportsFault}
 use Rattle.debctl_commands.specs.SameJob.{ReportsSide, side_line, side_word}
-use Rattle.debctl_commands.specs.UnmetJob.{again, answer_of, asks_over, environment_in, has_environment, is_empty_in, is_index, AsksFile, EndsAtEnvironment, EndsAtFile, EndsAtIndex, EndsInEnvironment, EndsOver, ReportsRefusalOfUnmet, ReportsSecond, ReportsUnmet, Words, WritesOver, WritesUnmetOf}
+use Rattle.debctl_commands.specs.UnmetJob.{asks_over, environment_in, fields_tried, has_environment, is_index, request_of, text_tried, AsksFile, AsksOwn, EndsAtEnvironment, EndsAtFile, EndsAtIndex, EndsInItself, ReportsRefusalOfUnmet, ReportsTried, ReportsUnmet, Words, WritesUnmetOf}
 use Rattle.debctl_commands.specs.VersionJobs.{verdict_status}
 use Rattle.debctl_commands.proofs.FaultReports.{two_is_refusal}
 
@@ -101,154 +102,133 @@ no_index text packages refusal lists refused =
     let none = none_refused docs.Packages text (length lists.meaning) (record { meaning = lists.meaning; accepted = lists.accepted; count = refl }) in
     let bad : ⊥ = cc in bad
 
--- ---- answers over an index
+-- ---- the answer of a file
 
--- a yes or no is that of the summary, and of the index itself with as many paragraphs
-record IsSummary (dependents : Dependents) (count : ℕ) (answer : Result Summary Fault) (is_empty : Bool) : Type 0 where
+-- a status of 0 or 1 is that of a summary, and nothing was reported
+record IsSummary {E : Type 0} (err : WriterOfJob E) (answer : Result Summary Fault) (is_empty : Bool) : Type 0 where
   pub summary : Summary
   pub is : answer ≡ Ok summary
   pub empty : summary.is_empty ≡ is_empty
-  pub paragraphs : IsTrue (is_index dependents) → summary.paragraphs ≡ count
+  pub quiet : err.new ≡ err.old
 
-again_is : (test : Bool) (summary : Summary) (is_empty : Bool) → cond test (Ok summary.is_empty) (Err Read) ≡ Ok is_empty → (test ≡ true) × (summary.is_empty ≡ is_empty)
-again_is true summary is_empty is = (refl, cc)
-again_is false summary is_empty is = let bad : ⊥ = cc in absurd bad
+yes_if_zero : (answer : Bool) (status : ℕ) → status ≡ verdict_status answer → status ≡ 0 → answer ≡ true
+yes_if_zero true status is zero = refl
+yes_if_zero false status is zero = absurd (omega (arith, is, zero))
 
-again_summary : (count : ℕ) (answer : Result Summary Fault) (is_empty : Bool) → again count answer ≡ Ok is_empty
-    → (summary : Summary) × (answer ≡ Ok summary) × (summary.is_empty ≡ is_empty) × (summary.paragraphs ≡ count)
-again_summary count (Ok summary) is_empty is =
-    let test = again_is (summary.paragraphs == count) summary is_empty is in
-    (summary, refl, test.1, eqb-true summary.paragraphs count test.0)
-again_summary count (Err (Refused refusal)) is_empty is = let bad : ⊥ = cc in absurd bad
-again_summary count (Err Memory) is_empty is = let bad : ⊥ = cc in absurd bad
-again_summary count (Err Read) is_empty is = let bad : ⊥ = cc in absurd bad
-again_summary count (Err Write) is_empty is = let bad : ⊥ = cc in absurd bad
+no_if_one : (answer : Bool) (status : ℕ) → status ≡ verdict_status answer → status ≡ 1 → answer ≡ false
+no_if_one true status is one = absurd (omega (arith, is, one))
+no_if_one false status is one = refl
 
-plain_summary : (answer : Result Summary Fault) (is_empty : Bool) → is_empty_in answer ≡ Ok is_empty
-    → (summary : Summary) × (answer ≡ Ok summary) × (summary.is_empty ≡ is_empty)
-plain_summary (Ok summary) is_empty is = (summary, refl, cc)
-plain_summary (Err fault) is_empty is = let bad : ⊥ = cc in absurd bad
+no_verdict_is_two : (answer : Bool) (status : ℕ) → status ≡ verdict_status answer → status ≡ 2 → ⊥
+no_verdict_is_two true status is two = omega (arith, is, two)
+no_verdict_is_two false status is two = omega (arith, is, two)
 
-other_summary : (dependents : Dependents) (count : ℕ) (answer : Result Summary Fault) (is_empty : Bool) → is_index dependents ≡ false → is_empty_in answer ≡ Ok is_empty → IsSummary dependents count answer is_empty
-other_summary dependents count answer is_empty other is =
-    let s = plain_summary answer is_empty is in
-    record { summary = s.0; is = s.1; empty = s.2; paragraphs = λ index. let bad : ⊥ = cc in absurd bad }
+module _ {E : Type 0} (err : WriterOfJob E) (side : Side) where
+  tried_at_zero : (answer : Result Summary Fault) (status : ℕ) → ReportsTried err side answer status → status ≡ 0 → IsSummary err answer true
+  tried_at_zero (Ok summary) status reports zero = record { summary = summary; is = refl; empty = yes_if_zero summary.is_empty status reports.0 zero; quiet = reports.1 }
+  tried_at_zero (Err fault) status reports zero = absurd (no_fault_is_zero fault status (side_status err.held err.failures err.old err.new side fault status reports) zero)
 
-summary_of : (dependents : Dependents) (count : ℕ) (answer : Result Summary Fault) (is_empty : Bool) → answer_of dependents count answer ≡ Ok is_empty → IsSummary dependents count answer is_empty
-summary_of (Index strength) count answer is_empty is =
-    let s = again_summary count answer is_empty is in
-    record { summary = s.0; is = s.1; empty = s.2; paragraphs = λ index. s.3 }
-summary_of (Packages strength) count answer is_empty is = other_summary (Packages strength) count answer is_empty refl is
-summary_of (Binary strength) count answer is_empty is = other_summary (Binary strength) count answer is_empty refl is
-summary_of Sources count answer is_empty is = other_summary Sources count answer is_empty refl is
-summary_of Source count answer is_empty is = other_summary Source count answer is_empty refl is
+  tried_at_one : (answer : Result Summary Fault) (status : ℕ) → ReportsTried err side answer status → status ≡ 1 → IsSummary err answer false
+  tried_at_one (Ok summary) status reports one = record { summary = summary; is = refl; empty = no_if_one summary.is_empty status reports.0 one; quiet = reports.1 }
+  tried_at_one (Err fault) status reports one = absurd (no_fault_is_one fault status (side_status err.held err.failures err.old err.new side fault status reports) one)
 
--- a refusal is that of a file that isn't the index
-again_unrefused : (test : Bool) (summary : Summary) (refusal : Refusal) → cond test (Ok summary.is_empty) (Err Read) ≡ Err (Refused refusal) → ⊥
-again_unrefused true summary refusal is = cc
-again_unrefused false summary refusal is = cc
+  tried_at_two : (answer : Result Summary Fault) (status : ℕ) → ReportsTried err side answer status → status ≡ 2
+      → (refusal : Refusal) × (answer ≡ Err (Refused refusal)) × Appends (err.held err.old) (err.held err.new) (side_word side ++ refusal_line refusal)
+  tried_at_two (Ok summary) status reports two = absurd (no_verdict_is_two summary.is_empty status reports.0 two)
+  tried_at_two (Err fault) status reports two =
+      let refused = two_is_side err.held err.failures err.old err.new side fault status reports two in
+      (refused.0, ap Err refused.1, refused.2)
 
-again_refused : (count : ℕ) (answer : Result Summary Fault) (refusal : Refusal) → again count answer ≡ Err (Refused refusal) → ⊥
-again_refused count (Ok summary) refusal is = again_unrefused (summary.paragraphs == count) summary refusal is
-again_refused count (Err (Refused other)) refusal is = cc
-again_refused count (Err Memory) refusal is = cc
-again_refused count (Err Read) refusal is = cc
-again_refused count (Err Write) refusal is = cc
+  tried_err : (answer : Result Summary Fault) (status : ℕ) → ReportsTried err side answer status → err.failures err.old < err.failures err.new → status ≡ 3
+  tried_err (Ok summary) status reports rose = let same = ap err.failures reports.1 in absurd (omega (arith, same, rose))
+  tried_err (Err fault) status reports rose = side_err_is_three err.held err.failures err.old err.new side fault status reports rose
 
-plain_refused : (answer : Result Summary Fault) (refusal : Refusal) → is_empty_in answer ≡ Err (Refused refusal) → answer ≡ Err (Refused refusal)
-plain_refused (Ok summary) refusal is = let bad : ⊥ = cc in absurd bad
-plain_refused (Err fault) refusal is = cc
+  -- where the count of failed reads or writes rose, the answer is that
+  tried_read : (answer : Result Summary Fault) (status n n_after : ℕ) → ReportsTried err side answer status → n_after ≡ read_failures_after n answer → n < n_after → status ≡ 3
+  tried_read (Ok summary) status n n_after reports counted rose = absurd (omega (arith, counted, rose))
+  tried_read (Err (Refused refusal)) status n n_after reports counted rose = absurd (omega (arith, counted, rose))
+  tried_read (Err Memory) status n n_after reports counted rose = absurd (omega (arith, counted, rose))
+  tried_read (Err Read) status n n_after reports counted rose = elim (side_status err.held err.failures err.old err.new side Read status reports) [
+    | inl three ↦ three
+    | inr three ↦ three
+  ]
+  tried_read (Err Write) status n n_after reports counted rose = absurd (omega (arith, counted, rose))
 
-refusal_in : (dependents : Dependents) (count : ℕ) (answer : Result Summary Fault) (refusal : Refusal) → answer_of dependents count answer ≡ Err (Refused refusal)
-    → IsFalse (is_index dependents) × (answer ≡ Err (Refused refusal))
-refusal_in (Index strength) count answer refusal is = absurd (again_refused count answer refusal is)
-refusal_in (Packages strength) count answer refusal is = (refl, plain_refused answer refusal is)
-refusal_in (Binary strength) count answer refusal is = (refl, plain_refused answer refusal is)
-refusal_in Sources count answer refusal is = (refl, plain_refused answer refusal is)
-refusal_in Source count answer refusal is = (refl, plain_refused answer refusal is)
+  tried_write : (answer : Result Summary Fault) (status n n_after : ℕ) → ReportsTried err side answer status → n_after ≡ write_failures_after n answer → n < n_after → status ≡ 3
+  tried_write (Ok summary) status n n_after reports counted rose = absurd (omega (arith, counted, rose))
+  tried_write (Err (Refused refusal)) status n n_after reports counted rose = absurd (omega (arith, counted, rose))
+  tried_write (Err Memory) status n n_after reports counted rose = absurd (omega (arith, counted, rose))
+  tried_write (Err Read) status n n_after reports counted rose = absurd (omega (arith, counted, rose))
+  tried_write (Err Write) status n n_after reports counted rose = elim (side_status err.held err.failures err.old err.new side Write status reports) [
+    | inl three ↦ three
+    | inr three ↦ three
+  ]
 
--- a failed read and a failed write are answered
-answer_of_read : (dependents : Dependents) (count : ℕ) → answer_of dependents count (Err Read) ≡ Err Read
-answer_of_read (Index strength) count = refl
-answer_of_read (Packages strength) count = refl
-answer_of_read (Binary strength) count = refl
-answer_of_read Sources count = refl
-answer_of_read Source count = refl
+-- ---- which text is tried
 
-answer_of_write : (dependents : Dependents) (count : ℕ) → answer_of dependents count (Err Write) ≡ Err Write
-answer_of_write (Index strength) count = refl
-answer_of_write (Packages strength) count = refl
-answer_of_write (Binary strength) count = refl
-answer_of_write Sources count = refl
-answer_of_write Source count = refl
+text_of_index : (dependents : Dependents) (strength : Strength) (left other : Option (List ℕ)) (index text : List ℕ) → dependents ≡ Index strength → left ≡ Some index → text_tried dependents left other ≡ Some text → index ≡ text
+text_of_index dependents strength left other index text is knows_index knows_text =
+    let knows : left ≡ Some text = sym (ap (λ d. text_tried d left other) is) ∙ knows_text in
+    cc
 
--- ---- the second file
-
--- the status of an answer that is there
-second_is : {E : Type 0} (err : WriterOfJob E) (answer : Result Bool Fault) (status : ℕ) → ReportsSecond err answer status → status ≡ 0 → (answer ≡ Ok true) × (err.new ≡ err.old)
-second_is err (Ok true) status reports zero = (refl, reports.1)
-second_is err (Ok false) status reports zero = absurd (omega (arith, reports.0, zero))
-second_is err (Err fault) status reports zero = absurd (no_fault_is_zero fault status (side_status err.held err.failures err.old err.new Second fault status reports) zero)
-
-second_isnt : {E : Type 0} (err : WriterOfJob E) (answer : Result Bool Fault) (status : ℕ) → ReportsSecond err answer status → status ≡ 1 → (answer ≡ Ok false) × (err.new ≡ err.old)
-second_isnt err (Ok true) status reports one = absurd (omega (arith, reports.0, one))
-second_isnt err (Ok false) status reports one = (refl, reports.1)
-second_isnt err (Err fault) status reports one = absurd (no_fault_is_one fault status (side_status err.held err.failures err.old err.new Second fault status reports) one)
-
-second_refused : {E : Type 0} (err : WriterOfJob E) (answer : Result Bool Fault) (status : ℕ) → ReportsSecond err answer status → status ≡ 2
-    → (refusal : Refusal) × (answer ≡ Err (Refused refusal)) × Appends (err.held err.old) (err.held err.new) (side_word Second ++ refusal_line refusal)
-second_refused err (Ok true) status reports two = absurd (omega (arith, reports.0, two))
-second_refused err (Ok false) status reports two = absurd (omega (arith, reports.0, two))
-second_refused err (Err fault) status reports two =
-    let side = two_is_side err.held err.failures err.old err.new Second fault status reports two in
-    (side.0, ap Err side.1, side.2)
-
-second_err : {E : Type 0} (err : WriterOfJob E) (answer : Result Bool Fault) (status : ℕ) → ReportsSecond err answer status → err.failures err.old < err.failures err.new → status ≡ 3
-second_err err (Ok is_empty) status reports rose = let same = ap err.failures reports.1 in absurd (omega (arith, same, rose))
-second_err err (Err fault) status reports rose = side_err_is_three err.held err.failures err.old err.new Second fault status reports rose
-
-second_three : {E : Type 0} (err : WriterOfJob E) (answer : Result Bool Fault) (status : ℕ) → ReportsSecond err answer status → (answer ≡ Err Read) ⊎ (answer ≡ Err Write) → status ≡ 3
-second_three err answer status reports (inl is) = elim (side_status err.held err.failures err.old err.new Second Read status (subst (λ a. ReportsSecond err a status) is reports)) [
-  | inl three ↦ three
-  | inr three ↦ three
-]
-second_three err answer status reports (inr is) = elim (side_status err.held err.failures err.old err.new Second Write status (subst (λ a. ReportsSecond err a status) is reports)) [
-  | inl three ↦ three
-  | inr three ↦ three
-]
+text_of_file : (dependents : Dependents) (left other : Option (List ℕ)) (text : List ℕ) → IsFalse (is_index dependents) → text_tried dependents left other ≡ Some text → other ≡ Some text
+text_of_file dependents left other text is knows = sym (ap (λ b. if b then left else other) is) ∙ knows
 
 -- ---- what each status says
 
 module _ {W E : Type 0} (w : Words) (first second : ReaderOfJob) (out : WriterOfJob W) (err : WriterOfJob E) (status : ℕ) where
-  -- an answer over an index that was read
-  written_over : (is_empty : Bool) → IsTrue (has_environment w) → (file : EndsAtFile w.dependents w.versions (environment_in w) first second out err status)
-      → answer_of w.dependents (length file.packages) file.ends.answer ≡ Ok is_empty → WritesUnmetOf w first.text second.text (out.held out.old) (out.held out.new) is_empty
-  written_over is_empty environment file is index text knows_index knows_text =
-      let s = summary_of w.dependents (length file.packages) file.ends.answer is_empty is in
+  -- an answer of the index in itself
+  own_with : (own : EndsInItself w.dependents w.versions (environment_in w) first second out err status) (answer : Result Summary Fault) → own.ends.answer ≡ answer
+      → AsksOwn (fields_tried own.strength) w.versions (environment_in w) first.text first.failures first.failures_after out.held out.failures out.old out.new answer
+  own_with own answer is = subst (λ a. AsksOwn (fields_tried own.strength) w.versions (environment_in w) first.text first.failures first.failures_after out.held out.failures out.old out.new a) is own.ends.asks_own
+
+  written_own : (is_empty : Bool) → IsTrue (has_environment w) → (own : EndsInItself w.dependents w.versions (environment_in w) first second out err status)
+      → IsSummary err own.ends.answer is_empty → WritesUnmetOf w first.text second.text (out.held out.old) (out.held out.new) is_empty
+  written_own is_empty environment own s index text knows_index knows_text =
+      let over = (own_with own (Ok s.summary) s.is).ok index knows_index in
+      record {
+        environment = environment;
+        packages = over.packages;
+        lists = over.lists;
+        summary = s.summary;
+        written = subst (λ t. WritesUnmet (asks_over w over.packages) t s.summary (out.held out.old) (out.held out.new)) (text_of_index w.dependents own.strength first.text second.text index text own.is knows_index knows_text)
+            (subst (λ d. WritesUnmet (asks_of (request_of d w.versions) (environment_in w) over.packages) index s.summary (out.held out.old) (out.held out.new)) (sym own.is) over.written);
+        is = s.empty;
+      }
+
+  -- an answer of the second file over an index that was read
+  written_over : (is_empty : Bool) → IsTrue (has_environment w) → IsFalse (is_index w.dependents) → (file : EndsAtFile w.dependents w.versions (environment_in w) first second out err status)
+      → IsSummary err file.ends.answer is_empty → WritesUnmetOf w first.text second.text (out.held out.old) (out.held out.new) is_empty
+  written_over is_empty environment other file s index text knows_index knows_text =
       let over = subst (λ a. AsksFile (asks_over w file.packages) second.text second.failures second.failures_after out.held out.failures out.old out.new a) s.is file.ends.asks_file in
       record {
         environment = environment;
         packages = file.packages;
         lists = file.lists index knows_index;
         summary = s.summary;
-        written = over.ok text knows_text;
+        written = over.ok text (text_of_file w.dependents first.text second.text text other knows_text);
         is = s.empty;
-        count = s.paragraphs;
       }
 
   pub is_empty_at_zero : ReportsUnmet w first second out err status → status ≡ 0 → (err.new ≡ err.old) × WritesUnmetOf w first.text second.text (out.held out.old) (out.held out.new) true
   is_empty_at_zero (inl e) zero = absurd (no_fault_is_zero e.fault status (fault_status err.held err.failures err.old err.new e.fault status e.reported) zero)
-  is_empty_at_zero (inr (environment, inl e)) zero = absurd (no_fault_is_zero e.fault status (side_status err.held err.failures err.old err.new First e.fault status e.reported) zero)
-  is_empty_at_zero (inr (environment, inr file)) zero =
-      let is = second_is err (answer_of w.dependents (length file.packages) file.ends.answer) status file.ends.reported zero in
-      (is.1, written_over true environment file is.0)
+  is_empty_at_zero (inr (environment, inl own)) zero =
+      let is = tried_at_zero err First own.ends.answer status own.ends.reported zero in
+      (is.quiet, written_own true environment own is)
+  is_empty_at_zero (inr (environment, inr (other, inl e))) zero = absurd (no_fault_is_zero e.fault status (side_status err.held err.failures err.old err.new First e.fault status e.reported) zero)
+  is_empty_at_zero (inr (environment, inr (other, inr file))) zero =
+      let is = tried_at_zero err Second file.ends.answer status file.ends.reported zero in
+      (is.quiet, written_over true environment other file is)
 
   pub has_lines_at_one : ReportsUnmet w first second out err status → status ≡ 1 → (err.new ≡ err.old) × WritesUnmetOf w first.text second.text (out.held out.old) (out.held out.new) false
   has_lines_at_one (inl e) one = absurd (no_fault_is_one e.fault status (fault_status err.held err.failures err.old err.new e.fault status e.reported) one)
-  has_lines_at_one (inr (environment, inl e)) one = absurd (no_fault_is_one e.fault status (side_status err.held err.failures err.old err.new First e.fault status e.reported) one)
-  has_lines_at_one (inr (environment, inr file)) one =
-      let is = second_isnt err (answer_of w.dependents (length file.packages) file.ends.answer) status file.ends.reported one in
-      (is.1, written_over false environment file is.0)
+  has_lines_at_one (inr (environment, inl own)) one =
+      let is = tried_at_one err First own.ends.answer status own.ends.reported one in
+      (is.quiet, written_own false environment own is)
+  has_lines_at_one (inr (environment, inr (other, inl e))) one = absurd (no_fault_is_one e.fault status (side_status err.held err.failures err.old err.new First e.fault status e.reported) one)
+  has_lines_at_one (inr (environment, inr (other, inr file))) one =
+      let is = tried_at_one err Second file.ends.answer status file.ends.reported one in
+      (is.quiet, written_over false environment other file is)
 
   refused_environment : EndsAtEnvironment w first second out err status → status ≡ 2 → ReportsRefusalOfUnmet w first.text second.text out.held out.old out.new (err.held err.old) (err.held err.new)
   refused_environment e two =
@@ -268,14 +248,28 @@ module _ {W E : Type 0} (w : Words) (first second : ReaderOfJob) (out : WriterOf
         reported = r.2;
       }))
 
-  refused_file : IsTrue (has_environment w) → EndsAtFile w.dependents w.versions (environment_in w) first second out err status → status ≡ 2 → ReportsRefusalOfUnmet w first.text second.text out.held out.old out.new (err.held err.old) (err.held err.new)
-  refused_file environment file two =
-      let r = second_refused err (answer_of w.dependents (length file.packages) file.ends.answer) status file.ends.reported two in
-      let is = refusal_in w.dependents (length file.packages) file.ends.answer r.0 r.1 in
-      let over = subst (λ a. AsksFile (asks_over w file.packages) second.text second.failures second.failures_after out.held out.failures out.old out.new a) is.1 file.ends.asks_file in
+  refused_own : IsTrue (has_environment w) → EndsInItself w.dependents w.versions (environment_in w) first second out err status → status ≡ 2
+      → ReportsRefusalOfUnmet w first.text second.text out.held out.old out.new (err.held err.old) (err.held err.new)
+  refused_own environment own two =
+      let r = tried_at_two err First own.ends.answer status own.ends.reported two in
+      let over = own_with own (Err (Refused r.0)) r.1 in
+      inr (inl (record {
+        environment = environment;
+        refusal = r.0;
+        is_refusal = over.refusal;
+        refused = over.refused;
+        unwritten = over.unwritten;
+        reported = r.2;
+      }))
+
+  refused_file : IsTrue (has_environment w) → IsFalse (is_index w.dependents) → EndsAtFile w.dependents w.versions (environment_in w) first second out err status → status ≡ 2
+      → ReportsRefusalOfUnmet w first.text second.text out.held out.old out.new (err.held err.old) (err.held err.new)
+  refused_file environment other file two =
+      let r = tried_at_two err Second file.ends.answer status file.ends.reported two in
+      let over = subst (λ a. AsksFile (asks_over w file.packages) second.text second.failures second.failures_after out.held out.failures out.old out.new a) r.1 file.ends.asks_file in
       inr (inr (record {
         environment = environment;
-        is_other = is.0;
+        is_other = other;
         packages = file.packages;
         lists = file.lists;
         refusal = r.0;
@@ -286,45 +280,32 @@ module _ {W E : Type 0} (w : Words) (first second : ReaderOfJob) (out : WriterOf
 
   pub refused_at_two : ReportsUnmet w first second out err status → status ≡ 2 → ReportsRefusalOfUnmet w first.text second.text out.held out.old out.new (err.held err.old) (err.held err.new)
   refused_at_two (inl e) two = refused_environment e two
-  refused_at_two (inr (environment, inl e)) two = refused_index environment e two
-  refused_at_two (inr (environment, inr file)) two = refused_file environment file two
+  refused_at_two (inr (environment, inl own)) two = refused_own environment own two
+  refused_at_two (inr (environment, inr (other, inl e))) two = refused_index environment e two
+  refused_at_two (inr (environment, inr (other, inr file))) two = refused_file environment other file two
 
   -- where a call of a device failed, the status is 3
   pub three_if_first : ReportsUnmet w first second out err status → first.failures < first.failures_after → status ≡ 3
   three_if_first (inl e) rose = let same = e.first_untouched in absurd (omega (arith, same, rose))
-  three_if_first (inr (environment, inl e)) rose =
+  three_if_first (inr (environment, inl own)) rose = tried_read err First own.ends.answer status first.failures first.failures_after own.ends.reported own.ends.asks_own.reads rose
+  three_if_first (inr (environment, inr (other, inl e))) rose =
       read_is_three e.fault first.failures first.failures_after status e.counted rose (side_status err.held err.failures err.old err.new First e.fault status e.reported)
-  three_if_first (inr (environment, inr file)) rose = let same = file.unfailed in absurd (omega (arith, same, rose))
-
-  read_answer : (answer : Result Summary Fault) → second.failures_after ≡ read_failures_after second.failures answer → second.failures < second.failures_after → answer ≡ Err Read
-  read_answer (Ok summary) counted rose = absurd (omega (arith, counted, rose))
-  read_answer (Err (Refused refusal)) counted rose = absurd (omega (arith, counted, rose))
-  read_answer (Err Memory) counted rose = absurd (omega (arith, counted, rose))
-  read_answer (Err Read) counted rose = refl
-  read_answer (Err Write) counted rose = absurd (omega (arith, counted, rose))
+  three_if_first (inr (environment, inr (other, inr file))) rose = let same = file.unfailed in absurd (omega (arith, same, rose))
 
   pub three_if_second : ReportsUnmet w first second out err status → second.failures < second.failures_after → status ≡ 3
   three_if_second (inl e) rose = let same = e.second_untouched in absurd (omega (arith, same, rose))
-  three_if_second (inr (environment, inl e)) rose = let same = e.second_untouched in absurd (omega (arith, same, rose))
-  three_if_second (inr (environment, inr file)) rose =
-      let is = read_answer file.ends.answer file.ends.asks_file.reads rose in
-      second_three err (answer_of w.dependents (length file.packages) file.ends.answer) status file.ends.reported (inl (ap (answer_of w.dependents (length file.packages)) is ∙ answer_of_read w.dependents (length file.packages)))
-
-  write_answer : (answer : Result Summary Fault) → out.failures out.new ≡ write_failures_after (out.failures out.old) answer → out.failures out.old < out.failures out.new → answer ≡ Err Write
-  write_answer (Ok summary) counted rose = absurd (omega (arith, counted, rose))
-  write_answer (Err (Refused refusal)) counted rose = absurd (omega (arith, counted, rose))
-  write_answer (Err Memory) counted rose = absurd (omega (arith, counted, rose))
-  write_answer (Err Read) counted rose = absurd (omega (arith, counted, rose))
-  write_answer (Err Write) counted rose = refl
+  three_if_second (inr (environment, inl own)) rose = let same = own.second_untouched in absurd (omega (arith, same, rose))
+  three_if_second (inr (environment, inr (other, inl e))) rose = let same = e.second_untouched in absurd (omega (arith, same, rose))
+  three_if_second (inr (environment, inr (other, inr file))) rose = tried_read err Second file.ends.answer status second.failures second.failures_after file.ends.reported file.ends.asks_file.reads rose
 
   pub three_if_out : ReportsUnmet w first second out err status → out.failures out.old < out.failures out.new → status ≡ 3
   three_if_out (inl e) rose = let same = ap out.failures e.unwritten in absurd (omega (arith, same, rose))
-  three_if_out (inr (environment, inl e)) rose = let same = ap out.failures e.unwritten in absurd (omega (arith, same, rose))
-  three_if_out (inr (environment, inr file)) rose =
-      let is = write_answer file.ends.answer file.ends.asks_file.writes rose in
-      second_three err (answer_of w.dependents (length file.packages) file.ends.answer) status file.ends.reported (inr (ap (answer_of w.dependents (length file.packages)) is ∙ answer_of_write w.dependents (length file.packages)))
+  three_if_out (inr (environment, inl own)) rose = tried_write err First own.ends.answer status (out.failures out.old) (out.failures out.new) own.ends.reported own.ends.asks_own.writes rose
+  three_if_out (inr (environment, inr (other, inl e))) rose = let same = ap out.failures e.unwritten in absurd (omega (arith, same, rose))
+  three_if_out (inr (environment, inr (other, inr file))) rose = tried_write err Second file.ends.answer status (out.failures out.old) (out.failures out.new) file.ends.reported file.ends.asks_file.writes rose
 
   pub three_if_err : ReportsUnmet w first second out err status → err.failures err.old < err.failures err.new → status ≡ 3
   three_if_err (inl e) rose = err_is_three err.held err.failures err.old err.new e.fault status e.reported rose
-  three_if_err (inr (environment, inl e)) rose = side_err_is_three err.held err.failures err.old err.new First e.fault status e.reported rose
-  three_if_err (inr (environment, inr file)) rose = second_err err (answer_of w.dependents (length file.packages) file.ends.answer) status file.ends.reported rose
+  three_if_err (inr (environment, inl own)) rose = tried_err err First own.ends.answer status own.ends.reported rose
+  three_if_err (inr (environment, inr (other, inl e))) rose = side_err_is_three err.held err.failures err.old err.new First e.fault status e.reported rose
+  three_if_err (inr (environment, inr (other, inr file))) rose = tried_err err Second file.ends.answer status file.ends.reported rose

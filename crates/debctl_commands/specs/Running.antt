@@ -1,7 +1,7 @@
 -- What a whole command answers and writes, by its job. The jobs and their statuses are this
 -- project's own.
 use Rattle.std.specs.Prelude.{◌≡◌, ◌⊎◌, ℕ, ⊤, Bool, true, false, List, map, Option, Some, None}
-use Rattle.std.specs.Prelude.{IsFalse, Result, String, Vec, string_bytes, codes, refl}
+use Rattle.std.specs.Prelude.{IsFalse, IsTrue, Result, String, Vec, string_bytes, codes, refl}
 use Rattle.std.specs.Io.KnownBytes.{Appends}
 use Rattle.std.specs.declared.alloc.Global.{Global}
 use Rattle.deb_base.specs.Lines.{refusal_line}
@@ -28,7 +28,7 @@ use Rattle.debctl_commands.specs.SameJob.{ComparesFiles, ReportsComparison, Repo
 use Rattle.debctl_commands.specs.SameJob.{WritesSame}
 use Rattle.debctl_commands.specs.SortJob.{ReportsLineRefusal}
 use Rattle.debctl_commands.specs.UnmetJob.{AreRefusedBefore, ReportsRefusalOfUnmet, ReportsUnmet}
-use Rattle.debctl_commands.specs.UnmetJob.{Words, WritesUnmetOf, has_environment, words}
+use Rattle.debctl_commands.specs.UnmetJob.{Words, WritesUnmetOf, has_environment, is_index, words}
 use Rattle.debctl_commands.specs.JobDevices.{ReaderOfJob, WriterOfJob, ReportsOn}
 use Rattle.debctl_commands.specs.Reporting.{done_status}
 use Rattle.debctl_commands.specs.WholeJob.{ChecksWhole, ReportsAnswered, ReportsLack, WritesWhole}
@@ -259,8 +259,8 @@ IfCompare (Query arch profiles relation detail versions) P = Unit {0}
 IfCompare (QueryFrom arch profiles detail versions) P = Unit {0}
 IfCompare (Unmet arch profiles dependents versions) P = Unit {0}
 
--- Every job but `same`, `diff`, `query --relation-from` and `unmet` leaves the second reader as it
--- was.
+-- Every job but `same`, `diff`, `query --relation-from` and an `unmet` of another file than the
+-- index leaves the second reader as it was.
 abbrev pub IfSecondUnread : Job → Type 0 → Type 0
 IfSecondUnread (Check doc) P = P
 IfSecondUnread (CheckAll doc) P = P
@@ -274,7 +274,7 @@ IfSecondUnread (VersionKey versions) P = P
 IfSecondUnread (Sort reverse) P = P
 IfSecondUnread (Query arch profiles relation detail versions) P = P
 IfSecondUnread (QueryFrom arch profiles detail versions) P = Unit {0}
-IfSecondUnread (Unmet arch profiles dependents versions) P = Unit {0}
+IfSecondUnread (Unmet arch profiles dependents versions) P = IsTrue (is_index dependents) → P
 
 -- A query or `unmet` whose words are refused leaves the first reader as it was.
 abbrev pub IfRefusedWords : Job → Type 0 → Type 0
@@ -438,11 +438,13 @@ said_of_query_from : (doc : Doc) (arch : String Global) (detail : Detail) (versi
     × (IfRefusedRelation (Same doc) left P ≡ Unit {0})
 said_of_query_from doc arch detail versions profiles left P = (refl, refl, refl, refl, refl, refl)
 
--- what is said of `unmet`: it reads both files, the second after the words and the index
+-- what is said of `unmet`: it reads both files, the second, if the index isn't tried itself, after
+-- the words and the index
 said_of_unmet : (arch : String Global) (profiles : Vec (String Global) Global)
     (dependents : Dependents) (versions : VersionText) (left : Option (List ℕ)) (P : Type 0)
     → (IfUnread (Unmet arch profiles dependents versions) P ≡ Unit {0})
-    × (IfSecondUnread (Unmet arch profiles dependents versions) P ≡ Unit {0})
+    × (IfSecondUnread (Unmet arch profiles dependents versions) P
+    ≡ (IsTrue (is_index dependents) → P))
     × (IfCompare (Unmet arch profiles dependents versions) P ≡ Unit {0})
     × (IfRefusedWords (Unmet arch profiles dependents versions) P
     ≡ (IsFalse (has_environment (words_of_unmet arch profiles dependents versions)) → P))

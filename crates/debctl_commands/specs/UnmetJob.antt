@@ -1,19 +1,17 @@
 -- What the job of `unmet` answers and reports. Its lines are those of `deb_unmet`; the order of
--- refusals, and what another reading of the index has to give, are this project's own.
-use Rattle.std.specs.Prelude.{◌≡◌, ◌⊎◌, ◌++◌, ◌==◌, ℕ, ⊤, Bool, true, false, List, [], ◌∷◌}
-use Rattle.std.specs.Prelude.{length, map, String, string_bytes}
+-- refusals is this project's own.
+use Rattle.std.specs.Prelude.{◌≡◌, ◌⊎◌, ◌++◌, ℕ, ⊤, Bool, true, false, List, [], ◌∷◌}
+use Rattle.std.specs.Prelude.{map, String, string_bytes}
 use Rattle.std.specs.declared.alloc.Global.{Global}
 use Rattle.std.proofs.Common.{ap}
-use Rattle.std.specs.Prelude.{Option, Some, Result, Ok, Err, IfOk, IsTrue, IsFalse, codes, refl}
-use Rattle.std.specs.Prelude.{if◌then◌else◌}
+use Rattle.std.specs.Prelude.{Option, Some, None, Result, Ok, Err, IfOk, IfErr, IsTrue, IsFalse}
+use Rattle.std.specs.Prelude.{if◌then◌else◌, codes, refl}
 use Rattle.std.specs.Io.KnownBytes.{Appends}
 use Rattle.deb_base.specs.Devices.{read_failures_after, write_failures_after}
 use Rattle.deb_base.specs.Faults.{IsReadersFault, RefusedOrMemory}
 use Rattle.deb_base.specs.Lines.{refusal_line}
-use Rattle.deb_base.specs.declared.code.Code.TheVariants.{NoParagraph}
 use Rattle.deb_base.specs.declared.doc.Doc.TheVariants as docs
 use Rattle.deb_base.specs.declared.fault.Fault.{Fault}
-use Rattle.deb_base.specs.declared.fault.Fault.TheVariants as faults
 use Rattle.deb_base.specs.declared.refusal.Refusal.{Refusal}
 use Rattle.deb_base.specs.declared.version_text.VersionText.{VersionText}
 use Rattle.deb_base.specs.declared.version_text.VersionText.TheVariants.{Spelled}
@@ -23,6 +21,7 @@ use Rattle.deb_relation.specs.Targets.{is_environment}
 use Rattle.deb_control.specs.Calls.{IfCutOff, IfRefused, IfWriteFailed}
 use Rattle.deb_control.specs.Checking.{IsRefusalOfDocument}
 use Rattle.deb_control.specs.Documents.{refusal_of}
+use Rattle.deb_control.specs.declared.side.Side.{Side}
 use Rattle.deb_control.specs.declared.side.Side.TheVariants.{First, Second}
 use Rattle.deb_index.specs.Listed.{Listed}
 use Rattle.deb_index.specs.Listing.{ListsAll}
@@ -30,6 +29,7 @@ use Rattle.deb_index.specs.Questions.{bad_environment}
 use Rattle.deb_unmet.specs.Asked.{request_for}
 use Rattle.deb_unmet.specs.Asking.{asks_of}
 use Rattle.deb_unmet.specs.Files.{Asks, WritesRead, WritesRefused, WritesSome, WritesUnmet}
+use Rattle.deb_unmet.specs.Own.{StopsOwn, WritesOwn}
 use Rattle.deb_unmet.specs.declared.asked.Asked.{Asked}
 use Rattle.deb_unmet.specs.declared.asked.Asked.TheVariants as fields
 use Rattle.deb_unmet.specs.declared.asked.Request.{Request}
@@ -92,6 +92,10 @@ is_index (Binary strength) = false
 is_index Sources = false
 is_index Source = false
 
+-- the text whose lines are written: that of the index, or of the second file
+abbrev pub text_tried : Dependents → Option (List ℕ) → Option (List ℕ) → Option (List ℕ)
+text_tried dependents left other = if is_index dependents then left else other
+
 -- what the arguments ask of a file, over the packages of the index
 abbrev pub environment_in : Words → Environment
 environment_in w = environment_with w.target w.profiles
@@ -123,28 +127,24 @@ pub record AsksFile {W : Type 0} (asks : Asks) (left : Option (List ℕ))
   pub reads : count_after ≡ read_failures_after count answer
   pub writes : failures new ≡ write_failures_after (failures old) answer
 
--- what it comes to: whether no line was written
-abbrev pub is_empty_in : Result Summary Fault → Result Bool Fault
-is_empty_in (Ok summary) = Ok summary.is_empty
-is_empty_in (Err fault) = Err fault
+-- The same of `unmet_in_itself`, for an index in itself.
+pub record AsksOwn {W : Type 0} (strength : Fields) (versions : VersionText)
+    (environment : Environment) (left : Option (List ℕ)) (count count_after : ℕ)
+    (held : W → Option (List ℕ)) (failures : W → ℕ) (old new : W)
+    (answer : Result Summary Fault) : Type 0 where
+  pub ok : (text : List ℕ) → left ≡ Some text → IfOk answer (λ summary. WritesOwn strength
+      versions environment text summary (held old) (held new))
+  pub refused : (text : List ℕ) → left ≡ Some text →
+      IfRefused answer (λ refusal. refusal_of docs.Packages text ≡ Some refusal)
+  pub stopped : (text : List ℕ) → left ≡ Some text → IfErr answer (λ _. StopsOwn strength versions
+      environment text (held old) (held new))
+  pub unwritten : IfRefused answer (λ _. new ≡ old)
+  pub refusal : IfRefused answer IsRefusalOfDocument
+  pub reads : count_after ≡ read_failures_after count answer
+  pub writes : failures new ≡ write_failures_after (failures old) answer
 
--- A file that is read again has this number of paragraphs, as the first time; else it can't be read
--- twice, as a pipe.
-abbrev pub again : ℕ → Result Summary Fault → Result Bool Fault
-again count (Ok summary) =
-    if summary.paragraphs == count then Ok summary.is_empty else Err faults.Read
-again count (Err (faults.Refused refusal)) = Err faults.Read
-again count (Err faults.Memory) = Err faults.Memory
-again count (Err faults.Read) = Err faults.Read
-again count (Err faults.Write) = Err faults.Write
-
--- the answer to the job, over an index of this number of packages
-abbrev pub answer_of : Dependents → ℕ → Result Summary Fault → Result Bool Fault
-answer_of dependents count answer =
-    if is_index dependents then again count answer else is_empty_in answer
-
--- The environment is good, the files are accepted, exactly the lines of the second were written,
--- and the answer is whether there is none.
+-- The environment is good, the files are accepted, exactly the lines of the text were written, and
+-- the answer is whether there is none.
 pub record WritesOver (w : Words) (index text : List ℕ) (old new : Option (List ℕ))
     (is_empty : Bool) : Type 0 where
   pub environment : IsTrue (has_environment w)
@@ -153,13 +153,12 @@ pub record WritesOver (w : Words) (index text : List ℕ) (old new : Option (Lis
   pub summary : Summary
   pub written : WritesUnmet (asks_over w packages) text summary old new
   pub is : summary.is_empty ≡ is_empty
-  pub count : IsTrue (is_index w.dependents) → summary.paragraphs ≡ length packages
 
--- The same, where the texts of both readers are known.
+-- The same, where the texts of the index and of the file that is tried are known.
 abbrev pub WritesUnmetOf : Words → Option (List ℕ) → Option (List ℕ) → Option (List ℕ)
     → Option (List ℕ) → Bool → Type 0
 WritesUnmetOf w left other old new is_empty =
-    (index text : List ℕ) → left ≡ Some index → other ≡ Some text
+    (index text : List ℕ) → left ≡ Some index → text_tried w.dependents left other ≡ Some text
     → WritesOver w index text old new is_empty
 
 -- ---- refusals
@@ -214,13 +213,12 @@ AreRefusedBefore w left = IsFalse (has_environment w) ⊎ IsRefusedIndex left
 
 -- ---- reporting
 
--- An answer of the second file is reported by its status, a fault by its line with the side.
-abbrev pub ReportsSecond : {E : Type 0} → WriterOfJob E → Result Bool Fault → ℕ → Type 0
-ReportsSecond err (Ok is_empty) status =
-    (status ≡ verdict_status is_empty) × (err.new ≡ err.old)
-ReportsSecond err (Err fault) status =
-    ReportsSide err.held err.failures err.old err.new (record { side = Second; fault = fault })
-    status
+-- An answer of the file of a side is reported by its status, a fault by its line with the side.
+abbrev pub ReportsTried : {E : Type 0} → WriterOfJob E → Side → Result Summary Fault → ℕ → Type 0
+ReportsTried err side (Ok summary) status =
+    (status ≡ verdict_status summary.is_empty) × (err.new ≡ err.old)
+ReportsTried err side (Err fault) status =
+    ReportsSide err.held err.failures err.old err.new (record { side = side; fault = fault }) status
 
 -- The environment is refused, or out of memory: no file was read, and nothing was written to `out`.
 pub record EndsAtEnvironment {W E : Type 0} (w : Words) (first second : ReaderOfJob)
@@ -254,7 +252,7 @@ pub record EndsOver {W E : Type 0} (dependents : Dependents) (versions : Version
   pub answer : Result Summary Fault
   pub asks_file : AsksFile (asks_of (request_of dependents versions) environment packages)
       second.text second.failures second.failures_after out.held out.failures out.old out.new answer
-  pub reported : ReportsSecond err (answer_of dependents (length packages) answer) ended
+  pub reported : ReportsTried err Second answer ended
 
 -- The index was read, and the second file has an answer over its packages.
 pub record EndsAtFile {W E : Type 0} (dependents : Dependents) (versions : VersionText)
@@ -266,11 +264,37 @@ pub record EndsAtFile {W E : Type 0} (dependents : Dependents) (versions : Versi
     pub unfailed : first.failures_after ≡ first.failures
     pub ends : EndsOver dependents versions environment packages second out err ended
 
+abbrev pub EndsBeside : {W E : Type 0} → Dependents → VersionText → Environment → ReaderOfJob
+    → ReaderOfJob → WriterOfJob W → WriterOfJob E → ℕ → Type 0
+EndsBeside dependents versions environment first second out err status =
+    EndsAtIndex first second out err status
+    ⊎ EndsAtFile dependents versions environment first second out err status
+
+-- The index in itself has an answer, which is reported.
+pub record EndsOwn {W E : Type 0} (strength : Strength) (versions : VersionText)
+    (environment : Environment) (first : ReaderOfJob) (out : WriterOfJob W) (err : WriterOfJob E)
+    (ended : ℕ) : Type 0 where
+  pub answer : Result Summary Fault
+  pub asks_own : AsksOwn (fields_tried strength) versions environment first.text first.failures
+      first.failures_after out.held out.failures out.old out.new answer
+  pub reported : ReportsTried err First answer ended
+
+-- The same, where the arguments ask that: no second file was read.
+pub record EndsInItself {W E : Type 0} (dependents : Dependents) (versions : VersionText)
+    (environment : Environment) (first second : ReaderOfJob) (out : WriterOfJob W)
+    (err : WriterOfJob E) (ended : ℕ) : Type 0
+  where
+    pub strength : Strength
+    pub is : dependents ≡ Index strength
+    pub second_untouched : second.failures_after ≡ second.failures
+    pub ends : EndsOwn strength versions environment first out err ended
+
 abbrev pub EndsInEnvironment : {W E : Type 0} → Dependents → VersionText → Environment
     → ReaderOfJob → ReaderOfJob → WriterOfJob W → WriterOfJob E → ℕ → Type 0
 EndsInEnvironment dependents versions environment first second out err status =
-    EndsAtIndex first second out err status
-    ⊎ EndsAtFile dependents versions environment first second out err status
+    EndsInItself dependents versions environment first second out err status
+    ⊎ (IsFalse (is_index dependents)
+    × EndsBeside dependents versions environment first second out err status)
 
 abbrev pub ReportsUnmet : {W E : Type 0} → Words → ReaderOfJob → ReaderOfJob → WriterOfJob W
     → WriterOfJob E → ℕ → Type 0
@@ -289,22 +313,25 @@ kinds_tried : (asked_of (Index Recommends) ≡ fields.Packages fields_of.Recomme
     × (request_of Sources Spelled ≡ record { asked = fields.Sources; versions = Spelled })
 kinds_tried = (refl, refl, refl, refl, refl, refl)
 
--- the index read again: the same number of paragraphs, another, and none, as of a pipe
-readings_of_an_index : (answer_of (Index Depends) 3
-    (Ok (record { paragraphs = 3; is_empty = false })) ≡ Ok false)
-    × (answer_of (Index Depends) 3 (Ok (record { paragraphs = 2; is_empty = true }))
-    ≡ Err faults.Read)
-    × (answer_of (Index Depends) 3
-    (Err (faults.Refused (record { code = NoParagraph; line = 1 }))) ≡ Err faults.Read)
-readings_of_an_index = (refl, refl, refl)
+-- over these packages
+asked_over_packages : (packages : List Listed)
+    → asks_over (words (codes "amd64") [] (Index Recommends) Spelled) packages
+    ≡ record {
+      asked = fields.Packages fields_of.Recommends;
+      versions = Spelled;
+      environment = environment_with (codes "amd64") [];
+      packages = packages;
+    }
+asked_over_packages packages = refl
 
--- another file may have any number of paragraphs, and its refusal is reported
-readings_of_another_file : (answer_of Sources 3
-    (Ok (record { paragraphs = 2; is_empty = true })) ≡ Ok true)
-    × (answer_of (Packages Depends) 3
-    (Err (faults.Refused (record { code = NoParagraph; line = 1 })))
-    ≡ Err (faults.Refused (record { code = NoParagraph; line = 1 })))
-readings_of_another_file = (refl, refl)
+-- the lines are those of the index, whatever the second reader has, or of the second file
+texts_tried : (text_tried (Index Depends) (Some (codes "a")) None ≡ Some (codes "a"))
+    × (text_tried (Index Recommends) None (Some (codes "b")) ≡ None)
+    × (text_tried (Packages Depends) (Some (codes "a")) (Some (codes "b")) ≡ Some (codes "b"))
+    × (text_tried (Binary Depends) (Some (codes "a")) (Some (codes "b")) ≡ Some (codes "b"))
+    × (text_tried Sources (Some (codes "a")) (Some (codes "b")) ≡ Some (codes "b"))
+    × (text_tried Source (Some (codes "a")) None ≡ None)
+texts_tried = (refl, refl, refl, refl, refl, refl)
 
 words_in_order : words (codes "amd64") (codes "nocheck" ∷ []) Source Spelled
     ≡ record {

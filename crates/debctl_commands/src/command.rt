@@ -29,11 +29,11 @@ use std::alloc::Global;
 /// `check`, `normalise`, `sort` and `query` read `first`, and `same` reads both. `diff` reads the
 /// old file from `first`, and then the new one from `second`. `query` with a relation from a file
 /// reads the relation from `first`, and then the index from `second`. `unmet` reads the index from
-/// `first`, and then the file from `second`. A reader that a job doesn't use is unchanged. So is
-/// that of the index if the arguments of a `query`, or the relation that it has read, are refused;
-/// and so are both of an `unmet` if its arguments are refused, and the second if the index is, or
-/// the old file of a `diff`. At most 4,295,032,831 bytes are read from a reader: a file of the most
-/// bytes, and one piece.
+/// `first`, and then the file, if it isn't the index, from `second`. A reader that a job doesn't
+/// use is unchanged. So is that of the index if the arguments of a `query`, or the relation that it
+/// has read, are refused; and so are both of an `unmet` if its arguments are refused, and the
+/// second if the index is, or the old file of a `diff`. At most 4,295,032,831 bytes are read from a
+/// reader: a file of the most bytes, and one piece.
 ///
 /// - 0: done, or the answer is yes. `out` has `ok N` and a newline, with `--all` `ok N, 0 refused`
 ///   and a newline, the canonical text of the file, `same` and a newline, nothing, the canonical
@@ -44,14 +44,13 @@ use std::alloc::Global;
 ///   and the lines for `diff` and `unmet`; nothing else was written.
 /// - 2: a file or an argument is refused. `err` has the refusal's line, after `first: ` or `second:
 ///   ` for a file of `same`, `diff` or `unmet`. `out` has nothing, except for `normalise` and
-///   `unmet`: the canonical text, or the lines, of the paragraphs before the first that fails. For
-///   `check --all` `out` has all lines of the file instead, and nothing was written to `err`. For
-///   `check` with demands also: the file is accepted and doesn't meet them, and `err` has the line
-///   that says so.
+///   `unmet` of a second file: the canonical text, or the lines, of the paragraphs before the first
+///   that fails. For `check --all` `out` has all lines of the file instead, and nothing was written
+///   to `err`. For `check` with demands also: the file is accepted and doesn't meet them, and `err`
+///   has the line that says so.
 /// - 3: out of memory, or a read or a write failed; for `compare` only a write to `err`. `err` has
 ///   `fault: memory`, `fault: read` or `fault: write`; if a write to `err` failed, a prefix of its
-///   line. For an `unmet` of the index itself also: its second reading has another number of
-///   paragraphs than the first.
+///   line.
 pub fn run<R: Source, S: Source, W: Sink, E: Sink>(
     alloc: Global,
     job: &Job,

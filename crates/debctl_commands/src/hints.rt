@@ -37,8 +37,6 @@ pub(crate) enum About {
     /// The refused file of a job that reads two.
     First,
     Second,
-    /// A failed read, or an index that was another one when it was read again.
-    Read,
     /// Anything else.
     Other,
 }
@@ -61,8 +59,6 @@ pub(crate) fn subject_of(line: &[u8]) -> About {
         About::First
     } else if line.starts_with(b"second: ") {
         About::Second
-    } else if line.starts_with(b"fault: read") {
-        About::Read
     } else {
         About::Other
     }
@@ -168,23 +164,8 @@ fn put_argument<E: Sink>(job: &Job, about: About, err: &mut E) -> Result<(), Fau
             err,
             b"debctl: --arch or --profiles is refused: debctl explain --code BadEnvironment\n",
         ),
-        About::Read if is_read_twice(job) => put_all(
-            err,
-            b"debctl: a read failed, or the index changed between two readings, as a pipe does\n",
-        ),
         _ => Ok(()),
     }
-}
-
-/// Whether a job reads its index twice.
-fn is_read_twice(job: &Job) -> bool {
-    matches!(
-        job,
-        Job::Unmet {
-            dependents: Dependents::Index(_),
-            ..
-        }
-    )
 }
 
 /// Writes which version among the arguments of a job is refused.

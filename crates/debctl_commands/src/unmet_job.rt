@@ -1,18 +1,15 @@
 //! The job on an index and a file whose groups are tried: `unmet`.
 
-ghost use Rattle.std.specs.Prelude.{◌≡◌, ◌<◌, ◌⊎◌, true, false, length, map, string_bytes, Result};
-ghost use Rattle.std.specs.Prelude.{IfErr, IfOk, IsFalse};
-ghost use Rattle.deb_base.specs.declared.fault.Fault.{Fault};
+ghost use Rattle.std.specs.Prelude.{◌≡◌, ◌<◌, ◌⊎◌, true, false, map, string_bytes};
+ghost use Rattle.std.specs.Prelude.{IfErr, IfOk, IsFalse, IsTrue};
 ghost use Rattle.deb_index.specs.Indexes.{packages_of};
 ghost use Rattle.deb_index.specs.Questions.{MakesEnvironment};
 ghost use Rattle.deb_relation.specs.Environments.{environment_of};
-ghost use Rattle.deb_unmet.specs.Asking.{asks_of};
-ghost use Rattle.deb_unmet.specs.declared.asking.Summary.{Summary};
 ghost use Rattle.debctl_commands.specs.JobDevices.{reader_of, writer_of};
 ghost use Rattle.debctl_commands.specs.Taking.{TakesFile};
-ghost use Rattle.debctl_commands.specs.UnmetJob.{again, answer_of, asked_of, fields_tried, has_environment, is_empty_in, request_of};
-ghost use Rattle.debctl_commands.specs.UnmetJob.{AreRefusedBefore, AsksFile, EndsInEnvironment, EndsOver, IsRefusedIndex};
-ghost use Rattle.debctl_commands.specs.UnmetJob.{ReportsRefusalOfUnmet, ReportsUnmet, WritesUnmetOf, words_of};
+ghost use Rattle.debctl_commands.specs.UnmetJob.{asked_of, fields_tried, has_environment, is_index, request_of, words_of};
+ghost use Rattle.debctl_commands.specs.UnmetJob.{AreRefusedBefore, EndsBeside, EndsInEnvironment, EndsOver, EndsOwn, IsRefusedIndex};
+ghost use Rattle.debctl_commands.specs.UnmetJob.{ReportsRefusalOfUnmet, ReportsTried, ReportsUnmet, WritesUnmetOf};
 
 use crate::query_job::names_of;
 use crate::reporting::{report_fault, report_side};
@@ -20,7 +17,7 @@ use deb_base::{Code, Fault, Refusal, Sink, Source, VersionText};
 use deb_control::{Side, SideFault};
 use deb_index::Index;
 use deb_relation::{Env, EnvFault};
-use deb_unmet::{Asked, Request, Summary, unmet};
+use deb_unmet::{Asked, Request, Summary, unmet, unmet_in_itself};
 use debctl_args::{Dependents, Strength};
 use std::alloc::Global;
 
@@ -42,16 +39,17 @@ struct Asking<'a> {
 }
 
 /// Writes to `out` a line for each group of a file that no package of an index meets, or may not
-/// meet, and returns the status. `first` reads the index, and `second` the file.
+/// meet, and returns the status. `first` reads the index, and `second` the file; if the file is the
+/// index itself, `second` isn't used.
 ///
 /// - 0 and 1: both files are accepted. No line was written, or some were, and nothing to `err`.
 /// - 2: the target or a profile, the index or the file is refused, in this order. `err` has the
 ///   refusal's line, after `first: ` or `second: ` for a file. `out` has the lines of the
-///   paragraphs of the file before the first that fails. No reader is asked before the target and
-///   the profiles are good, nor the second before the index is accepted.
-/// - 3: out of memory, a read failed, or a write failed; or the file is the index, and its second
-///   reading has another number of paragraphs than the first, which is reported as a failed read.
-///   `err` has the fault's line; if a write to `err` failed, a prefix of its line.
+///   paragraphs of the file before the first that fails, and nothing if the file is the index. No
+///   reader is asked before the target and the profiles are good, nor the second before the index
+///   is accepted.
+/// - 3: out of memory, a read failed, or a write failed. `err` has the fault's line; if a write to
+///   `err` failed, a prefix of its line.
 pub(crate) fn run_unmet<R: Source, S: Source, W: Sink, E: Sink>(
     alloc: Global,
     words: &UnmetWords<'_>,
@@ -74,6 +72,8 @@ pub(crate) fn run_unmet<R: Source, S: Source, W: Sink, E: Sink>(
     ensures first_untouched_if_refused { IsFalse (has_environment (words_of words.now))
         → first.new ≡ first.old }
     ensures second_untouched_if_refused { AreRefusedBefore (words_of words.now) (R.left first.old)
+        → second.new ≡ second.old }
+    ensures second_untouched_if_index { IsTrue (is_index words.now.dependents)
         → second.new ≡ second.old }
 
     // Where a call of a device failed, the status is 3.
@@ -122,7 +122,7 @@ fn parse_environment(alloc: Global, target: &str, profiles: &[String]) -> Result
     }
 }
 
-/// Reads the index, and tries the groups of the file.
+/// Tries the groups of the file, or of the index itself.
 fn run_in_environment<R: Source, S: Source, W: Sink, E: Sink>(
     alloc: Global,
     asking: &Asking<'_>,
@@ -132,6 +132,59 @@ fn run_in_environment<R: Source, S: Source, W: Sink, E: Sink>(
     err: &mut E,
 ) -> u8
     ensures ends { EndsInEnvironment asking.now.dependents asking.now.versions
+        (environment_of asking.now.environment.now)
+        (reader_of (R.left first.old) (R.failures first.old) (R.failures first.new))
+        (reader_of (S.left second.old) (S.failures second.old) (S.failures second.new))
+        (writer_of W.held W.failures out.old out.new)
+        (writer_of E.held E.failures err.old err.new) result }
+    ensures reads_at_most { TakesFile (R.left first.old) (R.left first.new) }
+    ensures second_reads_at_most { TakesFile (S.left second.old) (S.left second.new) }
+    ensures second_untouched_if_refused { IsRefusedIndex (R.left first.old)
+        → second.new ≡ second.old }
+    ensures second_untouched_if_index { IsTrue (is_index asking.now.dependents)
+        → second.new ≡ second.old }
+{
+    match asking.dependents {
+        Dependents::Index(strength) => run_in_itself(alloc, asking, strength, first, out, err),
+        Dependents::Packages(_)
+        | Dependents::Binary(_)
+        | Dependents::Sources
+        | Dependents::Source => { run_beside(alloc, asking, first, second, out, err) }
+    }
+}
+
+/// Tries the groups of the index itself.
+fn run_in_itself<R: Source, W: Sink, E: Sink>(
+    alloc: Global,
+    asking: &Asking<'_>,
+    strength: Strength,
+    first: &mut R,
+    out: &mut W,
+    err: &mut E,
+) -> u8
+    ensures ends { EndsOwn strength asking.now.versions
+        (environment_of asking.now.environment.now)
+        (reader_of (R.left first.old) (R.failures first.old) (R.failures first.new))
+        (writer_of W.held W.failures out.old out.new)
+        (writer_of E.held E.failures err.old err.new) result }
+    ensures reads_at_most { TakesFile (R.left first.old) (R.left first.new) }
+{
+    let strength = fields_tried(strength);
+    let versions = asking.versions;
+    let answer = unmet_in_itself(alloc, asking.environment, strength, versions, first, out);
+    report_tried(Side::First, answer, err)
+}
+
+/// Reads the index, and tries the groups of the file.
+fn run_beside<R: Source, S: Source, W: Sink, E: Sink>(
+    alloc: Global,
+    asking: &Asking<'_>,
+    first: &mut R,
+    second: &mut S,
+    out: &mut W,
+    err: &mut E,
+) -> u8
+    ensures ends { EndsBeside asking.now.dependents asking.now.versions
         (environment_of asking.now.environment.now)
         (reader_of (R.left first.old) (R.failures first.old) (R.failures first.new))
         (reader_of (S.left second.old) (S.failures second.old) (S.failures second.new))
@@ -171,38 +224,19 @@ fn run_over<S: Source, W: Sink, E: Sink>(
         (writer_of E.held E.failures err.old err.new) result }
     ensures reads_at_most { TakesFile (S.left second.old) (S.left second.new) }
 {
-    match write_unmet(alloc, index, asking, second, out) {
-        Ok(true) => 0,
-        Ok(false) => 1,
-        Err(fault) => report_side(
-            SideFault {
-                side: Side::Second,
-                fault,
-            },
-            err,
-        ),
-    }
-}
-
-/// Writes the lines of the file, and returns whether there is none.
-fn write_unmet<S: Source, W: Sink>(
-    alloc: Global,
-    index: &Index,
-    asking: &Asking<'_>,
-    second: &mut S,
-    out: &mut W,
-) -> Result<bool, Fault>
-    ensures answers { (answer : Result Summary Fault)
-        × AsksFile (asks_of (request_of asking.now.dependents asking.now.versions)
-        (environment_of asking.now.environment.now) (packages_of index.now))
-        (S.left second.old) (S.failures second.old) (S.failures second.new)
-        W.held W.failures out.old out.new answer
-        × (result ≡ answer_of asking.now.dependents (length (packages_of index.now)) answer) }
-    ensures reads_at_most { TakesFile (S.left second.old) (S.left second.new) }
-{
     let request = request_of(asking.dependents, asking.versions);
     let answer = unmet(alloc, index, asking.environment, request, second, out);
-    answer_of(asking.dependents, index.len(), answer)
+    report_tried(Side::Second, answer, err)
+}
+
+/// Reports the answer of the file of a side, and returns the status.
+fn report_tried<E: Sink>(side: Side, answer: Result<Summary, Fault>, err: &mut E) -> u8
+    ensures { ReportsTried (writer_of E.held E.failures err.old err.new) side answer result }
+{
+    match answer {
+        Ok(summary) => { if summary.is_empty { 0 } else { 1 } }
+        Err(fault) => report_side(SideFault { side, fault }, err),
+    }
 }
 
 /// Which fields of which kind of file are tried, and which text of versions lines have.
@@ -235,50 +269,5 @@ fn fields_tried(strength: Strength) -> deb_unmet::Strength
     match strength {
         Strength::Depends => deb_unmet::Strength::Depends,
         Strength::Recommends => deb_unmet::Strength::Recommends,
-    }
-}
-
-/// Returns whether no line was written, after a reading of the file over an index of `count`
-/// packages.
-fn answer_of(
-    dependents: Dependents,
-    count: usize,
-    answer: Result<Summary, Fault>,
-) -> Result<bool, Fault>
-    ensures { result ≡ answer_of dependents count answer }
-{
-    match dependents {
-        Dependents::Index(_) => again(count, answer),
-        Dependents::Packages(_)
-        | Dependents::Binary(_)
-        | Dependents::Sources
-        | Dependents::Source => { is_empty_in(answer) }
-    }
-}
-
-/// The same, where the file is the index: its second reading has as many paragraphs as the first,
-/// or it can't be read twice, as a pipe.
-fn again(count: usize, answer: Result<Summary, Fault>) -> Result<bool, Fault>
-    ensures { result ≡ again count answer }
-{
-    match answer {
-        Ok(summary) => {
-            if summary.paragraphs == count as u64 {
-                Ok(summary.is_empty)
-            } else {
-                Err(Fault::Read)
-            }
-        }
-        Err(Fault::Refused(_)) => Err(Fault::Read),
-        Err(fault) => Err(fault),
-    }
-}
-
-fn is_empty_in(answer: Result<Summary, Fault>) -> Result<bool, Fault>
-    ensures { result ≡ is_empty_in answer }
-{
-    match answer {
-        Ok(summary) => Ok(summary.is_empty),
-        Err(fault) => Err(fault),
     }
 }
