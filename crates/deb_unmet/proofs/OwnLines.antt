@@ -1,16 +1,18 @@
 -- What is known of the lines of an index in itself that were written so far, and at their end.
-use Rattle.std.proofs.Common.{◌≡◌, ℕ, ◌+◌, ◌<◌, ◌≤◌, Bool, true, ◌&&◌, List, [], ◌∷◌, ◌++◌, drop, get_or, length, Option, Ok, Err, refl, sym, ap, ◌∙◌, subst, append_assoc, append-nil, length-append, arith, drop_of_length-le}
+use Rattle.std.proofs.Common.{◌≡◌, ℕ, ◌+◌, ◌<◌, ◌≤◌, Bool, true, ◌&&◌, List, [], ◌∷◌, ◌++◌, drop, get_or, length, Option, Result, Ok, Err, refl, sym, ap, ◌∙◌, subst, append_assoc, append-nil, length-append, arith, drop_of_length-le}
 use Rattle.std.proofs.KnownBytes.{Appends-nil}
 use Rattle.std.proofs.lemmas.List.{drop_more}
 use Rattle.std.specs.Io.KnownBytes.{Appends}
-use Rattle.deb_base.specs.Devices.{AppendsFront}
+use Rattle.deb_base.specs.Devices.{AppendsFront, WriteFaultIffFailed, read_failures_after, write_failures_after}
 use Rattle.deb_base.specs.declared.fault.Fault.{Fault}
 use Rattle.deb_base.specs.declared.fault.Fault.TheVariants.{Refused, Memory, Read, Write}
 use Rattle.deb_base.specs.declared.doc.Doc.TheVariants as docs
+use Rattle.deb_base.specs.declared.refusal.Refusal.{Refusal}
 use Rattle.deb_base.specs.declared.version_text.VersionText.{VersionText}
 use Rattle.deb_base.proofs.Writes.{AppendsFront-more, AppendsFront-then}
 use Rattle.deb_relation.specs.Applying.{Environment}
 use Rattle.deb_syntax.specs.Answers.{Seen}
+use Rattle.deb_control.specs.Calls.{IfRefused}
 use Rattle.deb_control.specs.Documents.{Meaning, Accepted}
 use Rattle.deb_control.specs.GivenParagraphs.{AreNext}
 use Rattle.deb_control.specs.Pairs.{Pairwise}
@@ -18,7 +20,7 @@ use Rattle.deb_control.specs.Paragraphs.{AreValuesOf}
 use Rattle.deb_control.proofs.GivenValues.{pairwise-length}
 use Rattle.deb_index.specs.Listed.{Listed}
 use Rattle.deb_index.specs.Listing.{ListsAll}
-use Rattle.deb_unmet.specs.Asking.{PutsLines}
+use Rattle.deb_unmet.specs.Asking.{IsWritersFault, PutsLines}
 use Rattle.deb_unmet.specs.Files.{Asks, file_lines, lines_of}
 use Rattle.deb_unmet.specs.KeptParagraphs.{AreKept, IsKept}
 use Rattle.deb_unmet.specs.Own.{BeginsOwn, WritesOwn, asks_own}
@@ -53,6 +55,28 @@ puts_front (Refused refusal) lines old new puts = absurd puts
 puts_front Memory lines old new puts = record { front = []; rest = lines; whole = refl; appended = subst (λ held. Appends old held []) puts (Appends-nil old) }
 puts_front Read lines old new puts = absurd puts
 puts_front Write lines old new puts = puts
+
+-- what a call that only writes answers of reads, refusals and writes
+pub unrefused : {T : Type 0} (r : Result T Fault) (P : Refusal → Type 0) → IsWritersFault r → IfRefused r P
+unrefused (Ok x) P is = tt
+unrefused (Err (Refused refusal)) P is = absurd is
+unrefused (Err Memory) P is = tt
+unrefused (Err Read) P is = absurd is
+unrefused (Err Write) P is = tt
+
+pub unread : {T : Type 0} (n : ℕ) (r : Result T Fault) → IsWritersFault r → read_failures_after n r ≡ n
+unread n (Ok x) is = refl
+unread n (Err (Refused refusal)) is = absurd is
+unread n (Err Memory) is = refl
+unread n (Err Read) is = absurd is
+unread n (Err Write) is = refl
+
+pub write_told : {T : Type 0} (old new : ℕ) (r : Result T Fault) → new ≡ write_failures_after old r → WriteFaultIffFailed old new r
+write_told old new (Ok x) is = λ below. (λ e. absurd cc, λ less. absurd (omega (arith, is, less)))
+write_told old new (Err (Refused refusal)) is = λ below. (λ e. absurd cc, λ less. absurd (omega (arith, is, less)))
+write_told old new (Err Memory) is = λ below. (λ e. absurd cc, λ less. absurd (omega (arith, is, less)))
+write_told old new (Err Read) is = λ below. (λ e. absurd cc, λ less. absurd (omega (arith, is, less)))
+write_told old new (Err Write) is = λ below. (λ e. omega (arith, is, below), λ less. refl)
 
 module _ (strength : Strength) (versions : VersionText) (environment : Environment) (packages : List Listed) (kept : List KeptParagraph) (given : List Seen) (old : Option (List ℕ)) where
   abbrev asks : Asks

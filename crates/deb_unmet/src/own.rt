@@ -80,15 +80,14 @@ pub fn unmet_in_itself<R: Source, W: Sink>(
         index: &index,
         environment,
     };
-    let summary = write_kept(
+    write_kept(
         alloc,
         &question,
         strength,
         versions,
         &kept.paragraphs,
         writer,
-    )?;
-    Ok(summary)
+    )
 }
 
 /// Writes the lines of the paragraphs of an index that are kept, over its own packages.
