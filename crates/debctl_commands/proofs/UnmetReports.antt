@@ -26,7 +26,7 @@ use Rattle.debctl_args.specs.declared.jobs.Dependents.TheVariants.{Index}
 use Rattle.debctl_args.specs.declared.jobs.Strength.{Strength}
 use Rattle.debctl_commands.specs.JobDevices.{ReaderOfJob, WriterOfJob}
 use Rattle.debctl_commands.specs.Reporting.{status_of, ReportsFault}
-use Rattle.debctl_commands.specs.SameJob.{ReportsSide, side_line, side_word}
+use Rattle.debctl_commands.specs.SameJob.{ReportsSide, side_word}
 use Rattle.debctl_commands.specs.UnmetJob.{asks_over, environment_in, fields_tried, has_environment, is_index, request_of, text_tried, AsksFile, AsksOwn, EndsAtEnvironment, EndsAtFile, EndsAtIndex, EndsInItself, ReportsRefusalOfUnmet, ReportsTried, ReportsUnmet, Words, WritesUnmetOf}
 use Rattle.debctl_commands.specs.VersionJobs.{verdict_status}
 use Rattle.debctl_commands.proofs.FaultReports.{two_is_refusal}

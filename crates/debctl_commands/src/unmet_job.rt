@@ -1,15 +1,17 @@
 //! The job on an index and a file whose groups are tried: `unmet`.
 
-ghost use Rattle.std.specs.Prelude.{◌≡◌, ◌<◌, ◌⊎◌, true, false, map, string_bytes};
-ghost use Rattle.std.specs.Prelude.{IfErr, IfOk, IsFalse, IsTrue};
+ghost use Rattle.std.specs.Prelude.{◌≡◌, ◌<◌, true, false, map, string_bytes, IsFalse, IsTrue};
 ghost use Rattle.deb_index.specs.Indexes.{packages_of};
 ghost use Rattle.deb_index.specs.Questions.{MakesEnvironment};
 ghost use Rattle.deb_relation.specs.Environments.{environment_of};
 ghost use Rattle.debctl_commands.specs.JobDevices.{reader_of, writer_of};
 ghost use Rattle.debctl_commands.specs.Taking.{TakesFile};
-ghost use Rattle.debctl_commands.specs.UnmetJob.{asked_of, fields_tried, has_environment, is_index, request_of, words_of};
-ghost use Rattle.debctl_commands.specs.UnmetJob.{AreRefusedBefore, EndsBeside, EndsInEnvironment, EndsOver, EndsOwn, IsRefusedIndex};
-ghost use Rattle.debctl_commands.specs.UnmetJob.{ReportsRefusalOfUnmet, ReportsTried, ReportsUnmet, WritesUnmetOf};
+ghost use Rattle.debctl_commands.specs.UnmetJob.{asked_of, fields_tried, has_environment};
+ghost use Rattle.debctl_commands.specs.UnmetJob.{is_index, request_of, words_of};
+ghost use Rattle.debctl_commands.specs.UnmetJob.{AreRefusedBefore, EndsBeside, EndsInEnvironment};
+ghost use Rattle.debctl_commands.specs.UnmetJob.{EndsOver, EndsOwn, IsRefusedIndex};
+ghost use Rattle.debctl_commands.specs.UnmetJob.{ReportsRefusalOfUnmet, ReportsTried, ReportsUnmet};
+ghost use Rattle.debctl_commands.specs.UnmetJob.{WritesUnmetOf};
 
 use crate::query_job::names_of;
 use crate::reporting::{report_fault, report_side};
