@@ -1,5 +1,5 @@
 -- Texts that are kept one after another, and what is kept of a paragraph.
-use Rattle.std.proofs.Common.{◌≡◌, ℕ, List, [], ◌∷◌, ◌++◌, take, drop, length, map, get_or, codes, ap, ◌∙◌, append-nil}
+use Rattle.std.proofs.Common.{◌≡◌, ℕ, List, [], ◌∷◌, ◌++◌, drop, length, map, get_or, codes, ap, ◌∙◌, append-nil}
 use Rattle.std.proofs.Math.Seq.{take-append_seam, drop-append_seam}
 use Rattle.std.specs.List.{concat}
 use Rattle.deb_base.specs.declared.doc.Doc.TheVariants as docs

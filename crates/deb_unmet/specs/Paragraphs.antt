@@ -60,6 +60,10 @@ two =
     (codes "Depends", RelationMeans ((alone (codes "aa") ∷ []) ∷ (alone (codes "bb") ∷ []) ∷ []))
     ∷ []
 
+worked-text : relation_text (groups_of (value_under (codes "Depends") two)) ≡ codes "aa, bb"
+unfolding group_text
+worked-text = refl
+
 -- there is no Pre-Depends, and of the last text nothing is said
 worked-relations : IsRegularRelation (groups_of (value_under (codes "depends") two))
     → HaveRelations (codes "Pre-Depends" ∷ codes "Depends" ∷ [])

@@ -1,4 +1,4 @@
-use Rattle.std.proofs.Common.{true, cond, codes, sym, ap, ◌∙◌}
+use Rattle.std.proofs.Common.{cond, codes, sym, ap, ◌∙◌}
 use Rattle.deb_base.specs.Kinds.{known_row}
 use Rattle.deb_control.specs.FieldWords.{word_under}
 use Rattle.deb_unmet.proofs.line_texts.architecture_of.Goals as goal

@@ -1,4 +1,4 @@
-use Rattle.std.proofs.Common.{[], codes, refl, ◌∙◌}
+use Rattle.std.proofs.Common.{codes, refl, ◌∙◌}
 use Rattle.deb_base.specs.Kinds.{known_row}
 use Rattle.deb_unmet.proofs.kept.KeptTexts.of.Goals as goal
 
