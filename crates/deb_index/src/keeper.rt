@@ -15,7 +15,7 @@ pub trait Keeper {
     /// This is kept of these paragraphs.
     ghost Keeps: { Self → List Seen → Type 0 };
 
-    /// Keeps something of one more paragraph, which passes, and whose words and relations these are.
+    /// Keeps something of one more paragraph, which passes. `texts` has its words and relations.
     ///
     /// # Errors
     ///

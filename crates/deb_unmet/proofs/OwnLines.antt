@@ -1,9 +1,10 @@
 -- What is known of the lines of an index in itself that were written so far, and at their end.
-use Rattle.std.proofs.Common.{◌≡◌, ℕ, ◌+◌, ◌<◌, ◌≤◌, Bool, true, ◌&&◌, List, [], ◌∷◌, ◌++◌, drop, get_or, length, Option, Result, Ok, Err, refl, sym, ap, ◌∙◌, subst, append_assoc, append-nil, length-append, arith, drop_of_length-le}
+use Rattle.std.proofs.Common.{inl, inr, ◌≡◌, ℕ, ◌+◌, ◌<◌, ◌≤◌, Bool, true, ◌&&◌, List, [], ◌∷◌, ◌++◌, drop, get_or, length, Option, Result, Ok, Err, refl, sym, ap, ◌∙◌, subst, append_assoc, append-nil, length-append, arith, drop_of_length-le}
 use Rattle.std.proofs.KnownBytes.{Appends-nil}
 use Rattle.std.proofs.lemmas.List.{drop_more}
 use Rattle.std.specs.Io.KnownBytes.{Appends}
 use Rattle.deb_base.specs.Devices.{AppendsFront, WriteFaultIffFailed, read_failures_after, write_failures_after}
+use Rattle.deb_base.specs.Faults.{IsReadersFault}
 use Rattle.deb_base.specs.declared.fault.Fault.{Fault}
 use Rattle.deb_base.specs.declared.fault.Fault.TheVariants.{Refused, Memory, Read, Write}
 use Rattle.deb_base.specs.declared.doc.Doc.TheVariants as docs
@@ -23,7 +24,7 @@ use Rattle.deb_index.specs.Listing.{ListsAll}
 use Rattle.deb_unmet.specs.Asking.{IsWritersFault, PutsLines}
 use Rattle.deb_unmet.specs.Files.{Asks, file_lines, lines_of}
 use Rattle.deb_unmet.specs.KeptParagraphs.{AreKept, IsKept}
-use Rattle.deb_unmet.specs.Own.{BeginsOwn, WritesOwn, asks_own}
+use Rattle.deb_unmet.specs.Own.{StopsOwn, WritesOwn, asks_own}
 use Rattle.deb_unmet.specs.declared.asked.Strength.{Strength}
 use Rattle.deb_unmet.specs.declared.kept.KeptParagraph.{KeptParagraph}
 use Rattle.deb_unmet.proofs.AskedFiles.{HasAsked, all_given, given-lines, lines_given, lines_given-append, none_asked, one_asked}
@@ -49,12 +50,10 @@ packaged-append [] more (v ∷ values) others are rest = absurd are
 packaged-append (seen ∷ given) more [] others are rest = absurd are
 packaged-append (seen ∷ given) more (v ∷ values) others are rest = (are.0, packaged-append given more values others are.1 rest)
 
--- a call that failed has written a front
-puts_front : (fault : Fault) (lines : List ℕ) (old new : Option (List ℕ)) → PutsLines lines (Err fault) old new → AppendsFront old new lines
-puts_front (Refused refusal) lines old new puts = absurd puts
-puts_front Memory lines old new puts = record { front = []; rest = lines; whole = refl; appended = subst (λ held. Appends old held []) puts (Appends-nil old) }
-puts_front Read lines old new puts = absurd puts
-puts_front Write lines old new puts = puts
+-- the first of the next ones
+next-front : (text : List ℕ) (n : ℕ) (first more : List Seen) → AreNext text n (first ++ more) → AreNext text n first
+next-front text n [] more all = tt
+next-front text n (seen ∷ first) more all = (all.0, next-front text (n + 1) first more all.1)
 
 -- what a call that only writes answers of reads, refusals and writes
 pub unrefused : {T : Type 0} (r : Result T Fault) (P : Refusal → Type 0) → IsWritersFault r → IfRefused r P
@@ -77,6 +76,13 @@ write_told old new (Err (Refused refusal)) is = λ below. (λ e. absurd cc, λ l
 write_told old new (Err Memory) is = λ below. (λ e. absurd cc, λ less. absurd (omega (arith, is, less)))
 write_told old new (Err Read) is = λ below. (λ e. absurd cc, λ less. absurd (omega (arith, is, less)))
 write_told old new (Err Write) is = λ below. (λ e. omega (arith, is, below), λ less. refl)
+
+-- a fault of the reader comes before anything is written
+pub unstarted : (fault : Fault) (P : Refusal → Type 0) (strength : Strength) (versions : VersionText) (environment : Environment) (text : List ℕ) (held : Option (List ℕ)) → IsReadersFault fault P → StopsOwn fault strength versions environment text held held
+unstarted (Refused refusal) P strength versions environment text held is = refl
+unstarted Memory P strength versions environment text held is = inl refl
+unstarted Read P strength versions environment text held is = refl
+unstarted Write P strength versions environment text held is = absurd is
 
 module _ (strength : Strength) (versions : VersionText) (environment : Environment) (packages : List Listed) (kept : List KeptParagraph) (given : List Seen) (old : Option (List ℕ)) where
   abbrev asks : Asks
@@ -146,15 +152,29 @@ module _ (strength : Strength) (versions : VersionText) (environment : Environme
           subst (AppendsFront old writes) (sym lines_all ∙ given-lines asks text 0 given meaning (pairwise-length (AreValuesOf docs.Packages) given meaning are_all) are_next)
           (AppendsFront-then old held writes _ _ next.asked.written (AppendsFront-more held writes line (lines_given asks (i + 1) next.more others) put))
 
-    pub stopped_own : (text : List ℕ) (writes : Option (List ℕ)) (fault : Fault) → PutsLines line (Err fault) held writes → ListsAll text packages → AreNext text 0 given → ((meaning : Meaning) → Packaged given meaning → Accepted docs.Packages text meaning) → BeginsOwn strength versions environment text old writes
-    stopped_own text writes fault puts lists are_next accepted =
+    pub stopped_own : (text : List ℕ) (writes : Option (List ℕ)) (fault : Fault) → PutsLines line (Err fault) held writes → ListsAll text packages → AreNext text 0 given → ((meaning : Meaning) → Packaged given meaning → Accepted docs.Packages text meaning) → StopsOwn fault strength versions environment text old writes
+    stopped_own text writes (Refused refusal) puts lists are_next accepted = absurd puts
+    stopped_own text writes Read puts lists are_next accepted = absurd puts
+    stopped_own text writes Memory puts lists are_next accepted =
+        let rest = kept_values next.more (drop (i + 1) kept) next.left in
+        let done_next : AreNext text 0 next.done = next-front text 0 next.done (next.seen ∷ next.more) (subst (AreNext text 0) next.all are_next) in
+        inr (record {
+          packages = packages;
+          lists = lists;
+          first = next.asked.values;
+          more = next.is.values ∷ rest.0;
+          accepted = accepted (meaning rest.0 rest.1) (are_all rest.0 rest.1);
+          written = subst (λ lines. Appends old writes lines) (given-lines asks text 0 next.done next.asked.values (pairwise-length (AreValuesOf docs.Packages) next.done next.asked.values next.asked.are) done_next)
+              (subst (λ now. Appends old now (lines_given asks 0 next.done next.asked.values)) puts next.asked.written);
+        })
+    stopped_own text writes Write puts lists are_next accepted =
         let rest = kept_values next.more (drop (i + 1) kept) next.left in
         record {
           packages = packages;
           lists = lists;
           meaning = meaning rest.0 rest.1;
           accepted = accepted (meaning rest.0 rest.1) (are_all rest.0 rest.1);
-          written = front_of rest.0 rest.1 text writes (puts_front fault line held writes puts) are_next;
+          written = front_of rest.0 rest.1 text writes puts are_next;
         }
 
   -- there is no further paragraph

@@ -4,9 +4,12 @@ use Rattle.std.specs.Prelude.{◌≡◌, ◌⊎◌, ℕ, List, [], ◌∷◌, �
 use Rattle.std.specs.Fmt.{digits}
 use Rattle.std.specs.Str.{is_utf8, chars}
 use lib.Utf8.{encode}
+use Rattle.std.specs.Io.KnownBytes.{Appends}
 use Rattle.deb_base.specs.Bodies.{paragraph_limit, file_limit}
 use Rattle.deb_base.specs.Devices.{AppendsFront}
 use Rattle.deb_base.specs.declared.doc.Doc.TheVariants as docs
+use Rattle.deb_base.specs.declared.fault.Fault.{Fault}
+use Rattle.deb_base.specs.declared.fault.Fault.TheVariants as faults
 use Rattle.deb_base.specs.declared.version_text.VersionText.{VersionText}
 use Rattle.deb_base.specs.declared.version_text.VersionText.TheVariants.{Canonical, Spelled}
 use Rattle.deb_version.specs.Places.{version_in}
@@ -50,11 +53,27 @@ pub record BeginsOwn (strength : Strength) (versions : VersionText) (environment
   pub written : AppendsFront old new
       (file_lines (asks_own strength versions environment packages) text meaning)
 
--- Nothing was written, or a front of the lines of an accepted index.
-abbrev pub StopsOwn : Strength → VersionText → Environment → List ℕ → Option (List ℕ)
+-- The same, where exactly the lines of the first paragraphs were written.
+pub record WritesFirst (strength : Strength) (versions : VersionText) (environment : Environment)
+    (text : List ℕ) (old new : Option (List ℕ)) : Type 0 where
+  pub packages : List Listed
+  pub lists : ListsAll text packages
+  pub first : Meaning
+  pub more : Meaning
+  pub accepted : Accepted docs.Packages text (first ++ more)
+  pub written : Appends old new
+      (file_lines (asks_own strength versions environment packages) text first)
+
+-- Refused, or a read failed: nothing was written. Out of memory: nothing, or exactly the lines of
+-- the first paragraphs of an accepted index. A write failed: a front of its lines.
+abbrev pub StopsOwn : Fault → Strength → VersionText → Environment → List ℕ → Option (List ℕ)
     → Option (List ℕ) → Type 0
-StopsOwn strength versions environment text old new =
-    (old ≡ new) ⊎ BeginsOwn strength versions environment text old new
+StopsOwn (faults.Refused refusal) strength versions environment text old new = old ≡ new
+StopsOwn faults.Memory strength versions environment text old new =
+    (old ≡ new) ⊎ WritesFirst strength versions environment text old new
+StopsOwn faults.Read strength versions environment text old new = old ≡ new
+StopsOwn faults.Write strength versions environment text old new =
+    BeginsOwn strength versions environment text old new
 
 -- An index of two packages, of which the first depends on the second and on bb, and recommends cc;
 -- it spells its version otherwise than the canonical text does.

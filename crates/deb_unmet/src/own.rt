@@ -40,9 +40,11 @@ use std::alloc::Global;
 ///
 /// - `Fault::Refused`: the file isn't accepted. This is its first refusal, with a code from 1 to 21
 ///   and a line of the file, counted from 1. Nothing was written.
-/// - `Fault::Memory`: a growth of memory was refused; `Fault::Read`: a read failed in this call;
-///   `Fault::Write`: a write failed in this call. Nothing was written, or a prefix of the lines of
-///   an accepted file.
+/// - `Fault::Read`: a read failed in this call. Nothing was written.
+/// - `Fault::Memory`: a growth of memory was refused. Nothing was written, or the lines of the first
+///   paragraphs of an accepted file.
+/// - `Fault::Write`: a write failed in this call. A prefix of the lines of an accepted file was
+///   written.
 pub fn unmet_in_itself<R: Source, W: Sink>(
     alloc: Global,
     environment: &Env,
@@ -57,7 +59,7 @@ pub fn unmet_in_itself<R: Source, W: Sink>(
     ensures refused { (text : List ℕ) → R.left reader.old ≡ Some text
         → IfRefused result (λ refusal. refusal_of Doc.Packages text ≡ Some refusal) }
     ensures stopped { (text : List ℕ) → R.left reader.old ≡ Some text
-        → IfErr result (λ _. StopsOwn strength versions (environment_of environment.now) text
+        → IfErr result (λ fault. StopsOwn fault strength versions (environment_of environment.now) text
         (W.held writer.old) (W.held writer.new)) }
     ensures reads_at_most { (text : List ℕ) → R.left reader.old ≡ Some text
         → TakesNoMore text file_limit (R.left reader.new) }
@@ -94,7 +96,7 @@ pub fn unmet_in_itself<R: Source, W: Sink>(
 ///
 /// # Errors
 ///
-/// Out of memory, or `Fault::Write`: a prefix of the lines was written.
+/// Out of memory: the lines of the first paragraphs were written; or `Fault::Write`: a prefix of all.
 fn write_kept<W: Sink>(
     alloc: Global,
     question: &Question<'_>,
@@ -108,7 +110,7 @@ fn write_kept<W: Sink>(
         (environment_of question.now.environment.now) text summary (W.held writer.old)
         (W.held writer.new)) }
     ensures stopped { (text : List ℕ) → ListsAll text (packages_of question.now.index.now)
-        → KeepsAll (AreKept kept.now) text → IfErr result (λ _. StopsOwn strength versions
+        → KeepsAll (AreKept kept.now) text → IfErr result (λ fault. StopsOwn fault strength versions
         (environment_of question.now.environment.now) text (W.held writer.old)
         (W.held writer.new)) }
     ensures counts_failure { W.failures writer.new ≡ write_failures_after

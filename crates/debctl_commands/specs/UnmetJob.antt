@@ -136,8 +136,8 @@ pub record AsksOwn {W : Type 0} (strength : Fields) (versions : VersionText)
       versions environment text summary (held old) (held new))
   pub refused : (text : List ℕ) → left ≡ Some text →
       IfRefused answer (λ refusal. refusal_of docs.Packages text ≡ Some refusal)
-  pub stopped : (text : List ℕ) → left ≡ Some text → IfErr answer (λ _. StopsOwn strength versions
-      environment text (held old) (held new))
+  pub stopped : (text : List ℕ) → left ≡ Some text → IfErr answer (λ fault. StopsOwn fault
+      strength versions environment text (held old) (held new))
   pub unwritten : IfRefused answer (λ _. new ≡ old)
   pub refusal : IfRefused answer IsRefusalOfDocument
   pub reads : count_after ≡ read_failures_after count answer

@@ -1,4 +1,4 @@
-use Rattle.std.proofs.Common.{◌≡◌, ◌+◌, ◌&&◌, Ok, Err, refl, sym, ap, ◌∙◌, inr}
+use Rattle.std.proofs.Common.{◌≡◌, ◌+◌, ◌&&◌, Ok, Err, refl, sym, ap, ◌∙◌}
 use Rattle.std.proofs.lemmas.Result.{err_from_is_err_and}
 use Rattle.deb_relation.specs.Environments.{environment_of}
 use Rattle.deb_index.specs.Indexes.{packages_of}
@@ -41,8 +41,8 @@ returns-in_err-is_met-clause-stopped g c = λ text lists keeps.
     let next = next_own c.args.strength c.args.versions environment packages c.args.kept.now keeps.given (g.W.Sink.held c.args.writer.now) c.loop-count.count c.index-kept-count.result (c.loop-count.invariant.lines keeps.given keeps.keeps) c.loop-count-test.true c.index-kept-count.is in
     let puts = puts_lines (asks_own c.args.strength c.args.versions environment packages) (c.loop-count.count + 1) next.seen.fields next.is.values c.line_texts.result.version.now (Err fault) (g.W.Sink.held c.loop-count.writer) (g.W.Sink.held c.write_paragraph.new.writer)
     (c.line_texts.ensures.version next.seen.fields next.is.values next.is.holds) (c.in_err-is_met.ensures.puts next.is.values (c.line_texts.ensures.texts next.seen.fields next.is.values c.args.strength next.is.holds)) in
-    rw p.1
-    (inr (stopped_own c.args.strength c.args.versions environment packages c.args.kept.now keeps.given (g.W.Sink.held c.args.writer.now) next text (g.W.Sink.held c.write_paragraph.new.writer) fault puts lists keeps.next keeps.accepted))
+    rw (p.1, p.2)
+    (stopped_own c.args.strength c.args.versions environment packages c.args.kept.now keeps.given (g.W.Sink.held c.args.writer.now) next text (g.W.Sink.held c.write_paragraph.new.writer) fault puts lists keeps.next keeps.accepted)
 
 pub returns-clause-ok : goal.returns-clause-ok
 returns-clause-ok g c = λ text lists keeps.
