@@ -95,16 +95,22 @@ trailing-none [] h = refl
 trailing-none (b ∷ []) h = rw h
 trailing-none (b ∷ c ∷ text) h = ap (with_kept b) (trailing-none (c ∷ text) h)
 
+leading-none : (text : List ℕ) → begins_with_blank text ≡ false → without_leading_blanks text ≡ text
+leading-none [] h = refl
+leading-none (b ∷ text) h = rw h
+
+-- a body after one blank
+pub trimmed-after_blank : (b : ℕ) (body : List ℕ) → is_blank_byte b ≡ true → begins_with_blank body ≡ false → ends_with_blank body ≡ false → trimmed (b ∷ body) ≡ body
+trimmed-after_blank b body hb begins ends =
+    ap without_trailing_blanks (leading-append (b ∷ []) body (rw hb refl) ∙ leading-none body begins) ∙ trailing-none body ends
+
 -- the body between runs of blanks is what the cut gives
 pub trimmed-between : (before body after : List ℕ) → is_all_blank before ≡ true → is_all_blank after ≡ true → begins_with_blank body ≡ false → ends_with_blank body ≡ false → trimmed (before ++ (body ++ after)) ≡ body
 trimmed-between before [] after hb ha begins ends = ap without_trailing_blanks (leading-append before after hb ∙ leading-all after ha)
 trimmed-between before (b ∷ body) after hb ha begins ends =
-    ap without_trailing_blanks (leading-append before ((b ∷ body) ++ after) hb ∙ stays)
+    ap without_trailing_blanks (leading-append before ((b ∷ body) ++ after) hb ∙ leading-none ((b ∷ body) ++ after) begins)
     ∙ trailing-append (b ∷ body) after ha
     ∙ trailing-none (b ∷ body) ends
-  where
-    stays : without_leading_blanks ((b ∷ body) ++ after) ≡ (b ∷ body) ++ after
-    stays = rw begins
 
 -- graphic bytes stay, and the blanks after them don't
 pub trailing-graphic : (text after : List ℕ) → AllByRecursion IsGraphic text → is_all_blank after ≡ true → without_trailing_blanks (text ++ after) ≡ text

@@ -2,9 +2,9 @@
 
 ghost use Rattle.std.specs.Prelude.{◌≡◌, ◌↔◌, IsTrue, drop};
 ghost use Rattle.std.specs.List.{list_all};
-ghost use Rattle.deb_base.specs.Bodies.{ends_with_blank, is_blank, is_body_shape, is_continuation, pieces_of, IsBody};
+ghost use Rattle.deb_base.specs.Bodies.{is_blank, is_body_shape, is_continuation, pieces_of, IsBody};
 
-use crate::blank::{begins_with_blank, is_blank_byte, is_only_blanks};
+use crate::blank::{begins_with_blank, ends_with_blank, is_only_blanks};
 
 /// The most bytes that the lines of a paragraph may have together, with their newlines (this
 /// project's own).
@@ -50,11 +50,4 @@ fn is_blank_line(line: &[u8]) -> bool
     ensures { result ≡ is_blank line.now }
 {
     line.len() < PARAGRAPH_LIMIT && is_only_blanks(line)
-}
-
-fn ends_with_blank(text: &[u8]) -> bool
-    ensures { result ≡ ends_with_blank text.now }
-{
-    let count = text.len();
-    count > 0 && is_blank_byte(text[count - 1])
 }

@@ -1,5 +1,6 @@
 -- The fields that were visited so far, and the values that were visited with them.
-use Rattle.deb_control.proofs.Common.{◌≡◌, ℕ, ◌+◌, ◌≤◌, ◌||◌, min, List, [], ◌∷◌, ◌++◌, length, map, slice_get, option_map, Option, None, Some, refl, sym, ap, ◌∙◌, arith, bytes_eq, sum_by-append, sum_by-cons, AllByRecursion, folded, canonical_name, Seen, Field, has_name, AreDistinct, entries_of, field_of, RawField, Doc, kind_of, rules_of, HoldsFound, seen_found, canonical_field, canonical_entries, Visit, IsVisit, fields_visited, canonical_visit, visit_text, VisitsField, VisitsFields, texts_length, most}
+use Rattle.deb_control.proofs.Common.{◌≡◌, ℕ, ◌+◌, ◌≤◌, ◌||◌, min, List, [], ◌∷◌, ◌++◌, length, map, slice_get, option_map, Option, None, Some, refl, sym, ap, ◌∙◌, subst, arith, bytes_eq, sum_by-append, sum_by-cons, AllByRecursion, folded, canonical_name, Seen, Field, has_name, AreDistinct, entries_of, field_of, RawField, Doc, Any, fields_of_any_are_texts, kind_of, rules_of, HoldsFound, seen_found, canonical_field, canonical_entries, Visit, IsVisit, fields_visited, canonical_visit, visit_text, VisitsField, VisitsFields, texts_length, most}
+use Rattle.deb_base.specs.declared.kind.Kind.TheVariants.{Text}
 use Rattle.deb_control.proofs.DocumentRules.{document_rules}
 use Rattle.deb_control.proofs.FieldsRead.{HasRead, HasRead-next, HasRead-end}
 
@@ -35,6 +36,10 @@ HasVisited-next Visited visitor new doc fields n own now i raw is one added befo
           ∙ ap (λ k. min k most) (sym more);
       visits = one.visits before.visited before.visits;
     }
+
+-- each field of Any is text
+pub VisitsField-any : {V : Type 0} (Visited : V → List Visit → Type 0) (visitor new : V) (field : Field) (n : ℕ) → VisitsField Visited visitor new Text field n → VisitsField Visited visitor new (kind_of Any (canonical_name field.name)) field n
+VisitsField-any Visited visitor new field n one = subst (λ kind. VisitsField Visited visitor new kind field n) (sym (fields_of_any_are_texts (canonical_name field.name))) one
 
 -- all of them
 pub VisitsFields-end : {V : Type 0} (Visited : V → List Visit → Type 0) (visitor : V) (doc : Doc) (fields : List Field) (n i : ℕ) → length fields ≤ i → HasVisited Visited visitor doc fields n i → VisitsFields Visited visitor doc fields n

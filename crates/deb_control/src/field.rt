@@ -3,11 +3,12 @@
 ghost use Rattle.std.specs.Prelude.{◌≡◌, ◌++◌, ◌∷◌, [], cond, length, nat_eq, OnOk};
 ghost use Rattle.deb_base.specs.Bodies.{newline};
 ghost use Rattle.deb_base.specs.FieldNames.{colon};
+ghost use Rattle.deb_field.specs.Shown.{text_bytes};
 ghost use Rattle.deb_field.specs.Values.{value_text};
 ghost use Rattle.deb_field.specs.ValueMeanings.{value_meaning};
 ghost use Rattle.deb_control.specs.Canonical.{behind_colon};
 
-use deb_field::{Canon, Value};
+use deb_field::{Canon, Text, Value};
 use std::alloc::AllocError;
 
 /// Appends what comes after a field's name: a colon, the text after it, and a line end.
@@ -45,6 +46,15 @@ pub(crate) fn is_spaced(value: &Value<'_>) -> bool
         (value_text (value_meaning value.now)) }
 {
     !is_empty(value) && !value.begins_with_newline()
+}
+
+/// Whether a space separates a text from the colon before it.
+#[inline(always)]
+pub(crate) fn is_spaced_text(text: &Text<'_>) -> bool
+    ensures { behind_colon (text_bytes text.now)
+        ≡ cond result (32 ∷ text_bytes text.now) (text_bytes text.now) }
+{
+    !text.bytes().is_empty() && !text.begins_with_newline()
 }
 
 /// Whether a value's text is empty. Only of some kinds it is measured.

@@ -1,6 +1,6 @@
 //! Checks one paragraph: only this module decides whether a paragraph passes by itself.
 
-ghost use Rattle.std.specs.Prelude.{◌≡◌, ◌≤◌, ◌-◌, ◌^◌, ◌++◌, ◌∷◌, List, [], Option, Some, Err, IfOk, IfErr, length, map, min};
+ghost use Rattle.std.specs.Prelude.{◌≡◌, ◌≤◌, ◌++◌, ◌∷◌, ℕ, List, [], Option, Some, Err, IfOk, IfErr, cond, length, map, min};
 ghost use Rattle.deb_base.specs.Bodies.{IsBody};
 ghost use Rattle.deb_base.specs.Faults.{RefusedOrMemory};
 ghost use Rattle.deb_base.specs.Names.{canonical_name};
@@ -8,18 +8,20 @@ ghost use Rattle.deb_syntax.specs.Paragraphs.{seen_of};
 ghost use Rattle.deb_syntax.specs.Raw.{field_of, fields_of};
 ghost use Rattle.deb_base.specs.Kinds.{kind_of, required};
 ghost use Rattle.deb_base.specs.KnownFields.{row_of};
+ghost use Rattle.deb_base.specs.declared.doc.Doc.TheVariants as docs;
 ghost use Rattle.deb_base.specs.declared.kind.Kind.TheVariants as kinds;
 ghost use Rattle.deb_field.specs.Faults.{IsFaultOrMemory};
+ghost use Rattle.deb_field.specs.Shown.{text_bytes};
 ghost use Rattle.deb_field.specs.Values.{SpellsValue, kind_refusal, value_refusal, value_text};
 ghost use Rattle.deb_field.specs.ValueMeanings.{value_meaning};
-ghost use Rattle.deb_control.specs.Canonical.{field_text};
+ghost use Rattle.deb_control.specs.Canonical.{behind_colon, field_text};
 ghost use Rattle.deb_control.specs.Checking.{text_built};
 ghost use Rattle.deb_control.specs.Documents.{rules_of};
 ghost use Rattle.deb_control.specs.Refusals.{built, have_names, value_refusal_of};
 ghost use Rattle.deb_control.specs.Required.{have_rows};
 ghost use Rattle.deb_control.specs.Visiting.{Visit, VisitsField, VisitsFields, VisitsValues, most, visit_of, visit_text};
 
-use crate::field::is_spaced;
+use crate::field::{is_spaced, is_spaced_text};
 use crate::visitor::FieldVisitor;
 use deb_base::{
     Code, Fault, FieldId, Kind, PARAGRAPH_LIMIT, Refusal, Relationship, required_fields,
@@ -76,6 +78,9 @@ fn visit_fields<V: FieldVisitor>(
         (λ fault. RefusedOrMemory fault
         (λ refusal. value_refusal_of (rules_of doc) (fields_of paragraph.now) ≡ Some refusal)) }
 {
+    if let Doc::Any = doc {
+        return Ok(visit_texts(paragraph, visitor)?);
+    }
     visitor.start();
     let mut length: u64 = 0;
     for index in 0..paragraph.len() {
@@ -86,6 +91,22 @@ fn visit_fields<V: FieldVisitor>(
                 &raw,
                 visitor,
             )?);
+        }
+    }
+    Ok(length)
+}
+
+/// Visits each field of a paragraph with its value as text, and returns the length of their
+/// canonical texts, or `u64::MAX` if it is greater.
+fn visit_texts<V: FieldVisitor>(paragraph: &Raw<'_>, visitor: &mut V) -> Result<u64, AllocError>
+    ensures { IfOk result
+        (VisitsFields V.Visited visitor.new docs.Any (fields_of paragraph.now)) }
+{
+    visitor.start();
+    let mut length: u64 = 0;
+    for index in 0..paragraph.len() {
+        if let Some(raw) = paragraph.field(index) {
+            length = length.saturating_add(visit_as_text(&raw, visitor)?);
         }
     }
     Ok(length)
@@ -126,9 +147,9 @@ fn visit_as_text<V: FieldVisitor>(field: &RawField<'_>, visitor: &mut V) -> Resu
     ensures { IfOk result
         (VisitsField V.Visited visitor.old visitor.new kinds.Text (field_of field.now)) }
 {
-    let value = Value::Text(Text::new(field.body));
-    let length = visit_value(field, &value, visitor)?;
-    Ok(length)
+    let text = Text::new(field.body);
+    visitor.visit(field, &Value::Text(text))?;
+    Ok(text_field_len(field.name, &text))
 }
 
 /// Visits a field whose value is text of one line.
@@ -308,11 +329,31 @@ fn visit_value<V: FieldVisitor>(
 #[inline(always)]
 fn canonical_len(name: &[u8], value: &Value<'_>) -> u64
     ensures { result ≡ min (length (field_text
-        (canonical_name name.now, value_text (value_meaning value.now)))) (2 ^ 64 - 1) }
+        (canonical_name name.now, value_text (value_meaning value.now)))) most }
 {
-    let space = u64::from(is_spaced(value));
+    field_len(name, is_spaced(value), value.canon_len())
+}
+
+/// Returns what `canonical_len` does for `Value::Text`, without looking at the kind of a value.
+#[inline(always)]
+fn text_field_len(name: &[u8], text: &Text<'_>) -> u64
+    ensures { result ≡ min (length (field_text
+        (canonical_name name.now, text_bytes text.now))) most }
+{
+    field_len(name, is_spaced_text(text), text.canon_len())
+}
+
+/// Returns the length of the canonical text of a field, or `u64::MAX` if it is greater. Its value's
+/// canonical text has `len` bytes, with a space before it if `spaced`.
+#[inline(always)]
+fn field_len(name: &[u8], spaced: bool, len: u64) -> u64
+    ensures { (text : List ℕ) → len ≡ length text
+        → behind_colon text ≡ cond spaced (32 ∷ text) text
+        → result ≡ min (length (field_text (canonical_name name.now, text))) most }
+{
+    let space = u64::from(spaced);
     let name_and_ends = name.len() as u64 + 2 + space;
-    name_and_ends.saturating_add(value.canon_len())
+    name_and_ends.saturating_add(len)
 }
 
 /// Returns the value of one field.

@@ -1,5 +1,6 @@
 -- The lines of a paragraph that are kept, and what the line after them makes of them: one more, the paragraph, or a refusal.
-use Rattle.deb_syntax.proofs.Common.{Takes, had, ◌≡◌, ◌≢◌, ℕ, ◌+◌, ◌-◌, ◌<◌, ◌≤◌, ◌⊎◌, inl, inr, Bool, true, false, List, [], ◌∷◌, ◌++◌, Option, Some, None, Err, length, take, drop, refl, sym, ap, ◌∙◌, subst, append_assoc, append-nil, arith, length-append, drop-append_seam, take-append_seam, length-take-le, IsTrue, false≢true, Line, line_length, pieces_of, HasNoNewline, is_blank, All-append, ParagraphTooLong, At, EndsLine, KeepsLines, ReadsLine, left_answer, part_within, whole_lines, AreBlank, AreNotBlank, CursorState, piece_limit, passed_of, lines_of, ends_line, begins_blank, IsClosed, paragraphs_from, total_length, state_from, sum_by-append}
+use Rattle.deb_syntax.proofs.Common.{Takes, had, ◌≡◌, ◌≢◌, ℕ, ◌+◌, ◌-◌, ◌<◌, ◌≤◌, ◌⊎◌, inl, inr, Bool, true, false, List, [], ◌∷◌, ◌++◌, Option, Some, None, Err, length, take, drop, refl, sym, ap, ◌∙◌, subst, append_assoc, append-nil, arith, length-append, drop-append_seam, take-append_seam, length-take-le, IsTrue, false≢true, Line, line_length, nat_le, ◌==◌, and_right, begins_with_blank, is_all_blank, is_blank_byte, pieces_of, HasNoNewline, is_blank, All-append, ParagraphTooLong, At, EndsLine, KeepsLines, ReadsLine, left_answer, part_within, whole_lines, AreBlank, AreNotBlank, CursorState, piece_limit, passed_of, lines_of, ends_line, begins_blank, IsClosed, paragraphs_from, total_length, state_from, sum_by-append}
+use Rattle.std.proofs.lemmas.Bool.{and_left}
 use Rattle.deb_base.specs.Bodies.{paragraph_limit, file_limit}
 use Rattle.deb_syntax.specs.LineEnds.{ends_from, line_ends}
 use Rattle.deb_syntax.specs.Resuming.{HasPassed}
@@ -24,6 +25,11 @@ pub not_empty : (line : List ℕ) → is_blank line ≡ false → line ≢ []
 unfolding paragraph_limit
 not_empty [] h e = absurd (false≢true (sym h))
 not_empty (b ∷ line) h e = let l : length (b ∷ line) ≡ 0 = ap length e in absurd (omega arith)
+
+-- a line that begins with a byte that isn't blank
+pub not_blank-begins : (line : List ℕ) → (length line == 0) ≡ false → begins_with_blank line ≡ false → is_blank line ≡ false
+not_blank-begins [] some h = absurd (false≢true (sym some))
+not_blank-begins (b ∷ line) some h = and_right (nat_le (line_length (b ∷ line)) paragraph_limit) (is_all_blank (b ∷ line)) (and_left (is_blank_byte b) (is_all_blank line) h)
 
 -- a line with its ending is one line
 module _ (line ending more : List ℕ) (ended : Bool) (no_newline : HasNoNewline line) where

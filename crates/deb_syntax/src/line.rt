@@ -10,7 +10,7 @@ ghost use Rattle.deb_syntax.specs.NextLines.{Describes, DropsLong, IsEndedLine, 
 
 use crate::file_cursor::{End, FileCursor};
 use crate::newline::first_newline;
-use deb_base::{Fault, PARAGRAPH_LIMIT, Source, is_only_blanks};
+use deb_base::{Fault, PARAGRAPH_LIMIT, Source, begins_with_blank, is_only_blanks};
 
 /// The line after the bytes that are kept.
 #[derive(Clone, Copy, Debug)]
@@ -134,8 +134,15 @@ fn ended_line(part: &[u8], kept: usize, dropped: Dropped, newline: usize) -> Nex
     ensures { (bytes : List ℕ) → Describes dropped bytes
         → IsEndedLine (bytes ++ part.now) kept (length part.now) newline result }
 {
-    let line = dropped.with(part);
     let end = kept + part.len();
+    // Most lines are short, and begin with a byte that isn't blank.
+    if dropped.len == 0 && !part.is_empty() && !begins_with_blank(part) && end < PARAGRAPH_LIMIT {
+        return NextLine::Whole {
+            end,
+            next: end + newline,
+        };
+    }
+    let line = dropped.with(part);
     let bytes = line.len + newline as u64;
     if bytes == 0 {
         NextLine::Ended

@@ -1,4 +1,4 @@
-use Rattle.std.proofs.Common.{[], arith, sym, subst, ◌∙◌, ◌<◌, length, get_or}
+use Rattle.std.proofs.Common.{[], sym, subst, ◌∙◌, ◌<◌, length, get_or}
 use Rattle.deb_base.proofs.FieldLookups.{is_name-row, known_row-row, length_of_table, row_of_table}
 use Rattle.deb_base.proofs.NearRows.{begins_with}
 use Rattle.deb_base.specs.KnownFields.{row_in}

@@ -2,11 +2,11 @@ use Rattle.deb_control.proofs.Common.{◌≡◌, ◌<◌, ◌∙◌, ap, sym, su
 use Rattle.deb_control.proofs.FieldsRead.{refused-here, RefusedOrMemory-to, none_is_past}
 use Rattle.deb_control.proofs.Visited.{HasVisited-start, HasVisited-next, VisitsFields-end}
 use Rattle.deb_control.proofs.paragraph_check.visit_fields.Goals as goal
-use Rattle.deb_control.proofs.paragraph_check.visit_fields.Goals.{in-Some+in_ok-visit_field, in_default}
+use Rattle.deb_control.proofs.paragraph_check.visit_fields.Goals.{in-Some+in_ok-visit_field, in_default-field}
 
 pub returns-in_err-visit_field-clause-fault : goal.returns-in_err-visit_field-clause-fault
 returns-in_err-visit_field-clause-fault g c =
-    let p = err_from_is_err_and c.from_residual.result c.from_residual.ensures.1 in
+    let p = err_from_is_err_and c.from_residual-in_err-visit_field.result c.from_residual-in_err-visit_field.ensures.1 in
     let raw = c.in-Some.raw in
     let fields = fields_of c.args.paragraph.now in
     rw (p.1, p.2)
@@ -23,7 +23,7 @@ loop-index-preserved g c =
     elim c.match-field.branch [
       | in-Some+in_ok-visit_field w ↦
           rw (w.length-is, w.visitor-is) (HasVisited-next g.V.FieldVisitor.Visited c.loop-index.visitor _ c.args.doc fields c.loop-index.length _ _ c.loop-index.index w.in-Some.raw w.in-Some.ensures.field (rw (w.in_ok-visit_field.was, w.kind_of_field.ensures) at w.visit_field.ensures.visits) w.saturating_add-length.ensures c.loop-index.invariant)
-      | in_default w ↦ absurd (none_is_past fields c.loop-index.index (subst (λ n. c.loop-index.index < n) c.len-index-end.ensures c.loop-index-test.true) w.in_default.ensures.field)
+      | in_default-field w ↦ absurd (none_is_past fields c.loop-index.index (subst (λ n. c.loop-index.index < n) c.len-index-end.ensures c.loop-index-test.true) w.in_default-field.ensures.field)
     ]
 
 pub returns-clause-visits : goal.returns-clause-visits

@@ -1,7 +1,15 @@
-use Rattle.deb_syntax.proofs.Common.{◌∙◌, ◌++◌, sym, arith}
+use Rattle.deb_syntax.proofs.Common.{◌≡◌, ◌∙◌, [], ◌++◌, length, refl, sym, ap, arith, is_blank}
 use Rattle.deb_base.specs.Bodies.{paragraph_limit}
-use Rattle.deb_syntax.proofs.KeptLines.{no_elements}
+use Rattle.deb_syntax.proofs.KeptLines.{no_elements, not_blank-begins}
 use Rattle.deb_syntax.proofs.line.ended_line.Goals as goal
+
+pub returns-then-end-lt-PARAGRAPH_LIMIT : goal.returns-then-end-lt-PARAGRAPH_LIMIT
+unfolding paragraph_limit
+returns-then-end-lt-PARAGRAPH_LIMIT c = λ bytes d.
+    let part = c.args.part.now in
+    let none : bytes ≡ [] = no_elements bytes (omega (arith, d.len, c.if-dropped-eq0.true)) in
+    let solid = not_blank-begins part (sym c.is_empty.ensures ∙ c.if-not-is_empty.true) (sym c.begins_with_blank.ensures ∙ c.if-not-begins_with_blank.true) in
+    (ap (λ zs. is_blank (zs ++ part)) none ∙ solid, omega (arith, ap (λ zs. length (zs ++ part)) none, c.if-end-lt-PARAGRAPH_LIMIT.true), refl, refl)
 
 pub overflow_add-kept : goal.overflow_add-kept
 overflow_add-kept c = omega (arith, c.requires.len, c.with-line.ensures.len)

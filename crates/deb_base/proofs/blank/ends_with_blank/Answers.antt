@@ -1,6 +1,6 @@
 use Rattle.std.proofs.Common.{◌≡◌, suc, ◌-◌, length, sym, ◌∙◌, arith}
 use Rattle.deb_base.proofs.BodyLemmas.{ends_with_blank-last}
-use Rattle.deb_base.proofs.body.ends_with_blank.Goals as goal
+use Rattle.deb_base.proofs.blank.ends_with_blank.Goals as goal
 
 pub returns-then-count-gt0 : goal.returns-then-count-gt0
 returns-then-count-gt0 c =
