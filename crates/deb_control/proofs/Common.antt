@@ -84,7 +84,7 @@ pub use Rattle.deb_control.specs.Refused.{seen_given, seen_in}
 pub use Rattle.deb_control.specs.Calls.{HasParagraphs, IfCutOff, IfRefused, WritesCanonical, WritesRead, WritesRefused}
 pub use Rattle.deb_control.specs.Canonical.{behind_colon, field_text, file_text, paragraph_text}
 pub use Rattle.deb_control.specs.CheckedStates.{checked_moment, checked_state, passing_of}
-pub use Rattle.deb_control.specs.CanonTexts.{AreRows, ArePlaced, IsGood, IsListOf, IsOrderOf, IsRow, NamesAscend, comes_first, known_names, no_field, numbers_in, picked, text_under}
+pub use Rattle.deb_control.specs.CanonTexts.{AreKeysOf, AreRows, ArePlaced, IsGood, IsKeyIn, IsOrderOf, IsRow, NamesAscend, comes_first, key_bytes, known_names, name_of, no_field, numbers_in, picked, text_under}
 pub use Rattle.deb_control.specs.Checking.{AnswersChecked, CheckedMoment, CheckedState, Checks, ChecksOn, FitsChecked, Follow, FollowGiven, GivesEnd, GivesPassing, HasChecked, IsRefusalOfDocument, Passing, current_answer, is_judged, is_passing, is_text_of, all_pass, passing_seen, seen_last, text_built, whole_answer}
 pub use Rattle.deb_control.specs.Comparing.{Agrees, RefusesSecond, AnswersSame}
 pub use Rattle.deb_control.specs.Documents.{Meaning, canonical_text, out_of, refusal_of, rules_of, text_unless_refused}

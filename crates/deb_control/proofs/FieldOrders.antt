@@ -1,5 +1,5 @@
 -- The fields of a paragraph in the order of their canonical names: how they are put in order, and what their texts are together.
-use Rattle.deb_control.proofs.Common.{◌≡◌, ℕ, zero, suc, ◌+◌, ◌<◌, ◌||◌, Bool, true, false, List, [], ◌∷◌, ◌++◌, length, map, take, drop, get_or, Option, None, Some, IsSome, Less, refl, sym, ap, ◌∙◌, subst, arith, false≢true, bytes_eq-Decides, bytes_eq, flat_map, IsPermutation, All-from_recursion, All-permutation, recursion_from_All, AllByRecursion, IsSortedBy, folded, canonical_name, folded-from_canonical_name, Field, has_name, AreDistinct, byte_order, Refusal, distinct-permutation, entries_of-permutation, paragraph_text, canonical_entries, canonical_field, refusal_or, value_refusal_of, Rules, AreRows, ArePlaced, IsGood, IsListOf, IsOrderOf, NamesAscend, comes_first, known_names, no_field, numbers_in, picked, text_under}
+use Rattle.deb_control.proofs.Common.{◌≡◌, ℕ, zero, suc, ◌+◌, ◌<◌, ◌||◌, Bool, true, false, List, [], ◌∷◌, ◌++◌, length, map, take, drop, get_or, Option, None, Some, IsSome, Less, refl, sym, ap, ◌∙◌, subst, arith, false≢true, bytes_eq-Decides, bytes_eq, flat_map, IsPermutation, All-from_recursion, All-permutation, recursion_from_All, AllByRecursion, IsSortedBy, folded, canonical_name, folded-from_canonical_name, Field, has_name, AreDistinct, byte_order, Refusal, distinct-permutation, entries_of-permutation, paragraph_text, canonical_entries, canonical_field, refusal_or, value_refusal_of, Rules, AreKeysOf, AreRows, ArePlaced, IsGood, IsOrderOf, NamesAscend, comes_first, known_names, no_field, numbers_in, picked, text_under}
 use Rattle.std.proofs.Common.{set}
 use Rattle.std.proofs.lemmas.List.{take-append-drop, take_all, length-take-le}
 use Rattle.std.proofs.lemmas.List.Sorted.{IsPermutation-cons, IsPermutation-map, IsPermutation-middle, IsPermutation-refl, IsPermutation-sym, IsPermutation-to_front, IsPermutation-trans}
@@ -7,6 +7,7 @@ use Rattle.std.proofs.Math.Seq.{drop-cons, take-append-add}
 use Rattle.deb_base.specs.Kinds.{known_fields, known_row}
 use Rattle.deb_syntax.proofs.DistinctNames.{has_name-distinct}
 use Rattle.deb_control.proofs.Entries.{IsAscending}
+use Rattle.deb_control.specs.declared.canon_text.SortKey.{SortKey}
 use Rattle.deb_control.proofs.FieldValues.{each-from_none}
 use Rattle.deb_control.proofs.KnownNames.{Ascend, known_names-ascend, known_names-row}
 use Rattle.deb_control.proofs.SortedFields.{ascending_from_sorted, entries_of-ascending, entry_of}
@@ -185,13 +186,22 @@ names-ascend : (fields : List Field) → IsAscending (map entry_of fields) → N
 names-ascend [] up = tt
 names-ascend (field ∷ fields) up = (names-below (canonical_name field.name) fields up.0, names-ascend fields up.1)
 
-pub order-sorted : (fields : List Field) (was now : List ℕ) → AreDistinct fields → IsListOf fields was → IsPermutation was now → IsSortedBy (comes_first fields) now → IsOrderOf fields now
+picked-numbers : (fields : List Field) (keys : List SortKey) → picked fields (map (λ key. key.number) keys) ≡ map (λ key. get_or fields key.number no_field) keys
+picked-numbers fields [] = refl
+picked-numbers fields (key ∷ keys) = ap (λ m. get_or fields key.number no_field ∷ m) (picked-numbers fields keys)
+
+within-numbers : (fields : List Field) (keys : List SortKey) → AllByRecursion (λ key. key.number < length fields) keys → AllByRecursion (λ k. k < length fields) (map (λ key. key.number) keys)
+within-numbers fields [] are = tt
+within-numbers fields (key ∷ keys) are = (are.0, within-numbers fields keys are.1)
+
+pub order-sorted : (fields : List Field) (was now : List SortKey) → AreDistinct fields → AreKeysOf fields was → IsPermutation was now → IsSortedBy (comes_first fields) now → IsOrderOf fields (map (λ key. key.number) now)
 order-sorted fields was now distinct list moved sorted =
-    let at : ℕ → Field = λ k. get_or fields k no_field in
-    let all : IsPermutation fields (picked fields now) = subst (λ m. IsPermutation m (picked fields now)) list.all (IsPermutation-map at was now moved) in
-    let P : ℕ → Type 0 = λ k. k < length fields in
+    let at : SortKey → Field = λ key. get_or fields key.number no_field in
+    let all : IsPermutation fields (map at now) = subst (λ m. IsPermutation m (map at now)) list.all (IsPermutation-map at was now moved) in
+    let P : SortKey → Type 0 = λ key. key.number < length fields in
+    let same = sym (picked-numbers fields now) in
     record {
-      within = recursion_from_All P now (All-permutation P was now moved (All-from_recursion P was list.within));
-      all = all;
-      ascend = names-ascend (picked fields now) (ascending_from_sorted at now sorted (distinct-permutation fields (picked fields now) all distinct));
+      within = within-numbers fields now (recursion_from_All P now (All-permutation P was now moved (All-from_recursion P was list.within)));
+      all = subst (IsPermutation fields) same all;
+      ascend = subst NamesAscend same (names-ascend (map at now) (ascending_from_sorted at now sorted (distinct-permutation fields (map at now) all distinct)));
     }

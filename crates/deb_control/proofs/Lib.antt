@@ -26,6 +26,7 @@ pub mod WrittenTexts
 pub mod ShownValues
 pub mod KeptTexts
 pub mod KnownNames
+pub mod NameFronts
 pub mod FieldOrders
 pub mod AppendedFields
 pub mod ValueLookups

@@ -1,6 +1,6 @@
 -- The fields of a paragraph in the order of their canonical names, and what is written of each.
 -- Debian Policy 5.1; the canonical text is this project's own.
-use Rattle.std.specs.Prelude.{◌≡◌, ℕ, zero, suc, ◌<◌, List, [], ◌∷◌, ◌++◌, length, map, take, get_or, Bool, true, false, None, codes, refl}
+use Rattle.std.specs.Prelude.{◌≡◌, ℕ, zero, suc, ◌*◌, ◌^◌, ◌<◌, List, [], ◌∷◌, ◌++◌, length, map, take, get_or, Bool, true, false, None, codes, refl}
 use Rattle.std.proofs.lemmas.Bool.{leb-true}
 use Rattle.std.specs.List.{AllByRecursion}
 use Rattle.std.specs.List.Sorted.{IsPermutation}
@@ -20,8 +20,9 @@ use Rattle.deb_control.specs.Checking.{text_built}
 use Rattle.deb_control.specs.Documents.{rules_of}
 use Rattle.deb_control.specs.Refusals.{built}
 use Rattle.deb_control.specs.Rules.{Rules}
-use Rattle.deb_control.specs.Sorting.{name_before}
+use Rattle.deb_control.specs.Sorting.{front_number, name_before}
 use Rattle.deb_control.specs.declared.canon_text.CanonText.{CanonText}
+use Rattle.deb_control.specs.declared.canon_text.SortKey.{SortKey}
 
 -- the canonical names in the rows of the table of fields
 abbrev pub known_names : List (List ℕ)
@@ -48,15 +49,28 @@ pub record IsOrderOf (fields : List Field) (order : List ℕ) : Type 0 where
   pub all : IsPermutation fields (picked fields order)
   pub ascend : NamesAscend (picked fields order)
 
--- These are the numbers of all fields, in their own order.
-pub record IsListOf (fields : List Field) (order : List ℕ) : Type 0 where
-  pub within : AllByRecursion (λ k. k < length fields) order
-  pub all : picked fields order ≡ fields
+-- the name of the field of a number
+abbrev pub name_of : List Field → ℕ → List ℕ
+name_of fields k = canonical_name (get_or fields k no_field).name
+
+-- A key has the front of the name of its field.
+abbrev pub IsKeyIn : List Field → SortKey → Type 0
+IsKeyIn fields key = key.front ≡ front_number 8 (name_of fields key.number)
+
+-- These are the keys of all fields, in their own order.
+pub record AreKeysOf (fields : List Field) (keys : List SortKey) : Type 0 where
+  pub fronts : AllByRecursion (IsKeyIn fields) keys
+  pub within : AllByRecursion (λ key. key.number < length fields) keys
+  pub all : map (λ key. get_or fields key.number no_field) keys ≡ fields
+
+-- what keys are compared by
+abbrev pub key_bytes : List Field → SortKey → List ℕ
+key_bytes fields key = key.front ∷ name_of fields key.number
 
 -- the name of one field comes before that of another
-abbrev pub comes_first : List Field → ℕ → ℕ → Bool
-comes_first fields k other =
-    name_before (get_or fields k no_field).name (get_or fields other no_field).name
+abbrev pub comes_first : List Field → SortKey → SortKey → Bool
+comes_first fields key other =
+    name_before (get_or fields key.number no_field).name (get_or fields other.number no_field).name
 
 -- The numbers of the fields in the rows. A row without one has 0, else one more than the number.
 abbrev pub numbers_in : List ℕ → List ℕ
@@ -141,8 +155,26 @@ rows_for_names : (row : ℕ) (name : List ℕ) → (AreRows two [] (row ∷ []) 
     × (AreRows two (name ∷ []) [] ≡ ⊥) × (AreRows two [] [] ≡ Unit {0})
 rows_for_names row name = (refl, refl, refl)
 
-first_names : (comes_first two 1 0 ≡ true) × (comes_first two 0 1 ≡ false)
-first_names = (refl, refl)
+-- the keys of both: `B` is 66 and `A` 65, each before seven bytes that are missing
+abbrev key_of_b : SortKey
+key_of_b = record { front = 66 * 256 ^ 7; number = 0 }
+
+abbrev key_of_a : SortKey
+key_of_a = record { front = 65 * 256 ^ 7; number = 1 }
+
+keys_of_two : AreKeysOf two (key_of_b ∷ key_of_a ∷ [])
+keys_of_two = record {
+  fronts = (refl, (refl, tt));
+  within = (leb-true 1 2 refl, (leb-true 2 2 refl, tt));
+  all = refl;
+}
+
+bytes_of_key : key_bytes two key_of_b ≡ 66 * 256 ^ 7 ∷ codes "B"
+bytes_of_key = refl
+
+first_keys : (comes_first two key_of_a key_of_b ≡ true)
+    × (comes_first two key_of_b key_of_a ≡ false)
+first_keys = (refl, refl)
 
 -- `B: 1` where bodies count as canonical text, and none is refused
 abbrev sample : Rules

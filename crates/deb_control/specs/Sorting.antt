@@ -1,5 +1,5 @@
 -- The order in which the fields of a paragraph are in canonical text (this project's own).
-use Rattle.std.specs.Prelude.{◌≡◌, ℕ, Bool, true, false, List, codes, refl}
+use Rattle.std.specs.Prelude.{◌≡◌, ℕ, zero, suc, ◌+◌, ◌*◌, ◌^◌, Bool, true, false, List, [], ◌∷◌, codes, refl}
 use Rattle.std.specs.Ordering.{is_lt}
 use Rattle.deb_base.specs.Names.{canonical_name}
 use Rattle.deb_syntax.specs.Meaning.{byte_order}
@@ -11,6 +11,13 @@ name_before name other = is_lt (byte_order (canonical_name name) (canonical_name
 
 abbrev pub comes_before : TypedField → TypedField → Bool
 comes_before field other = name_before field.raw.name.now other.raw.name.now
+
+-- The first k bytes of a text as one number, the first of them highest. A byte that is missing
+-- counts as 0.
+abbrev pub front_number : ℕ → List ℕ → ℕ
+front_number zero bytes = 0
+front_number (suc k) [] = 0
+front_number (suc k) (b ∷ bs) = b * 256 ^ k + front_number k bs
 
 order_of_fields : (field other : TypedField)
     → comes_before field other ≡ name_before field.raw.name.now other.raw.name.now
@@ -24,3 +31,8 @@ order_of_names : (name_before (codes "a") (codes "B") ≡ true)
     × (name_before (codes "A") (codes "a") ≡ false)
     × (name_before (codes "A") (codes "AA") ≡ true)
 order_of_names = (refl, refl, refl, refl, refl)
+
+-- the front of `ab` in three bytes and in one, and none of it
+front_of_two_bytes : (front_number 3 (codes "ab") ≡ 6_382_080)
+    × (front_number 1 (codes "ab") ≡ 97) × (front_number 0 (codes "ab") ≡ 0)
+front_of_two_bytes = (refl, refl, refl)

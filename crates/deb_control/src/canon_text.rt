@@ -1,6 +1,6 @@
 //! Writes the canonical text of a paragraph.
 
-ghost use Rattle.std.specs.Prelude.{◌≡◌, ◌++◌, ◌<◌, ℕ, List, [], length, get_or, false, true, None, Ok, IfOk, IsSome, OnOk};
+ghost use Rattle.std.specs.Prelude.{◌≡◌, ◌++◌, ◌<◌, ℕ, List, [], length, map, get_or, false, true, None, Ok, IfOk, IsSome, OnOk};
 ghost use Rattle.std.specs.List.{AllByRecursion, flat_map};
 ghost use Rattle.std.specs.List.Sorted.{IsPermutation, IsSortedBy};
 ghost use Rattle.deb_syntax.specs.Raw.{field_of, fields_of};
@@ -8,13 +8,14 @@ ghost use Rattle.deb_base.specs.declared.kind.Kind.TheVariants as kinds;
 ghost use Rattle.deb_field.specs.Values.{kind_refusal, value_text};
 ghost use Rattle.deb_field.specs.ValueMeanings.{value_meaning};
 ghost use Rattle.deb_control.specs.Canonical.{paragraph_text};
-ghost use Rattle.deb_control.specs.CanonTexts.{AppendsField, AppendsValue, ArePlaced, HasTextOf, IsGood, IsListOf, IsOrderOf, body_text, comes_first, no_field, numbers_in, picked, text_under};
+ghost use Rattle.deb_control.specs.CanonTexts.{AppendsField, AppendsValue, AreKeysOf, ArePlaced, HasTextOf, IsGood, IsKeyIn, IsOrderOf, body_text, comes_first, key_bytes, no_field, numbers_in, picked, text_under};
 ghost use Rattle.deb_control.specs.Documents.{rules_of};
+ghost use Rattle.deb_syntax.specs.Meaning.{byte_order};
 ghost use Rattle.deb_control.specs.Refusals.{canonical_entries, value_refusal_of};
 
 use crate::checker::ParagraphChecker;
 use crate::field::append_body;
-use crate::name::{append_name, compare};
+use crate::name::{append_name, compare, name_front};
 use crate::paragraph_check::{check_paragraph, has_required, kind_of_field};
 use crate::visitor::NoVisitor;
 use deb_base::{Fault, KNOWN_FIELDS, Kind, PARAGRAPH_LIMIT, Relationship};
@@ -61,7 +62,7 @@ impl CanonText {
         ensures refused { result ≡ Ok false
             → IsSome (value_refusal_of (rules_of doc) (fields_of paragraph.now)) }
     {
-        sort_fields(paragraph, &mut self.order)?;
+        sort_fields(alloc, paragraph, &mut self.order)?;
         self.text.clear();
         append_fields(alloc, doc, paragraph, &self.order, &mut self.text)
     }
@@ -84,7 +85,7 @@ impl ParagraphChecker for CanonText {
 }
 
 /// Replaces `order` by the numbers of a paragraph's fields in the order of their names.
-fn sort_fields(paragraph: &Raw<'_>, order: &mut Vec<usize>) -> Result<(), AllocError>
+fn sort_fields(alloc: Global, paragraph: &Raw<'_>, order: &mut Vec<usize>) -> Result<(), AllocError>
     ensures { OnOk result (IsOrderOf (fields_of paragraph.now) order.new.items) }
 {
     order.clear();
@@ -92,8 +93,7 @@ fn sort_fields(paragraph: &Raw<'_>, order: &mut Vec<usize>) -> Result<(), AllocE
     if place_fields(paragraph, &mut rows) {
         append_numbers(&rows, order)?;
     } else {
-        list_fields(paragraph, order)?;
-        sort_by_names(paragraph, order);
+        append_sorted(alloc, paragraph, order)?;
     }
     Ok(())
 }
@@ -128,25 +128,71 @@ fn append_numbers(rows: &[usize], order: &mut Vec<usize>) -> Result<(), AllocErr
     Ok(())
 }
 
-/// Appends the numbers of a paragraph's fields, counted from 0, to an empty list.
-fn list_fields(paragraph: &Raw<'_>, order: &mut Vec<usize>) -> Result<(), AllocError>
+/// By what a field is sorted: the front of its name, and its number, counted from 0.
+#[derive(Clone, Copy)]
+struct SortKey {
+    front: u64,
+    number: usize,
+}
+
+/// Appends the numbers of a paragraph's fields to an empty list, in the order of their names.
+fn append_sorted(
+    alloc: Global,
+    paragraph: &Raw<'_>,
+    order: &mut Vec<usize>,
+) -> Result<(), AllocError>
     ensures { OnOk result (order.old.items ≡ []
-        → IsListOf (fields_of paragraph.now) order.new.items) }
+        → IsOrderOf (fields_of paragraph.now) order.new.items) }
 {
-    for number in 0..paragraph.len() {
-        order.push(number)?;
-    }
+    let mut keys = list_keys(alloc, paragraph)?;
+    sort_keys(paragraph, &mut keys);
+    append_numbers_of(&keys, order)?;
     Ok(())
 }
 
-/// Sorts fields by the canonical spellings of their names.
-fn sort_by_names(paragraph: &Raw<'_>, order: &mut Vec<usize>)
-    ensures permutation { IsPermutation order.old.items order.new.items }
-    ensures sorted { IsSortedBy (comes_first (fields_of paragraph.now)) order.new.items }
+/// The sort keys of a paragraph's fields, in the order of the paragraph.
+fn list_keys(alloc: Global, paragraph: &Raw<'_>) -> Result<Vec<SortKey>, AllocError>
+    ensures { IfOk result (λ keys. AreKeysOf (fields_of paragraph.now) keys.items) }
 {
-    order.sort_unstable_by(|one, other| {
-        compare(name_at(paragraph, *one), name_at(paragraph, *other))
-    });
+    let mut keys = Vec::with_capacity(alloc, paragraph.len())?;
+    for number in 0..paragraph.len() {
+        let front = name_front(name_at(paragraph, number));
+        keys.push(SortKey { front, number })?;
+    }
+    Ok(keys)
+}
+
+/// Sorts the keys of fields by the canonical spellings of their names.
+fn sort_keys(paragraph: &Raw<'_>, keys: &mut Vec<SortKey>)
+    requires { AllByRecursion (IsKeyIn (fields_of paragraph.now)) keys.old.items }
+    ensures permutation { IsPermutation keys.old.items keys.new.items }
+    ensures sorted { IsSortedBy (comes_first (fields_of paragraph.now)) keys.new.items }
+{
+    keys.sort_unstable_by(|key, other| compare_keys(paragraph, key, other));
+}
+
+/// Compares the fronts of two names, and the names if these are equal.
+fn compare_keys(paragraph: &Raw<'_>, key: &SortKey, other: &SortKey) -> Ordering
+    ensures { result ≡ byte_order (key_bytes (fields_of paragraph.now) key.now)
+        (key_bytes (fields_of paragraph.now) other.now) }
+{
+    match key.front.cmp(&other.front) {
+        Ordering::Equal => compare(
+            name_at(paragraph, key.number),
+            name_at(paragraph, other.number),
+        ),
+        unequal => unequal,
+    }
+}
+
+/// Appends the numbers in keys.
+fn append_numbers_of(keys: &[SortKey], order: &mut Vec<usize>) -> Result<(), AllocError>
+    ensures { OnOk result (order.new.items ≡ order.old.items ++ map (λ key. key.number) keys.now) }
+{
+    for key in keys {
+        order.push(key.number)?;
+    }
+    Ok(())
 }
 
 /// The name of the field of a number, or nothing if there is no such field.

@@ -1,12 +1,13 @@
 //! The canonical spelling of names, and its order.
 
-ghost use Rattle.std.specs.Prelude.{◌≡◌, ◌++◌, ℕ, List, IfSome, if◌then◌else◌, ◌==◌, map, OnOk};
+ghost use Rattle.std.specs.Prelude.{◌≡◌, ◌++◌, ◌≤◌, ℕ, List, IfSome, if◌then◌else◌, ◌==◌, length, map, take, OnOk};
 ghost use Rattle.std.specs.Char.{to_ascii_lowercase, to_ascii_uppercase};
 ghost use Rattle.deb_base.specs.Kinds.{known_row};
 ghost use Rattle.deb_base.specs.KnownFields.{row_of};
 ghost use Rattle.deb_base.specs.Names.{canonical_name};
 ghost use Rattle.deb_syntax.specs.Meaning.{byte_order};
 ghost use Rattle.deb_control.specs.CanonTexts.{known_names};
+ghost use Rattle.deb_control.specs.Sorting.{front_number};
 
 use deb_base::{FieldId, KNOWN_FIELDS};
 use deb_syntax::RawField;
@@ -71,13 +72,18 @@ static KNOWN_NAMES: [&'static [u8]; KNOWN_FIELDS] = [
     b"Version",
 ];
 
+/// How many bytes of two names are compared at once.
+const STEP: usize = 32;
+
 /// Compares the canonical spellings of two names in the order of bytes.
 pub(crate) fn compare(name: &[u8], other: &[u8]) -> Ordering
     ensures { result ≡ byte_order (canonical_name name.now) (canonical_name other.now) }
 {
-    let mut rest = name;
-    let mut rest_beside = other;
-    let mut before = b'-';
+    // Bytes that are the same are spelled alike.
+    let same = same_front(name, other);
+    let (_, mut rest) = name.split_at(same);
+    let (_, mut rest_beside) = other.split_at(same);
+    let mut before = if same > 0 { name[same - 1] } else { b'-' };
     while let [byte, behind @ ..] = rest {
         let [beside, behind_beside @ ..] = rest_beside else {
             return Ordering::Greater;
@@ -95,6 +101,35 @@ pub(crate) fn compare(name: &[u8], other: &[u8]) -> Ordering
         [] => Ordering::Equal,
         [_, ..] => Ordering::Less,
     }
+}
+
+/// How many bytes in front of two names were found to be the same: as many whole steps as are.
+fn same_front(name: &[u8], other: &[u8]) -> usize
+    ensures within { (result ≤ length name.now) × (result ≤ length other.now) }
+    ensures same { take result name.now ≡ take result other.now }
+{
+    let mut same = 0;
+    while name.len() - same >= STEP
+        && other.len() - same >= STEP
+        && name[same..same + STEP] == other[same..same + STEP]
+    {
+        same += STEP;
+    }
+    same
+}
+
+/// The first bytes of the canonical spelling of a name, as one number.
+pub(crate) fn name_front(name: &[u8]) -> u64
+    ensures { result ≡ front_number 8 (canonical_name name.now) }
+{
+    let mut front = 0;
+    let mut before = b'-';
+    for index in 0..8 {
+        let byte = if index < name.len() { name[index] } else { 0 };
+        front = front * 256 + u64::from(canonical_byte(before, byte));
+        before = byte;
+    }
+    front
 }
 
 /// Appends the canonical spelling of a field's name.
