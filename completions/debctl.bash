@@ -1,16 +1,71 @@
-# bash completion for debctl(1)
-
-# Offers files. bash splits a word at colons, and replaces what comes after the last one.
-_debctl_files() {
-    _filedir
-    __ltrim_colon_completions "$cur"
-}
+# bash completion for debctl(1), made by completions/generate
 
 _debctl() {
     local cur prev words cword split
     _init_completion -s -n : || return
-    local commands='check explain audit normalise same diff compare canon-version version-key sort query unmet help'
-    local command='' given=0 ended='' options='--help' i
+    # What each command offers: its options, their values, and its words by their number.
+    local -A offers=(
+        [:options]='--help --version'
+        [:0]='check explain audit normalise same diff compare canon-version version-key sort query unmet help'
+        [check:options]='--kind --all --complete --least --help'
+        [check:0]=files
+        [check:-k]='binary packages source sources any'
+        [check:--kind]='binary packages source sources any'
+        [check:--least]=''
+        [explain:options]='--kind --all --code --relation --version-text --help'
+        [explain:0]=files
+        [explain:-k]='binary packages source sources any'
+        [explain:--kind]='binary packages source sources any'
+        [explain:--code]=''
+        [explain:--relation]=''
+        [explain:--version-text]=''
+        [audit:options]='--kind --all --complete --least --files0-from --null --help'
+        [audit:more]=files
+        [audit:-k]='binary packages source sources any'
+        [audit:--kind]='binary packages source sources any'
+        [audit:--least]=''
+        [audit:--files0-from]=files
+        [normalise:options]='--kind --help'
+        [normalise:0]=files
+        [normalise:-k]='binary packages source sources any'
+        [normalise:--kind]='binary packages source sources any'
+        [same:options]='--kind --help'
+        [same:0]=files
+        [same:1]=files
+        [same:-k]='binary packages source sources any'
+        [same:--kind]='binary packages source sources any'
+        [diff:options]='--kind --values --spelled --help'
+        [diff:0]=files
+        [diff:1]=files
+        [diff:-k]='binary packages source sources'
+        [diff:--kind]='binary packages source sources'
+        [compare:options]=--help
+        [compare:0]=''
+        [compare:1]='lt le eq ne ge gt'
+        [compare:2]=''
+        [canon-version:options]=--help
+        [canon-version:0]=''
+        [version-key:options]=--help
+        [version-key:more]=''
+        [sort:options]='--reverse --help'
+        [sort:0]=files
+        [query:options]='--arch --profiles --why --spelled --relation-from --help'
+        [query:0]=''
+        [query:1]=files
+        [query:--arch]='$(dpkg-architecture -L 2>/dev/null)'
+        [query:--profiles]=''
+        [query:--relation-from]=files
+        [unmet:options]='--arch --profiles --kind --recommends --spelled --help'
+        [unmet:0]=files
+        [unmet:1]=files
+        [unmet:--arch]='$(dpkg-architecture -L 2>/dev/null)'
+        [unmet:--profiles]=''
+        [unmet:-k]='binary packages source sources'
+        [unmet:--kind]='binary packages source sources'
+        [help:options]=--help
+        [help:0]='check explain audit normalise same diff compare canon-version version-key sort query unmet help kinds'
+    )
+    local command='' given=0 ended='' i key offer
     for ((i = 1; i < cword; i++)); do
         if [[ $ended || ${words[i]} != -?* ]]; then
             if [[ -z $command ]]; then command=${words[i]}; else ((given++)); fi
@@ -18,52 +73,26 @@ _debctl() {
         fi
         case ${words[i]} in
             --) ended=yes ;;
-            -k | --kind | --files0-from | --arch | --profiles | --least) ((i++)) ;;
+            -k | --kind | --least | --arch | --profiles) ((i++)) ;;
             # The value is in place of a word, as it is if it is a word of its own.
-            --code=* | --relation=* | --version-text=* | --relation-from=*) ((given++)) ;;
+            --code=* | --relation=* | --version-text=* | --files0-from=* | --relation-from=*) ((given++)) ;;
         esac
     done
-    case $ended$prev in
-        -k | --kind)
-            local kinds='packages binary source sources'
-            [[ $command == diff || $command == unmet ]] || kinds+=' any'
-            mapfile -t COMPREPLY < <(compgen -W "$kinds" -- "$cur")
-            return
-            ;;
-        --arch)
-            mapfile -t COMPREPLY < <(compgen -W "$(dpkg-architecture -L 2>/dev/null)" -- "$cur")
-            return
-            ;;
-        --files0-from | --relation-from)
-            _debctl_files
-            return
-            ;;
-        --code | --relation | --version-text | --profiles | --least) return ;;
-    esac
-    ! $split || return
-    case $command in
-        '') options='--help --version' ;;
-        check) options='--kind --all --complete --least --help' ;;
-        normalise | same) options='--kind --help' ;;
-        diff) options='--kind --values --spelled --help' ;;
-        explain) options='--kind --all --code --relation --version-text --help' ;;
-        audit) options='--kind --all --complete --least --files0-from --null --help' ;;
-        sort) options='--reverse --help' ;;
-        query) options='--arch --profiles --why --spelled --relation-from --help' ;;
-        unmet) options='--arch --profiles --kind --recommends --spelled --help' ;;
-    esac
-    if [[ -z $ended && $cur == -* ]]; then
-        mapfile -t COMPREPLY < <(compgen -W "$options" -- "$cur")
+    key=$command:$given
+    if [[ -z $ended && $prev == -* && ${offers[$command:$prev]+is} ]]; then
+        key=$command:$prev
+    elif $split; then
         return
+    elif [[ -z $ended && $cur == -* ]]; then
+        key=$command:options
     fi
-    case $command:$given in
-        :0) mapfile -t COMPREPLY < <(compgen -W "$commands" -- "$cur") ;;
-        help:0) mapfile -t COMPREPLY < <(compgen -W "$commands kinds" -- "$cur") ;;
-        check:0 | explain:0 | audit:* | normalise:0 | same:[01] | diff:[01] | sort:0 | query:1 | \
-            unmet:[01])
-            _debctl_files
-            ;;
-        compare:1) mapfile -t COMPREPLY < <(compgen -W 'lt le eq ne ge gt' -- "$cur") ;;
-    esac
+    offer=${offers[$key]-${offers[$command:more]-}}
+    if [[ $offer == files ]]; then
+        _filedir
+        # bash splits a word at colons, and replaces what comes after the last one.
+        __ltrim_colon_completions "$cur"
+    else
+        mapfile -t COMPREPLY < <(compgen -W "$offer" -- "$cur")
+    fi
 } &&
     complete -F _debctl debctl

@@ -1,84 +1,104 @@
-# fish completion for debctl(1)
+# fish completion for debctl(1), made by completions/generate
 
 # Prints the command and its arguments before the cursor, without options and their values. The
-# values of --code, --relation, --version-text and --relation-from are in place of a word.
+# values of some options are in place of a word.
 function __debctl_arguments
-    set -l is_value false
-    set -l is_ended false
-    for word in (commandline -opc)[2..]
-        if $is_value
-            set is_value false
-        else if $is_ended
-            printf '%s\n' $word
-        else
-            switch $word
-                case --
-                    set is_ended true
-                case -k --kind --files0-from --arch --profiles --least
-                    set is_value true
-                case - '--code=*' '--relation=*' '--version-text=*' '--relation-from=*'
-                    printf '%s\n' $word
-                case '-*'
-                case '*'
-                    printf '%s\n' $word
-            end
+    set -l words (commandline -opc)[2..]
+    while set -q words[1]
+        switch $words[1]
+            case --
+                string join -- \n $words[2..]
+                return
+            case -k --kind --least --arch --profiles
+                set words $words[2..]
+            case - '--code=*' '--relation=*' '--version-text=*' '--files0-from=*' '--relation-from=*'
+                printf '%s\n' $words[1]
+            case '-*'
+            case '*'
+                printf '%s\n' $words[1]
         end
+        set words $words[2..]
     end
 end
 
-# Returns whether the command is one of these; without any, whether there is none yet.
-function __debctl_command
-    set -l arguments (__debctl_arguments)
-    if set -q argv[1]
-        contains -- "$arguments[1]" $argv
-    else
-        not set -q arguments[1]
-    end
-end
-
-# Returns whether $argv[1] arguments come before the cursor, and the command is one of the others.
+# Returns whether this is the command, or without one whether there is none yet; and whether this many
+# arguments come after it, if a number is given.
 function __debctl_at
-    set -l arguments (__debctl_arguments)
-    test (count $arguments) -eq (math $argv[1] + 1); and contains -- $arguments[1] $argv[2..]
+    set -l words (__debctl_arguments)
+    test "$words[1]" = "$argv[1]"; and contains -- "$argv[2]" '' (math (count $words) - 1)
 end
 
 complete -c debctl -f
-complete -c debctl -n __debctl_command -a check -d 'Check whether a file is well formed'
-complete -c debctl -n __debctl_command -a explain -d 'Explain why a file is refused'
-complete -c debctl -n __debctl_command -a audit -d 'Check many files and print one line for each'
-complete -c debctl -n __debctl_command -a normalise -d 'Write the canonical text of a file'
-complete -c debctl -n __debctl_command -a same -d 'Check whether two files mean the same'
-complete -c debctl -n __debctl_command -a diff -d 'List the paragraphs that changed'
-complete -c debctl -n __debctl_command -a compare -d 'Compare two versions'
-complete -c debctl -n __debctl_command -a canon-version -d 'Print the canonical text of a version'
-complete -c debctl -n __debctl_command -a version-key -d 'Print keys that sort as their versions do'
-complete -c debctl -n __debctl_command -a sort -d 'Sort the lines of a file, each a version'
-complete -c debctl -n __debctl_command -a query -d 'Find the packages that meet a relation'
-complete -c debctl -n __debctl_command -a unmet -d 'Find dependencies that an index does not meet'
-complete -c debctl -n __debctl_command -a help -d 'Print the help'
-complete -c debctl -n __debctl_command -s V -l version -d 'Print the version'
-complete -c debctl -s h -l help -d 'Print the help'
-complete -c debctl -n '__debctl_at 0 help' -a 'check explain audit normalise same diff compare canon-version version-key sort query unmet help kinds'
-complete -c debctl -n '__debctl_command check explain audit normalise same' -s k -l kind -x -a 'packages binary source sources any' -d 'Kind of file'
-complete -c debctl -n '__debctl_command diff' -s k -l kind -x -a 'packages binary source sources' -d 'Kind of both files'
-complete -c debctl -n '__debctl_command unmet' -s k -l kind -x -a 'packages binary source sources' -d 'Kind of the second file'
-complete -c debctl -n '__debctl_command check explain audit' -s a -l all -d 'Report every error, not only the first one'
-complete -c debctl -n '__debctl_command check audit' -l complete -d 'Refuse a file that does not end with a newline'
-complete -c debctl -n '__debctl_command check audit' -l least -x -d 'Fewest paragraphs of a file'
-complete -c debctl -n '__debctl_at 0 check explain normalise same diff sort unmet' -F
-complete -c debctl -n '__debctl_at 1 same diff query unmet' -F
-complete -c debctl -n '__debctl_command audit' -F
-complete -c debctl -n '__debctl_command explain' -l code -x -d 'Error code'
-complete -c debctl -n '__debctl_command explain' -l relation -x -d 'Relation'
-complete -c debctl -n '__debctl_command explain' -l version-text -x -d 'Version'
-complete -c debctl -n '__debctl_command audit' -l files0-from -r -F -d 'File that lists the paths'
-complete -c debctl -n '__debctl_command audit' -s 0 -l null -d 'End each line with a byte 0'
-complete -c debctl -n '__debctl_command diff' -l values -d 'Print the lines of the fields that differ'
-complete -c debctl -n '__debctl_command sort' -s r -l reverse -d 'Sort the latest version first'
-complete -c debctl -n '__debctl_at 1 compare' -a 'lt le eq ne ge gt'
-complete -c debctl -n '__debctl_command query unmet' -l arch -x -a '(dpkg-architecture -L 2>/dev/null)' -d 'Target architecture'
-complete -c debctl -n '__debctl_command query unmet' -l profiles -x -d 'Active build profiles'
-complete -c debctl -n '__debctl_command query' -l why -d 'Say why groups are unmet or ignored'
-complete -c debctl -n '__debctl_command query unmet diff' -l spelled -d 'Print versions as files spell them'
-complete -c debctl -n '__debctl_command query' -l relation-from -r -F -d 'File that contains the relation'
-complete -c debctl -n '__debctl_command unmet' -l recommends -d 'Try the groups of Recommends too'
+complete -c debctl -n __debctl_at -a check -d 'Checks whether a file is well formed'
+complete -c debctl -n __debctl_at -a explain -d 'Explains why a file is refused'
+complete -c debctl -n __debctl_at -a audit -d 'Checks many files and prints one line for each'
+complete -c debctl -n __debctl_at -a normalise -d 'Writes the canonical text of a file'
+complete -c debctl -n __debctl_at -a same -d 'Checks whether two files mean the same'
+complete -c debctl -n __debctl_at -a diff -d 'Lists the paragraphs that changed between two files'
+complete -c debctl -n __debctl_at -a compare -d 'Compares two versions in Debian'"'"'s order'
+complete -c debctl -n __debctl_at -a canon-version -d 'Prints the canonical text of a version'
+complete -c debctl -n __debctl_at -a version-key -d 'Prints keys whose byte order is the order of their versions'
+complete -c debctl -n __debctl_at -a sort -d 'Sorts the lines of a file, each a version, in Debian'"'"'s order'
+complete -c debctl -n __debctl_at -a query -d 'Finds the packages of an index that meet a relation'
+complete -c debctl -n __debctl_at -a unmet -d 'Finds the dependencies of a whole file that no package of an index meets'
+complete -c debctl -n __debctl_at -a help -d 'Prints the help of the program or of a command'
+complete -c debctl -n __debctl_at -s h -l help -d 'Print help'
+complete -c debctl -n __debctl_at -s V -l version -d 'Print version'
+complete -c debctl -n '__debctl_at check 0' -F
+complete -c debctl -n '__debctl_at check' -s k -l kind -x -a 'binary packages source sources any' -d 'The kind of file'
+complete -c debctl -n '__debctl_at check' -s a -l all -d 'Report every error, not only the first one'
+complete -c debctl -n '__debctl_at check' -l complete -d 'Refuse a file that doesn'"'"'t end with a newline'
+complete -c debctl -n '__debctl_at check' -l least -x -d 'Refuse a file of fewer than N paragraphs'
+complete -c debctl -n '__debctl_at check' -s h -l help -d 'Print help'
+complete -c debctl -n '__debctl_at explain 0' -F
+complete -c debctl -n '__debctl_at explain' -s k -l kind -x -a 'binary packages source sources any' -d 'The kind of file'
+complete -c debctl -n '__debctl_at explain' -s a -l all -d 'Report every error, not only the first one'
+complete -c debctl -n '__debctl_at explain' -l code -x -d 'Explain an error code, from 1 to 23 or by its name, instead of a file'
+complete -c debctl -n '__debctl_at explain' -l relation -x -d 'Explain a relation instead of a file'
+complete -c debctl -n '__debctl_at explain' -l version-text -x -d 'Explain a version instead of a file'
+complete -c debctl -n '__debctl_at explain' -s h -l help -d 'Print help'
+complete -c debctl -n '__debctl_at audit' -F
+complete -c debctl -n '__debctl_at audit' -s k -l kind -x -a 'binary packages source sources any' -d 'The kind of file'
+complete -c debctl -n '__debctl_at audit' -s a -l all -d 'Report every error, not only the first one'
+complete -c debctl -n '__debctl_at audit' -l complete -d 'Refuse a file that doesn'"'"'t end with a newline'
+complete -c debctl -n '__debctl_at audit' -l least -x -d 'Refuse a file of fewer than N paragraphs'
+complete -c debctl -n '__debctl_at audit' -l files0-from -r -F -d 'A file that lists the paths, each followed by a byte 0'
+complete -c debctl -n '__debctl_at audit' -s 0 -l null -d 'End each line with a byte 0, and print paths unchanged'
+complete -c debctl -n '__debctl_at audit' -s h -l help -d 'Print help'
+complete -c debctl -n '__debctl_at normalise 0' -F
+complete -c debctl -n '__debctl_at normalise' -s k -l kind -x -a 'binary packages source sources any' -d 'The kind of file'
+complete -c debctl -n '__debctl_at normalise' -s h -l help -d 'Print help'
+complete -c debctl -n '__debctl_at same 0' -F
+complete -c debctl -n '__debctl_at same 1' -F
+complete -c debctl -n '__debctl_at same' -s k -l kind -x -a 'binary packages source sources any' -d 'The kind of file'
+complete -c debctl -n '__debctl_at same' -s h -l help -d 'Print help'
+complete -c debctl -n '__debctl_at diff 0' -F
+complete -c debctl -n '__debctl_at diff 1' -F
+complete -c debctl -n '__debctl_at diff' -s k -l kind -x -a 'binary packages source sources' -d 'The kind of both files'
+complete -c debctl -n '__debctl_at diff' -l values -d 'Print the lines of the fields that differ'
+complete -c debctl -n '__debctl_at diff' -l spelled -d 'Print each version as its file spells it'
+complete -c debctl -n '__debctl_at diff' -s h -l help -d 'Print help'
+complete -c debctl -n '__debctl_at compare 1' -a 'lt le eq ne ge gt'
+complete -c debctl -n '__debctl_at compare' -s h -l help -d 'Print help'
+complete -c debctl -n '__debctl_at canon-version' -s h -l help -d 'Print help'
+complete -c debctl -n '__debctl_at version-key' -s h -l help -d 'Print help'
+complete -c debctl -n '__debctl_at sort 0' -F
+complete -c debctl -n '__debctl_at sort' -s r -l reverse -d 'Sort the latest version first'
+complete -c debctl -n '__debctl_at sort' -s h -l help -d 'Print help'
+complete -c debctl -n '__debctl_at query 1' -F
+complete -c debctl -n '__debctl_at query' -l arch -x -a '(dpkg-architecture -L 2>/dev/null)' -d 'The target architecture, such as amd64'
+complete -c debctl -n '__debctl_at query' -l profiles -x -d 'The active build profiles, separated by commas'
+complete -c debctl -n '__debctl_at query' -l why -d 'Say below each unmet or ignored group why it is'
+complete -c debctl -n '__debctl_at query' -l spelled -d 'Print each version as its file spells it'
+complete -c debctl -n '__debctl_at query' -l relation-from -r -F -d 'A file that contains the relation'
+complete -c debctl -n '__debctl_at query' -s h -l help -d 'Print help'
+complete -c debctl -n '__debctl_at unmet 0' -F
+complete -c debctl -n '__debctl_at unmet 1' -F
+complete -c debctl -n '__debctl_at unmet' -l arch -x -a '(dpkg-architecture -L 2>/dev/null)' -d 'The target architecture, such as amd64'
+complete -c debctl -n '__debctl_at unmet' -l profiles -x -d 'The active build profiles, separated by commas'
+complete -c debctl -n '__debctl_at unmet' -s k -l kind -x -a 'binary packages source sources' -d 'The kind of PATH'
+complete -c debctl -n '__debctl_at unmet' -l recommends -d 'Try the groups of Recommends too'
+complete -c debctl -n '__debctl_at unmet' -l spelled -d 'Print each version as its file spells it'
+complete -c debctl -n '__debctl_at unmet' -s h -l help -d 'Print help'
+complete -c debctl -n '__debctl_at help 0' -a 'check explain audit normalise same diff compare canon-version version-key sort query unmet help kinds'
+complete -c debctl -n '__debctl_at help' -s h -l help -d 'Print help'
