@@ -41,8 +41,8 @@ use std::alloc::Global;
 /// - `Fault::Refused`: the file isn't accepted. This is its first refusal, with a code from 1 to 21
 ///   and a line of the file, counted from 1. Nothing was written.
 /// - `Fault::Read`: a read failed in this call. Nothing was written.
-/// - `Fault::Memory`: a growth of memory was refused. Nothing was written, or the lines of the first
-///   paragraphs of an accepted file.
+/// - `Fault::Memory`: a growth of memory was refused. Nothing was written, or the lines of the
+///   first paragraphs of an accepted file.
 /// - `Fault::Write`: a write failed in this call. A prefix of the lines of an accepted file was
 ///   written.
 pub fn unmet_in_itself<R: Source, W: Sink>(
@@ -59,8 +59,8 @@ pub fn unmet_in_itself<R: Source, W: Sink>(
     ensures refused { (text : List ℕ) → R.left reader.old ≡ Some text
         → IfRefused result (λ refusal. refusal_of Doc.Packages text ≡ Some refusal) }
     ensures stopped { (text : List ℕ) → R.left reader.old ≡ Some text
-        → IfErr result (λ fault. StopsOwn fault strength versions (environment_of environment.now) text
-        (W.held writer.old) (W.held writer.new)) }
+        → IfErr result (λ fault. StopsOwn fault strength versions
+        (environment_of environment.now) text (W.held writer.old) (W.held writer.new)) }
     ensures reads_at_most { (text : List ℕ) → R.left reader.old ≡ Some text
         → TakesNoMore text file_limit (R.left reader.new) }
 
@@ -96,7 +96,7 @@ pub fn unmet_in_itself<R: Source, W: Sink>(
 ///
 /// # Errors
 ///
-/// Out of memory: the lines of the first paragraphs were written; or `Fault::Write`: a prefix of all.
+/// Out of memory: the lines of the first paragraphs were written. `Fault::Write`: a prefix of all.
 fn write_kept<W: Sink>(
     alloc: Global,
     question: &Question<'_>,
