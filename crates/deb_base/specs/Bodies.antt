@@ -173,9 +173,9 @@ limits : (paragraph_limit ≡ 16777216) × (file_limit ≡ 4294967295)
 unfolding paragraph_limit file_limit
 limits = (refl, refl)
 
-limits_of_blank_lines : (line : Line) → is_blank line ≡ is_blank_under 16777216 line
+limit_of_blank_lines : is_blank ≡ is_blank_under 16777216
 unfolding paragraph_limit
-limits_of_blank_lines line = refl
+limit_of_blank_lines = refl
 
 -- each later line is judged, and not the second one alone
 later_lines : (is_body_shape (codes "a\n b\nc") ≡ false)

@@ -7,6 +7,7 @@ pub mod FieldNames
 pub mod Kinds
 pub mod KnownFields
 pub mod Lines
+pub mod Literals
 pub mod Memory
 pub mod Names
 pub mod PackageNames

@@ -5,7 +5,6 @@ use Rattle.std.proofs.Math.Dec.{lit≤}
 use Rattle.std.specs.Io.KnownBytes.{Consumes, IsAtEnd}
 use Rattle.deb_base.specs.declared.fault.Fault.{Fault}
 use Rattle.deb_base.specs.declared.fault.Fault.TheVariants.{Refused, Memory, Read, Write}
-use Rattle.deb_base.specs.declared.refusal.Refusal.{Refusal}
 
 -- the most bytes that one read has room for
 abbrev pub piece_limit : ℕ
@@ -43,12 +42,6 @@ IsMemoryOrRead (Refused refusal) = ⊥
 IsMemoryOrRead Memory = Unit {0}
 IsMemoryOrRead Read = Unit {0}
 IsMemoryOrRead Write = ⊥
-
--- of the faults two are those of a file that is read
-faults_of_reading : (refusal : Refusal) → (IsMemoryOrRead (Refused refusal) ≡ ⊥)
-    × (IsMemoryOrRead Memory ≡ Unit {0}) × (IsMemoryOrRead Read ≡ Unit {0})
-    × (IsMemoryOrRead Write ≡ ⊥)
-faults_of_reading refusal = (refl, refl, refl, refl)
 
 -- enough of a text is read where it is read whole, or one byte beyond the most
 whole_text : IsEnough 9 (codes "1\n2") (codes "1\n2")
