@@ -1,11 +1,12 @@
 -- Versions that are kept as a text: what they mean, and what was kept.
-use Rattle.std.specs.Prelude.{◌≡◌, ℕ, List, [], ◌∷◌, None, codes, refl}
-use Rattle.std.proofs.Common.{ap}
+use Rattle.std.specs.Prelude.{◌≡◌, ℕ, List, [], ◌∷◌, codes, refl}
 use Rattle.deb_version.specs.declared.canonical_version.CanonicalVersion.{CanonicalVersion}
 use Rattle.deb_version.specs.declared.version_text.VersionText.{VersionText}
 use Rattle.deb_version.specs.Faults.{first_fault}
 use Rattle.deb_version.specs.Parts.{Meaning, no_revision}
 use Rattle.deb_version.specs.Places.{version_in}
+use Rattle.deb_version.specs.Lent.{lent}
+use Rattle.std.proofs.Common.{ap}
 
 abbrev pub kept_version : CanonicalVersion → Meaning
 kept_version v = version_in v.text.items
@@ -20,9 +21,10 @@ worked-kept : (v : CanonicalVersion) → v.text.items ≡ codes "2:1.0"
 worked-kept v = ap version_in
 
 -- as it is spelled
-worked-text : (faultless : first_fault (codes "00:1.00-0") ≡ None)
-    → text_of (record {
-      text = record { ref_ptr = (0, 0); now = codes "00:1.00-0" };
-      faultless = faultless;
-    }) ≡ codes "00:1.00-0"
-worked-text faultless = refl
+abbrev zeros : VersionText
+unfolding first_fault
+zeros = record { text = lent (codes "00:1.00-0"); faultless = refl }
+
+worked-text : text_of zeros ≡ codes "00:1.00-0"
+unfolding zeros
+worked-text = refl
