@@ -1,9 +1,9 @@
 -- What an `Env` represents.
-use Rattle.std.proofs.Common.{◌≡◌, ℕ, List, [], ◌∷◌, Vec, map, codes, refl, ap}
-use Rattle.std.specs.declared.alloc.Global.{Global}
+use Rattle.std.proofs.Common.{◌≡◌, ℕ, List, [], ◌∷◌, map, codes, refl}
 use Rattle.deb_relation.specs.declared.environment.Env.{Env}
 use Rattle.deb_relation.specs.Applying.{Environment}
 use Rattle.deb_relation.specs.Targets.{bytes_of}
+use Rattle.deb_base.specs.Literals.{vector}
 
 abbrev pub environment_with : List ℕ → List (List ℕ) → Environment
 environment_with target profiles = record { target = target; profiles = profiles }
@@ -17,9 +17,8 @@ worked-environment : environment_with (codes "amd64") (codes "nocheck" ∷ [])
 worked-environment = refl
 
 -- the profiles in their order
-worked-profiles : (environment : Env) (a b : Vec ℕ Global)
-    → environment.profiles.items ≡ a ∷ b ∷ []
-    → environment_of environment
-    ≡ record { target = environment.target.items; profiles = a.items ∷ b.items ∷ [] }
-worked-profiles environment a b =
-    ap (λ profiles. environment_with environment.target.items (map bytes_of profiles))
+worked-profiles : environment_of (record {
+  target = vector (codes "amd64") refl;
+  profiles = vector (vector (codes "nocheck") refl ∷ vector (codes "cross") refl ∷ []) refl;
+}) ≡ record { target = codes "amd64"; profiles = codes "nocheck" ∷ codes "cross" ∷ [] }
+worked-profiles = refl

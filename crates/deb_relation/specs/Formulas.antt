@@ -1,6 +1,6 @@
 -- What the lists of a formula represent while they are ordered.
-use Rattle.std.proofs.Common.{◌≡◌, ℕ, true, false, List, [], ◌∷◌, codes, ap}
-use Rattle.deb_version.specs.Lent.{lent}
+use Rattle.std.proofs.Common.{◌≡◌, ℕ, true, false, List, [], ◌∷◌, codes, refl}
+use Rattle.deb_base.specs.Literals.{lent, vector}
 use Rattle.deb_relation.specs.declared.profile_list.ProfileList.{ProfileList}
 use Rattle.deb_relation.specs.Meaning.{Restrictions}
 use Rattle.deb_relation.specs.Texts.{restrictions_text}
@@ -14,12 +14,8 @@ abbrev pub profiles_key : ProfileList → List ℕ
 profiles_key list = restrictions_text (profiles_of list)
 
 -- `<!b a>`, whose items keep their order here
-worked-items : (list : ProfileList)
-    → list.items.items ≡ (true, lent (codes "b")) ∷ (false, lent (codes "a")) ∷ []
-    → profiles_of list ≡ (true, codes "b") ∷ (false, codes "a") ∷ []
-worked-items list = ap items_of
-
-worked-key : (list : ProfileList)
-    → list.items.items ≡ (true, lent (codes "b")) ∷ (false, lent (codes "a")) ∷ []
-    → profiles_key list ≡ codes "<!b a>"
-worked-key list = ap (λ items. restrictions_text (items_of items))
+worked-list : (λ (list : ProfileList). (profiles_of list, profiles_key list)) (record {
+  items = vector ((true, lent (codes "b")) ∷ (false, lent (codes "a")) ∷ []) refl;
+  profiles = refl;
+}) ≡ ((true, codes "b") ∷ (false, codes "a") ∷ [], codes "<!b a>")
+worked-list = refl

@@ -183,6 +183,13 @@ worked-set_with : set_with itself (codes "c" ∷ codes "a" ∷ []) (codes "a" �
 worked-set_with = refl
 
 -- the groups in the order of their pieces, repeats kept
-worked-groups_of : (a b : Group) → groups_of (None ∷ Some b ∷ None ∷ Some a ∷ Some b ∷ [])
-    ≡ b ∷ a ∷ b ∷ []
-worked-groups_of a b = refl
+abbrev named : List ℕ → Alternative
+named name =
+    record { name = name; qualifier = None; bound = None; architectures = None; formula = [] }
+
+worked-groups_of : groups_of
+    (None ∷ Some (named (codes "b") ∷ []) ∷ None ∷ Some (named (codes "a") ∷ named (codes "c") ∷ [])
+    ∷ Some (named (codes "b") ∷ []) ∷ [])
+    ≡ (named (codes "b") ∷ []) ∷ (named (codes "a") ∷ named (codes "c") ∷ [])
+    ∷ (named (codes "b") ∷ []) ∷ []
+worked-groups_of = refl

@@ -1,13 +1,13 @@
 -- What groups of the code represent.
-use Rattle.std.proofs.Common.{◌≡◌, ℕ, List, [], ◌∷◌, map, Option, Some, None, refl, ap}
-use Rattle.deb_relation.specs.declared.alternative.Alternative.{Alternative as Parts}
+use Rattle.std.proofs.Common.{◌≡◌, ℕ, List, [], ◌∷◌, map, Option, Some, None, refl, codes}
 use Rattle.std.specs.Option.{option_map}
 use denote.Ref.{Bor}
 use Rattle.deb_relation.specs.declared.group.Group.{Group as Alternatives}
-use Rattle.deb_relation.specs.Meaning.{Group}
-use Rattle.deb_relation.specs.Reading.{append}
+use Rattle.deb_relation.specs.Meaning.{Group, Alternative}
+use Rattle.deb_relation.specs.Reading.{append, alternative_with}
 use Rattle.deb_relation.specs.Texts.{group_text}
 use Rattle.deb_relation.specs.Views.{alternative_of}
+use Rattle.deb_base.specs.Literals.{vector, lent}
 
 -- a group's meaning, and the text by which a relation is ordered
 abbrev pub group_of : Alternatives → Group
@@ -26,19 +26,31 @@ append_piece None groups = groups
 append_piece (Some group) groups = append group groups
 
 -- a group of two alternatives, which keep their order
-worked-group : (group : Alternatives) (a b : Parts) → group.alternatives.items ≡ a ∷ b ∷ []
-    → group_of group ≡ alternative_of a ∷ alternative_of b ∷ []
-worked-group group a b = ap (map alternative_of)
+unfoldable pub b_or_a : Alternatives
+unfolding group_text
+b_or_a = record {
+  alternatives = vector
+      (record { name = lent (codes "b"); asked = None; lists = None }
+      ∷ record { name = lent (codes "a"); asked = None; lists = None } ∷ []) refl;
+  text = vector (codes "b | a") refl;
+  written = refl;
+}
 
-worked-key : (group : Alternatives) (a b : Parts) → group.alternatives.items ≡ a ∷ b ∷ []
-    → group_key group ≡ group_text (alternative_of a ∷ alternative_of b ∷ [])
-worked-key group a b = ap (λ all. group_text (map alternative_of all))
+abbrev named : List ℕ → Alternative
+named name = alternative_with name None None None []
 
-worked-piece : (group : Alternatives) (rest : Bor (List ℕ))
-    → (piece_behind (Some group, rest) ≡ (Some (group_of group), rest.now))
-    × (piece_behind (None, rest) ≡ (None, rest.now))
-worked-piece group rest = (refl, refl)
+worked-group : (group_of b_or_a ≡ named (codes "b") ∷ named (codes "a") ∷ [])
+    × (group_key b_or_a ≡ codes "b | a")
+unfolding b_or_a group_text
+worked-group = (refl, refl)
 
-worked-append : (a b : Group) → (append_piece (Some a) (a ∷ b ∷ []) ≡ a ∷ b ∷ a ∷ [])
-    × (append_piece None (a ∷ b ∷ []) ≡ a ∷ b ∷ [])
-worked-append a b = (refl, refl)
+worked-piece : (piece_behind (Some b_or_a, lent (codes ", c"))
+    ≡ (Some (named (codes "b") ∷ named (codes "a") ∷ []), codes ", c"))
+    × (piece_behind (None, lent (codes ",")) ≡ (None, codes ","))
+unfolding b_or_a
+worked-piece = (refl, refl)
+
+worked-append : (append_piece (Some (named (codes "a") ∷ [])) ((named (codes "b") ∷ []) ∷ [])
+    ≡ (named (codes "b") ∷ []) ∷ (named (codes "a") ∷ []) ∷ [])
+    × (append_piece None ((named (codes "b") ∷ []) ∷ []) ≡ (named (codes "b") ∷ []) ∷ [])
+worked-append = (refl, refl)

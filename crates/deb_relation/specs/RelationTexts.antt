@@ -10,7 +10,7 @@ use Rattle.deb_relation.specs.Meaning.{Relation}
 use Rattle.deb_relation.specs.Reading.{alternative_with, relation_in}
 use Rattle.deb_relation.specs.Rows.{steps}
 use Rattle.deb_relation.specs.Texts.{group_text}
-use Rattle.deb_version.specs.Lent.{lent}
+use Rattle.deb_base.specs.Literals.{lent}
 
 abbrev pub body_of : RelationText → List ℕ
 body_of relation = relation.body.now

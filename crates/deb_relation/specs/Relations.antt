@@ -1,22 +1,36 @@
 -- What relations of the code represent, and what is asked of them.
-use Rattle.std.proofs.Common.{◌≡◌, ℕ, [], ◌∷◌, map, Option, Some, Result, Ok, Err, ap}
-use Rattle.deb_relation.specs.declared.group.Group.{Group as Alternatives}
+use Rattle.std.proofs.Common.{◌≡◌, ℕ, [], ◌∷◌, map, Option, Some, Result, Ok, Err, codes, refl, None}
 use Rattle.deb_relation.specs.declared.fault.Reason.{Reason}
 use Rattle.deb_relation.specs.declared.fault.RelationFault.{RelationFault}
 use Rattle.deb_relation.specs.declared.fault.RelationFault.TheVariants.{Bad, Memory}
 use Rattle.deb_relation.specs.declared.relation.Relation.{Relation as Groups}
 use Rattle.deb_relation.specs.Grammar.{SpellsRelation}
 use Rattle.deb_relation.specs.Meaning.{Relation}
-use Rattle.deb_relation.specs.Groups.{group_of}
-use Rattle.deb_relation.specs.Texts.{relation_text}
+use Rattle.deb_relation.specs.Groups.{group_of, b_or_a}
+use Rattle.deb_relation.specs.Texts.{relation_text, group_text}
+use Rattle.deb_base.specs.Literals.{vector}
+use Rattle.deb_relation.specs.Reading.{alternative_with, relation_in}
+use Rattle.deb_relation.specs.Rows.{steps}
 
 -- a relation's meaning: its set of groups
 abbrev pub relation_of : Groups → Relation
 relation_of relation = map group_of relation.groups.items
 
-worked-relation : (relation : Groups) (a b : Alternatives) → relation.groups.items ≡ a ∷ b ∷ []
-    → relation_of relation ≡ group_of a ∷ group_of b ∷ []
-worked-relation relation a b = ap (map group_of)
+-- one of one group
+abbrev b_or_a_alone : Groups
+unfolding b_or_a steps relation_in group_text
+b_or_a_alone = record {
+  groups = vector (b_or_a ∷ []) refl;
+  text = vector (codes "b | a") refl;
+  written = refl;
+  spelled = refl;
+}
+
+worked-relation : relation_of b_or_a_alone
+    ≡ (alternative_with (codes "b") None None None []
+    ∷ alternative_with (codes "a") None None None [] ∷ []) ∷ []
+unfolding b_or_a_alone b_or_a
+worked-relation = refl
 
 -- The fault is the first of the text; out of memory says nothing of it.
 abbrev pub Tells : Option (Reason × ℕ) → RelationFault → Type 0

@@ -6,7 +6,7 @@ use Rattle.deb_relation.specs.declared.group_summary.GroupSummary.{GroupSummary}
 use Rattle.deb_relation.specs.declared.kept_text.KeptText.TheVariants.{Lent}
 use Rattle.deb_relation.specs.KeptTexts.{bytes_of}
 use Rattle.deb_relation.specs.Summaries.{Summary, summary_with}
-use Rattle.deb_version.specs.Lent.{lent}
+use Rattle.deb_base.specs.Literals.{lent}
 
 abbrev pub told_of : GroupSummary → Summary
 told_of group = summary_with (bytes_of group.text) group.has_two group.only_equals

@@ -8,9 +8,6 @@ use Rattle.deb_base.specs.PackageNames.{is_arch_name, is_profile_name, is_wildca
 abbrev pub bytes_of : Vec ℕ Global → List ℕ
 bytes_of bytes = bytes.items
 
-worked-bytes : (bytes : Vec ℕ Global) → bytes_of bytes ≡ bytes.items
-worked-bytes bytes = refl
-
 -- the target is the name of an architecture, and neither a wildcard nor `all`
 abbrev pub is_target : List ℕ → Bool
 is_target name = is_arch_name name && not (is_wildcard name) && not (bytes_eq name (codes "all"))

@@ -1,5 +1,5 @@
 -- What the values of the code represent: the meanings of a relation's parts.
-use Rattle.std.proofs.Common.{◌≡◌, ℕ, Bool, true, false, List, [], ◌∷◌, Option, Some, None, map, codes, refl, ap}
+use Rattle.std.proofs.Common.{◌≡◌, ℕ, Bool, true, false, List, [], ◌∷◌, Option, Some, None, map, codes, refl}
 use Rattle.std.specs.Option.{option_copied, option_map}
 use denote.Ref.{Bor}
 use Rattle.std.specs.Prelude.{Box, Vec}
@@ -9,11 +9,12 @@ use Rattle.deb_relation.specs.declared.alternative.Alternative.{Alternative as P
 use Rattle.deb_relation.specs.declared.asked.Asked.{Asked}
 use Rattle.deb_relation.specs.declared.lists.Lists.{Lists}
 use Rattle.deb_version.specs.declared.version.Version.{Version as Spelled}
-use Rattle.deb_version.specs.Parts.{Meaning as Version}
+use Rattle.deb_version.specs.Parts.{Meaning as Version, no_revision}
 use Rattle.deb_version.specs.Version.{meaning_of}
-use Rattle.deb_version.specs.Lent.{lent}
+use Rattle.deb_base.specs.Literals.{lent, boxed, vector}
 use Rattle.deb_relation.specs.declared.operator.Op.TheVariants.{LaterEqual}
 use Rattle.deb_relation.specs.Meaning.{Item, Restrictions, Alternative}
+use Rattle.std.proofs.Math.Dec.{lit≤}
 
 -- the operator and the version's meaning
 abbrev pub bound_of : Op × Spelled → Op × Version
@@ -96,57 +97,10 @@ worked-behind : (text_behind (lent (codes "aa"), lent (codes ":any")) ≡ (codes
     ≡ ((true, codes "a"), codes " b>"))
 worked-behind = (refl, refl)
 
-worked-list : (names : Vec (Bor (List ℕ)) Global)
-    → names.items ≡ lent (codes "b") ∷ lent (codes "a") ∷ []
-    → list_of (true, names) ≡ (true, codes "b" ∷ codes "a" ∷ [])
-worked-list names = ap (λ items. (true, names_of items))
-
 worked-lent_list : lent_list_of
     (false, record { ref_ptr = (0, 0); now = lent (codes "b") ∷ lent (codes "a") ∷ [] })
     ≡ (false, codes "b" ∷ codes "a" ∷ [])
 worked-lent_list = refl
-
-worked-restrictions : (list : Vec (Bool × Bor (List ℕ)) Global)
-    → list.items ≡ (true, lent (codes "b")) ∷ (false, lent (codes "a")) ∷ []
-    → restrictions_of list ≡ (true, codes "b") ∷ (false, codes "a") ∷ []
-worked-restrictions list = ap items_of
-
-worked-bound : (version : Spelled)
-    → (bound_of (LaterEqual, version) ≡ (LaterEqual, meaning_of version))
-    × (lent_bound_of (LaterEqual, record { ref_ptr = (0, 0); now = version })
-    ≡ (LaterEqual, meaning_of version))
-worked-bound version = (refl, refl)
-
--- what is asked and the lists of an alternative, and one that has a name alone
-worked-asked : (asked : Box Asked Global) (version : Spelled)
-    → asked.value
-    ≡ record { qualifier = Some (lent (codes "any")); bound = Some (LaterEqual, version) }
-    → (asked_qualifier (Some asked) ≡ Some (codes "any"))
-    × (asked_bound (Some asked) ≡ Some (LaterEqual, meaning_of version))
-worked-asked asked version is =
-    (ap (λ a. option_copied a.qualifier) is, ap (λ a. option_map bound_of a.bound) is)
-
-worked-lists : (lists : Box Lists Global) (names : Vec (Bor (List ℕ)) Global)
-    → (formula : Vec (Vec (Bool × Bor (List ℕ)) Global) Global)
-    → lists.value ≡ record { architectures = Some (true, names); formula = formula }
-    → (listed_names (Some lists) ≡ Some (true, names_of names.items))
-    × (listed_formula (Some lists) ≡ map restrictions_of formula.items)
-worked-lists lists names formula is = (
-  ap (λ l. option_map list_of l.architectures) is,
-  ap (λ l. map restrictions_of l.formula.items) is,
-)
-
-worked-alternative : (asked : Box Asked Global) (lists : Box Lists Global)
-    → alternative_of
-    (record { name = lent (codes "aa"); asked = Some asked; lists = Some lists })
-    ≡ record {
-      name = codes "aa";
-      qualifier = asked_qualifier (Some asked);
-      bound = asked_bound (Some asked);
-      architectures = listed_names (Some lists);
-      formula = listed_formula (Some lists);
-    }
-worked-alternative asked lists = refl
 
 worked-bare : alternative_of (record { name = lent (codes "aa"); asked = None; lists = None })
     ≡ record {
@@ -157,3 +111,39 @@ worked-bare : alternative_of (record { name = lent (codes "aa"); asked = None; l
       formula = [];
     }
 worked-bare = refl
+
+-- each part of `aa:any (>= 1) [!b a] <!b>`
+abbrev one : Spelled
+one = record {
+  epoch = None;
+  upstream = lent (codes "1");
+  revision = None;
+  well_formed = refl;
+  short = lit≤ tt;
+}
+
+abbrev whole : Parts
+whole = record {
+  name = lent (codes "aa");
+  asked = Some (boxed (record {
+    qualifier = Some (lent (codes "any"));
+    bound = Some (LaterEqual, one);
+  }));
+  lists = Some (boxed (record {
+    architectures = Some (true, vector (lent (codes "b") ∷ lent (codes "a") ∷ []) refl);
+    formula = vector (vector ((true, lent (codes "b")) ∷ []) refl ∷ []) refl;
+  }));
+}
+
+worked-alternative : alternative_of whole ≡ record {
+  name = codes "aa";
+  qualifier = Some (codes "any");
+  bound = Some (LaterEqual, meaning_of one);
+  architectures = Some (true, codes "b" ∷ codes "a" ∷ []);
+  formula = ((true, codes "b") ∷ []) ∷ [];
+}
+worked-alternative = refl
+
+worked-lent_bound : lent_bound_of (LaterEqual, lent one)
+    ≡ (LaterEqual, record { epoch = 0; upstream = ([], 1) ∷ []; revision = no_revision })
+worked-lent_bound = refl

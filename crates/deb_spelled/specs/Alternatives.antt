@@ -2,7 +2,7 @@
 use Rattle.std.specs.Prelude.{◌≡◌, ℕ, zero, suc, ◌||◌, ◌==◌, Bool, if◌then◌else◌, List, [], ◌∷◌, length, drop, Option, Some, None, codes, refl}
 use denote.Ref.{Bor}
 use Rattle.deb_relation.specs.Reading.{begins, behind_run, behind_white, is_at_end, is_white}
-use Rattle.deb_version.specs.Lent.{lent}
+use Rattle.deb_base.specs.Literals.{lent}
 use Rattle.deb_spelled.specs.declared.alternative.AlternativeSpans.{AlternativeSpans}
 use Rattle.deb_spelled.specs.Parts.{cut_architectures, cut_bound, cut_formula, cut_name, cut_qualifier, no_span, steps}
 
