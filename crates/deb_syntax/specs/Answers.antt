@@ -241,13 +241,12 @@ small_files : (paragraphs_within (codes "a:1\n\nb")
 unfolding paragraph_limit file_limit is_utf8 chars encode
 small_files = (refl, refl, refl, refl, refl, refl)
 
-limits_of_answers : (text : List ℕ) (count : ℕ) (at : Option ℕ) (left : List Paragraph)
-    → (answer_of_first at left ≡ answer_of_first_under 16777216 at left)
-    × (paragraphs_within text ≡ paragraphs_within_under 16777216 4294967295 text)
-    × (next_answer text count ≡ next_answer_under 16777216 4294967295 text count)
-    × (next_begin text count ≡ next_begin_under 16777216 4294967295 text count)
+limits_of_answers : (answer_of_first ≡ answer_of_first_under 16777216)
+    × (paragraphs_within ≡ paragraphs_within_under 16777216 4294967295)
+    × (next_answer ≡ next_answer_under 16777216 4294967295)
+    × (next_begin ≡ next_begin_under 16777216 4294967295)
 unfolding paragraph_limit file_limit
-limits_of_answers text count at left = (refl, refl, refl, refl)
+limits_of_answers = (refl, refl, refl, refl)
 
 -- where the next paragraph begins: a paragraph is there however long it is and whatever it holds
 begins : (next_begin_under 1 99 (codes "\na\nb\n") 0 ≡ Ok (Some 2))

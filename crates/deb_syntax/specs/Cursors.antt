@@ -145,19 +145,6 @@ longest_piece : (piece_limit ≡ 65536) × (file_limit + piece_limit ≡ 4295032
 unfolding file_limit
 longest_piece = (refl, refl)
 
-unread_bytes_shown : (buffer : ReadBuffer) → unread_of buffer
-    ≡ take (buffer.filled - buffer.start) (drop buffer.start buffer.buffer.items)
-unread_bytes_shown buffer = refl
-
-cursor_shown : (cursor : FileCursor) → (cursor_state cursor ≡ record {
-  unread = unread_of cursor.buffer;
-  held = cursor.buffer.buffer.len;
-  bytes = cursor.bytes;
-  lines = cursor.lines;
-  ended = cursor.ended;
-}) × (buffer_of cursor ≡ cursor.buffer.buffer.items) × (start_of cursor ≡ cursor.buffer.start)
-cursor_shown cursor = (refl, refl, refl)
-
 -- five bytes below the most that a file may have have passed, and two are unread
 abbrev near_end : CursorState
 near_end = record {

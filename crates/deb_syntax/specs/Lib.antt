@@ -17,3 +17,4 @@ pub mod Reading
 pub mod Resuming
 pub mod Streams
 pub mod CurrentParagraphs
+pub mod Literals

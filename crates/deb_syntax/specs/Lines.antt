@@ -122,9 +122,7 @@ blank_line_first = (refl, refl, refl, refl)
 added_lengths : (total_length [] ≡ 0) × (total_length (codes "ab" ∷ [] ∷ codes "c" ∷ []) ≡ 6)
 added_lengths = (refl, refl)
 
-limits_of_lines : (n : ℕ) (lines : List Line)
-    → (begins_blank lines ≡ begins_blank_under 16777216 lines)
-    × (ends_blank lines ≡ ends_blank_under 16777216 lines)
-    × (paragraphs_from n lines ≡ paragraphs_under 16777216 n lines)
+limits_of_lines : (begins_blank ≡ begins_blank_under 16777216)
+    × (ends_blank ≡ ends_blank_under 16777216) × (paragraphs_from ≡ paragraphs_under 16777216)
 unfolding paragraph_limit
-limits_of_lines n lines = (refl, refl, refl)
+limits_of_lines = (refl, refl, refl)

@@ -1,5 +1,5 @@
 -- What a `Paragraphs` and its answers show.
-use Rattle.std.specs.Prelude.{◌≡◌, ◌<◌, ◌⊎◌, ℕ, Bool, true, false, Option, Some, None, Result, Ok, Err, IsTrue, IsSome, refl}
+use Rattle.std.specs.Prelude.{◌≡◌, ◌<◌, ◌⊎◌, ℕ, Bool, true, false, Option, Some, None, Result, Ok, Err, IsTrue, IsSome, refl, codes}
 use Rattle.std.specs.Option.{option_map}
 use Rattle.deb_base.specs.declared.fault.Fault.{Fault}
 use Rattle.deb_syntax.specs.declared.paragraphs.Paragraphs.{Paragraphs}
@@ -8,13 +8,14 @@ use Rattle.deb_syntax.specs.Answers.{Seen}
 use Rattle.deb_syntax.specs.declared.first.FirstLine.{FirstLine}
 use Rattle.deb_syntax.specs.declared.first.FirstLine.TheVariants.{NoMore, Buffered, TooLong}
 use Rattle.deb_syntax.specs.Ahead.{KeepsLine}
-use Rattle.deb_syntax.specs.Cursors.{CursorState, cursor_state, buffer_of, unread_of}
+use Rattle.deb_syntax.specs.Cursors.{CursorState, cursor_state, buffer_of, start_of}
 use Rattle.deb_syntax.specs.Judged.{lines_standing}
 use Rattle.deb_syntax.specs.Lines.{Paragraph}
-use Rattle.deb_syntax.specs.FieldSpans.{fields_at}
-use Rattle.deb_syntax.specs.Raw.{first_line_of, fields_of}
+use Rattle.deb_syntax.specs.Raw.{first_line_of, fields_of, two_fields}
 use Rattle.deb_syntax.specs.Reading.{State, state_from}
 use Rattle.deb_syntax.specs.CurrentParagraphs.{current_of}
+use Rattle.deb_base.specs.declared.fault.Fault.TheVariants.{Memory, Read}
+use Rattle.deb_syntax.specs.Literals.{a_reader, found, judged_lines}
 
 abbrev pub seen_of : Raw → Seen
 seen_of raw = record { first = first_line_of raw; fields = fields_of raw }
@@ -58,32 +59,30 @@ ShowsFirst (Err fault) overlong_len finished cursor = finished ≡ false
 abbrev pub IsQuiet : State → Type 0
 IsQuiet state = IsTrue state.ended ⊎ (IsTrue state.finished ⊎ IsSome state.fault)
 
-view_shown : (raw : Raw) → seen_of raw
-    ≡ record { first = raw.first_line; fields = fields_at raw.text.now raw.spans.now }
-view_shown raw = refl
+answers_shown : (answer_of (Ok (Some two_fields))
+    ≡ Ok (Some (record { first = 4; fields = found.fields })))
+    × (answer_of (Ok None) ≡ Ok None) × (answer_of (Err Read) ≡ Err Read)
+unfolding two_fields
+answers_shown = (refl, refl, refl)
 
-answers_shown : (raw : Raw) (fault : Fault) → (answer_of (Ok (Some raw)) ≡ Ok (Some (seen_of raw)))
-    × (answer_of (Ok None) ≡ Ok None) × (answer_of (Err fault) ≡ Err fault)
-answers_shown raw fault = (refl, refl, refl)
+reader_shown : (state_of a_reader ≡ record {
+  unread = codes "C";
+  held = 14;
+  bytes = 15;
+  lines = 7;
+  overlong_len = 0;
+  ended = true;
+  finished = false;
+  current = Some found;
+  fault = None;
+}) × (judged_last a_reader ≡ Some judged_lines) × (start_of a_reader.cursor ≡ 13)
+unfolding a_reader
+reader_shown = (refl, refl, refl)
 
-reader_shown : (p : Paragraphs) → state_of p ≡ record {
-  unread = unread_of p.cursor.buffer;
-  held = p.cursor.buffer.buffer.len;
-  bytes = p.cursor.bytes;
-  lines = p.cursor.lines;
-  overlong_len = p.overlong_len;
-  ended = p.cursor.ended;
-  finished = p.finished;
-  current = option_map (current_of p.cursor.buffer.buffer.items p.spans.items) p.current;
-  fault = p.fault;
-}
-reader_shown p = refl
-
-judged_shown : (p : Paragraphs)
-    → judged_last p ≡ option_map (lines_standing p.cursor.buffer.buffer.items) p.judged
-judged_shown p = refl
-
-calls_shown : (new : State) (fault : Fault) → (advance_answer new (Ok true) ≡ Ok new.current)
-    × (advance_answer new (Ok false) ≡ Ok None) × (advance_answer new (Err fault) ≡ Err fault)
-    × (end_answer new (Ok tt) ≡ Ok new.current) × (end_answer new (Err fault) ≡ Err fault)
-calls_shown new fault = (refl, refl, refl, refl, refl)
+calls_shown : (advance_answer (state_of a_reader) (Ok true) ≡ Ok (Some found))
+    × (advance_answer (state_of a_reader) (Ok false) ≡ Ok None)
+    × (advance_answer (state_of a_reader) (Err Read) ≡ Err Read)
+    × (end_answer (state_of a_reader) (Ok tt) ≡ Ok (Some found))
+    × (end_answer (state_of a_reader) (Err Memory) ≡ Err Memory)
+unfolding a_reader
+calls_shown = (refl, refl, refl, refl, refl)

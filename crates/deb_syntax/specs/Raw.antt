@@ -1,6 +1,6 @@
 -- What a view of a paragraph shows of it: its fields and the number of its first line. Debian
 -- Policy 5.1.
-use Rattle.std.specs.Prelude.{◌≡◌, ℕ, ◌==◌, Bool, true, false, List, [], ◌∷◌, Option, Some, None, find, codes, refl}
+use Rattle.std.specs.Prelude.{◌≡◌, ℕ, ◌==◌, Bool, true, false, List, [], ◌∷◌, Option, Some, None, find, codes, refl, drop}
 use Rattle.std.specs.List.{list_any}
 use Rattle.std.specs.Str.{bytes_eq, is_utf8, chars}
 use lib.Utf8.{encode}
@@ -82,7 +82,7 @@ field_shown : field_of a_field ≡ record { name = codes "A"; line = 3; body = c
 unfolding a_field
 field_shown = refl
 
-abbrev two_fields : Raw
+unfoldable pub two_fields : Raw
 unfolding paragraph_limit is_utf8 chars encode known_row
 two_fields = record {
   text = to (codes "A: 1\n 2\nB:");
@@ -99,6 +99,17 @@ paragraph_shown : (fields_of two_fields
 unfolding two_fields
 paragraph_shown = (refl, refl)
 
-left_fields_shown : (fields : Fields)
-    → fields_left fields ≡ fields_at fields.text.now fields.spans.now
-left_fields_shown fields = refl
+-- after the first one
+abbrev one_left : Fields
+unfolding paragraph_limit is_utf8 chars encode known_row
+one_left = record {
+  text = to (codes "A: 1\n 2\nB:");
+  spans = to (drop 1 two_spans);
+  within = refl;
+  fields = refl;
+}
+
+left_fields_shown : fields_left one_left
+    ≡ record { name = codes "B"; line = 7; body = [] } ∷ []
+unfolding one_left
+left_fields_shown = refl

@@ -18,6 +18,7 @@ use Rattle.deb_syntax.specs.Cursors.{CursorState}
 use Rattle.deb_syntax.specs.Fields.{IsShort}
 use Rattle.deb_syntax.specs.Judging.{judged}
 use Rattle.deb_syntax.specs.Lines.{lines_of, IsClosed, Paragraph, paragraphs_of}
+use Rattle.deb_base.specs.declared.fault.Fault.TheVariants.{Read}
 
 -- A reader of paragraphs: the bytes of its buffer that haven't passed, the buffer's length, how
 -- many bytes and lines have passed, how many bytes of the first line that hasn't passed aren't
@@ -289,35 +290,19 @@ fits_all =
       finished = λ e. refl;
     }
 
-state_by_parts : (unread : List ℕ) (held bytes lines overlong_len : ℕ) (ended finished : Bool)
-    (current : Option Seen) (fault : Option Fault) → state_from
-    (record { unread = unread; held = held; bytes = bytes; lines = lines; ended = ended })
-    overlong_len finished current fault ≡ record {
-      unread = unread;
-      held = held;
-      bytes = bytes;
-      lines = lines;
-      overlong_len = overlong_len;
-      ended = ended;
-      finished = finished;
-      current = current;
-      fault = fault;
-    }
-state_by_parts unread held bytes lines overlong_len ended finished current fault = refl
-
-moment_by_parts : (state : State) (left : Option (List ℕ)) (failures : ℕ)
-    → ((moment_of state left failures).state ≡ state)
-    × ((moment_of state left failures).source.bytes ≡ left)
-    × ((moment_of state left failures).source.failures ≡ failures)
-moment_by_parts state left failures = (refl, refl, refl)
+moment_by_parts : moment_of (reader_of (codes "b") 4 2 0) (Some (codes "\n")) 3 ≡ record {
+  state = reader_of (codes "b") 4 2 0;
+  source = record { bytes = Some (codes "\n"); failures = 3 };
+}
+moment_by_parts = refl
 
 paragraphs_passed : (passed_count (codes "a\n\nb\nc\n") ≡ 2) × (passed_count (codes " \n") ≡ 0)
 unfolding paragraph_limit
 paragraphs_passed = (refl, refl)
 
-answers_of_end : (fault : Fault) → (tells_end {A = ℕ} (Ok None) ≡ true)
-    × (tells_end {A = ℕ} (Ok (Some 1)) ≡ false) × (tells_end {A = ℕ} (Err fault) ≡ false)
-answers_of_end fault = (refl, refl, refl)
+answers_of_end : (tells_end {A = ℕ} (Ok None) ≡ true)
+    × (tells_end {A = ℕ} (Ok (Some 1)) ≡ false) × (tells_end {A = ℕ} (Err Read) ≡ false)
+answers_of_end = (refl, refl, refl)
 
 -- an error is answered again, and nothing changes
 error_again : (A : Type 0) (Goes : Moment → Result A Fault → Moment → Type 0) (fault : Fault)

@@ -6,7 +6,6 @@ use Rattle.deb_base.specs.Faults.{IsReadersFault}
 use Rattle.deb_base.specs.Reading.{piece_limit}
 use Rattle.deb_base.specs.declared.fault.Fault.{Fault}
 use Rattle.deb_base.specs.declared.fault.Fault.TheVariants.{Refused, Memory, Read, Write}
-use Rattle.deb_base.specs.declared.refusal.Refusal.{Refusal}
 use Rattle.deb_syntax.specs.Ahead.{passed_of}
 use Rattle.deb_syntax.specs.Answers.{Seen, line_beyond, next_answer, paragraphs_within, seen_from}
 use Rattle.deb_syntax.specs.Cursors.{CursorState, PassesOn}
@@ -17,6 +16,7 @@ use Rattle.deb_syntax.specs.Judging.{judged}
 use Rattle.deb_syntax.specs.Lines.{Paragraph, IsClosed, lines_of, paragraphs_of}
 use Rattle.deb_syntax.specs.Reading.{Answers, Fits, State, passed_count, state_from}
 use Rattle.deb_syntax.specs.declared.ending.Extent.{Extent}
+use Rattle.deb_base.specs.declared.code.Code.TheVariants.{Comment, ParagraphTooLong}
 
 -- whether a reader can go on after this error, where these lines were judged last: it is a refusal,
 -- and lines were judged, so that it is of one of them
@@ -88,16 +88,20 @@ IsExtentAhead text before (Ok e) mid left =
     }) (state_from after 0 false None None) left
 IsExtentAhead text before (Err fault) mid left = AnswersFault text before fault
 
-errors_to_go_on_after : (refusal : Refusal) (p : Paragraph) (last : Option Paragraph)
-    → (is_resumable (Some (Refused refusal)) (Some p) ≡ true)
-    × (is_resumable (Some (Refused refusal)) None ≡ false)
-    × (is_resumable (Some Memory) last ≡ false) × (is_resumable (Some Read) last ≡ false)
-    × (is_resumable (Some Write) last ≡ false) × (is_resumable None last ≡ false)
-errors_to_go_on_after refusal p last = (refl, refl, refl, refl, refl, refl)
+abbrev comment : Paragraph
+comment = record { first = 3; lines = codes "#" ∷ [] }
+
+errors_to_go_on_after : (is_resumable (Some (Refused (record { code = Comment; line = 3 })))
+    (Some comment) ≡ true)
+    × (is_resumable (Some (Refused (record { code = ParagraphTooLong; line = 3 }))) None ≡ false)
+    × (is_resumable (Some Memory) (Some comment) ≡ false)
+    × (is_resumable (Some Read) (Some comment) ≡ false)
+    × (is_resumable (Some Write) (Some comment) ≡ false)
+    × (is_resumable None (Some comment) ≡ false)
+errors_to_go_on_after = (refl, refl, refl, refl, refl, refl)
 
 -- the second paragraph of three is blank in the other text
-second_left_out : IsWithout (codes "a:1\n\n#\n\nb") 1 (record { first = 3; lines = codes "#" ∷ [] })
-    (codes "a:1\n\n \n\nb")
+second_left_out : IsWithout (codes "a:1\n\n#\n\nb") 1 comment (codes "a:1\n\n \n\nb")
 unfolding paragraph_limit file_limit
 second_left_out =
     record {

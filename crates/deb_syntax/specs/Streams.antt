@@ -140,26 +140,30 @@ unfolding is_utf8 chars encode
 ended_early = (refl, refl, refl)
 
 -- the answers of a stream, and its first refusal
-answers_of_stream : (refusal : Refusal)
-    → (answer_left [] None ≡ Ok None) × (answer_left [] (Some refusal) ≡ Err refusal)
-    × (answer_left (bad 3 ∷ good 5 ∷ []) (Some refusal)
-    ≡ Err (record { code = NoColon; line = 3 }))
-    × (answer_left (good 5 ∷ []) None ≡ seen_from 5 (good 5).fields)
+abbrev too_long : Option Refusal
+too_long = Some (record { code = FileTooLong; line = 8 })
+
+answers_of_stream : (answer_left [] None ≡ Ok None)
+    × (answer_left [] too_long ≡ Err (record { code = FileTooLong; line = 8 }))
+    × (answer_left (bad 3 ∷ good 5 ∷ []) too_long ≡ Err (record { code = NoColon; line = 3 }))
+    × (answer_left (good 5 ∷ []) too_long ≡ Ok (Some (record {
+      first = 5;
+      fields = record { name = codes "a"; line = 5; body = codes "1" } ∷ [];
+    })))
     × (stream_answer (record { items = good 1 ∷ bad 3 ∷ []; end = None }) 1
     ≡ Err (record { code = NoColon; line = 3 }))
     × (stream_answer (record { items = good 1 ∷ bad 3 ∷ []; end = None }) 2 ≡ Ok None)
-answers_of_stream refusal = (refl, refl, refl, refl, refl, refl)
+answers_of_stream = (refl, refl, refl, refl, refl, refl)
 
-first_refusals : (refusal : Refusal) → (first_refusal [] None ≡ None)
-    × (first_refusal (good 1 ∷ []) (Some refusal) ≡ Some refusal)
-    × (first_refusal (good 1 ∷ bad 3 ∷ bad 5 ∷ []) (Some refusal)
+first_refusals : (first_refusal [] None ≡ None)
+    × (first_refusal (good 1 ∷ []) too_long ≡ too_long)
+    × (first_refusal (good 1 ∷ bad 3 ∷ bad 5 ∷ []) too_long
     ≡ Some (record { code = NoColon; line = 3 }))
     × (first_refusal (good 1 ∷ []) None ≡ None)
-first_refusals refusal = (refl, refl, refl, refl)
+first_refusals = (refl, refl, refl, refl)
 
 -- at the limits of this project
-limits_of_streams : (text : List ℕ) (p : Paragraph)
-    → (stream_of text ≡ stream_under 16777216 4294967295 text)
-    × (item_of p ≡ record { first = p.first; lines = p.lines; fields = judged p.first p.lines })
-unfolding paragraph_limit file_limit
-limits_of_streams text p = (refl, refl)
+limits_of_streams : (stream_of ≡ stream_under 16777216 4294967295)
+    × (stream_of (codes "b\n\na:1\n") ≡ record { items = bad 1 ∷ good 3 ∷ []; end = None })
+unfolding paragraph_limit file_limit is_utf8 chars encode
+limits_of_streams = (refl, refl)
