@@ -1,14 +1,10 @@
 -- Worked cases of values: one of each kind, with its kind and what it means to its callers. Debian
 -- Policy 5.6 and 7.
-use Rattle.std.specs.Prelude.{◌≡◌, ℕ, ◌<◌, ◌^◌, List, [], ◌∷◌, Some, None, codes, refl}
+use Rattle.std.specs.Prelude.{◌≡◌, ℕ, ◌<◌, ◌^◌, List, [], ◌∷◌, Some, None, codes, refl, true, false}
 use Rattle.std.specs.Borrow.{Bor}
 use Rattle.std.proofs.Common.{arith}
 use Rattle.deb_version.specs.Parts.{Meaning as VersionMeaning}
 use Rattle.deb_version.specs.declared.version.Version.{Version}
-use Rattle.deb_relation.specs.RelationTexts.{text_meaning}
-use Rattle.deb_relation.specs.declared.relation_text.RelationText.{RelationText}
-use Rattle.deb_field.specs.RelationFields.{relation_refusal}
-use Rattle.deb_field.specs.RelationSpelled.{relation_meaning}
 use Rattle.deb_field.specs.Shown.{architecture_name, architectures_named, folded_words, line_bytes, number_value, package_name, sort_of, text_bytes, words_left}
 use Rattle.deb_field.specs.SourceNames.{source_meaning}
 use Rattle.deb_field.specs.ValueMeanings.{kind_of_value, value_meaning}
@@ -18,7 +14,6 @@ use Rattle.deb_field.specs.declared.flag.MultiArch.TheVariants as multi_archs
 use Rattle.deb_field.specs.declared.folded.ArchitectureWords.{ArchitectureWords}
 use Rattle.deb_field.specs.declared.folded.Folded.{Folded}
 use Rattle.deb_base.specs.declared.kind.Kind.TheVariants as kinds
-use Rattle.deb_base.specs.declared.kind.Relationship.{Relationship}
 use Rattle.deb_field.specs.declared.names.ArchitectureName.{ArchitectureName}
 use Rattle.deb_field.specs.declared.names.PackageName.{PackageName}
 use Rattle.deb_field.specs.declared.number.Number.{Number}
@@ -28,6 +23,11 @@ use Rattle.deb_field.specs.declared.text.Line.{Line}
 use Rattle.deb_field.specs.declared.text.Text.{Text}
 use Rattle.deb_field.specs.declared.value.Value.TheVariants as values
 use Rattle.deb_field.specs.declared.words.Words.{Words}
+use Rattle.deb_relation.specs.Reading.{alternative_with, relation_in}
+use Rattle.deb_relation.specs.Rows.{steps}
+use Rattle.deb_relation.specs.Texts.{group_text}
+use Rattle.deb_relation.specs.declared.kept_text.KeptText.TheVariants.{Lent}
+use Rattle.deb_base.specs.declared.kind.Relationship.TheVariants as relationships
 
 -- ---- values
 
@@ -98,11 +98,6 @@ a_versioned_source = record {
   short = few_bytes_around;
 }
 
--- a relation that was read, in a field of a sort that allows it
-abbrev a_relation : (sort : Relationship) (text : RelationText)
-    → relation_refusal sort (text_meaning text) ≡ None → RelationField
-a_relation sort text allowed = record { relationship = sort; relation = text; allowed = allowed }
-
 -- ---- what each shows
 
 names : (package_name a_name ≡ codes "g++")
@@ -125,11 +120,30 @@ sources : (source_meaning a_source ≡ record { name = codes "aa"; version = Non
     ≡ record { name = codes "aa"; version = Some its_meaning })
 sources = (refl, refl)
 
-relations : (sort : Relationship) (text : RelationText)
-    (allowed : relation_refusal sort (text_meaning text) ≡ None)
-    → (sort_of (a_relation sort text allowed) ≡ sort)
-    × (relation_meaning (a_relation sort text allowed) ≡ text_meaning text)
-relations sort text allowed = (refl, refl)
+-- a relation that was read, in a field of a sort that allows it
+abbrev a_relation : RelationField
+unfolding steps relation_in group_text
+a_relation = record {
+  relationship = relationships.Conflicts;
+  relation = record {
+    body = lent (codes "\taa");
+    text = Lent (lent (codes "aa"));
+    some_alternatives = false;
+    equals_alone = true;
+    read = refl;
+    written = refl;
+    alternatives_are = refl;
+    equals_are = refl;
+  };
+  allowed = refl;
+}
+
+relations : (sort_of a_relation ≡ relationships.Conflicts)
+    × (kind_of_value (values.Relation a_relation) ≡ kinds.Relation relationships.Conflicts)
+    × (value_meaning (values.Relation a_relation)
+    ≡ RelationMeans ((alternative_with (codes "aa") None None None [] ∷ []) ∷ []))
+unfolding a_relation steps relation_in group_text
+relations = (refl, refl, refl)
 
 -- ---- kinds and meanings
 
@@ -161,10 +175,3 @@ meanings : (value_meaning (values.Name a_name) ≡ NameMeans (codes "g++"))
     ≡ FoldedMeans (codes "aa," ∷ codes "bb" ∷ codes "cc" ∷ []))
     × (value_meaning (values.Text a_text) ≡ TextMeans (codes "aa\n bb\n ."))
 meanings = (refl, refl, refl, refl, refl, refl, refl, refl, refl, refl, refl)
-
-relation_values : (sort : Relationship) (text : RelationText)
-    (allowed : relation_refusal sort (text_meaning text) ≡ None)
-    → (kind_of_value (values.Relation (a_relation sort text allowed)) ≡ kinds.Relation sort)
-    × (value_meaning (values.Relation (a_relation sort text allowed))
-    ≡ RelationMeans (text_meaning text))
-relation_values sort text allowed = (refl, refl)
