@@ -1,12 +1,10 @@
 -- What sorting a file answers and writes. Its refusals are in Refusals, its order is in Sorting.
-use Rattle.std.specs.Prelude.{◌≡◌, ℕ, Bool, List, Option, Some, None, Result, IfOk, IfErr, refl}
+use Rattle.std.specs.Prelude.{◌≡◌, ℕ, Bool, List, Option, Some, None, Result, IfOk, IfErr}
 use Rattle.std.specs.Io.KnownBytes.{Appends}
 use Rattle.deb_base.specs.Bodies.{Line}
 use Rattle.deb_base.specs.Devices.{AppendsFront, read_failures_after, write_failures_after}
 use Rattle.deb_base.specs.Faults.{IfRefused, MatchFault}
 use Rattle.deb_base.specs.declared.fault.Fault.{Fault}
-use Rattle.deb_base.specs.declared.fault.Fault.TheVariants.{Refused, Memory, Read, Write}
-use Rattle.deb_base.specs.declared.refusal.Refusal.{Refusal}
 use Rattle.deb_syntax.specs.Lines.{lines_of, with_newlines}
 use Rattle.deb_sort.specs.Refusals.{refusal_of, IsRefusalOfText}
 use Rattle.deb_sort.specs.Sorting.{Sorts}
@@ -48,11 +46,3 @@ pub record SortsFile {T W : Type 0} (reverse : Bool) (left : Option (List ℕ))
   pub unwritten : IfErr answer (λ fault. IfNotWriteFailed fault (new ≡ old))
   pub reads : count_after ≡ read_failures_after count answer
   pub writes : failures new ≡ write_failures_after (failures old) answer
-
--- the one fact is asked where a write failed, and the other one of each other fault
-facts_of_faults : (refusal : Refusal) (P : Type 0)
-    → (IfWriteFailed (Refused refusal) P ≡ Unit {0}) × (IfWriteFailed Memory P ≡ Unit {0})
-    × (IfWriteFailed Read P ≡ Unit {0}) × (IfWriteFailed Write P ≡ P)
-    × (IfNotWriteFailed (Refused refusal) P ≡ P) × (IfNotWriteFailed Memory P ≡ P)
-    × (IfNotWriteFailed Read P ≡ P) × (IfNotWriteFailed Write P ≡ Unit {0})
-facts_of_faults refusal P = (refl, refl, refl, refl, refl, refl, refl, refl)

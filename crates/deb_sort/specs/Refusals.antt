@@ -90,6 +90,6 @@ unfolding first_fault
 worked-order = refl
 
 -- a file may have 4,294,967,295 bytes
-worked-limit : (text : List ℕ) → refusal_of text ≡ refusal_under 4294967295 text
+worked-limit : refusal_of ≡ refusal_under 4294967295
 unfolding file_limit
-worked-limit text = refl
+worked-limit = refl
