@@ -13,6 +13,8 @@ use Rattle.deb_syntax.specs.Meaning.{Entries}
 use Rattle.deb_control.specs.Documents.{rules_of}
 use Rattle.deb_control.specs.Rules.{Rules}
 use Rattle.deb_control.specs.Streams.{CheckedItem, CheckedStream, refusals_by, refusals_in, stream_of, stream_under}
+use Rattle.deb_base.specs.declared.code.Code.TheVariants.{Comment}
+use Rattle.deb_base.specs.declared.doc.Doc.TheVariants.{Packages}
 
 -- how many pass, where one item more does or doesn't
 abbrev pub passed_with : Result Entries Refusal → ℕ → ℕ
@@ -111,11 +113,8 @@ unfolding digits
 worked-total = (refl, refl)
 
 -- at the limits of this project
-limits_of_lines : (doc : Doc) (text : List ℕ)
-    → (refusals_of doc text
-    ≡ refusals_of_stream (stream_under 16777216 4294967295 (rules_of doc) text))
-    × (passed_of doc text
-    ≡ passed_among (stream_under 16777216 4294967295 (rules_of doc) text).items)
-    × (file_lines doc text ≡ stream_lines (stream_under 16777216 4294967295 (rules_of doc) text))
-unfolding paragraph_limit file_limit
-limits_of_lines doc text = (refl, refl, refl)
+small_file : (file_lines Packages (codes "# b\n") ≡ codes "line 1: 3 Comment\nok 0, 1 refused\n")
+    × (refusals_of Packages (codes "# b\n") ≡ record { code = Comment; line = 1 } ∷ [])
+    × (passed_of Packages (codes "# b\n") ≡ 0)
+unfolding paragraph_limit file_limit is_utf8 chars encode digits
+small_file = (refl, refl, refl)

@@ -129,10 +129,11 @@ two =
     record { name = codes "b"; line = 1; body = codes "1" }
     ∷ record { name = codes "A"; line = 2; body = codes "2" } ∷ []
 
-picked_fields : (first second : Field)
-    → (picked (first ∷ second ∷ []) (1 ∷ 0 ∷ 2 ∷ []) ≡ second ∷ first ∷ no_field ∷ [])
-    × (picked (first ∷ []) [] ≡ [])
-picked_fields first second = (refl, refl)
+picked_fields : (picked two (1 ∷ 0 ∷ 2 ∷ [])
+    ≡ record { name = codes "A"; line = 2; body = codes "2" }
+    ∷ record { name = codes "b"; line = 1; body = codes "1" } ∷ no_field ∷ [])
+    × (picked two [] ≡ [])
+picked_fields = (refl, refl)
 
 -- `A` comes before `B`, and not the other way
 two_in_order : NamesAscend (picked two (1 ∷ 0 ∷ []))
@@ -151,9 +152,9 @@ rows_of_two : AreRows two (codes "A" ∷ codes "B" ∷ []) (2 ∷ 0 ∷ [])
 rows_of_two = ((leb-true 2 2 refl, refl), (tt, tt))
 
 -- as many rows as names
-rows_for_names : (row : ℕ) (name : List ℕ) → (AreRows two [] (row ∷ []) ≡ ⊥)
-    × (AreRows two (name ∷ []) [] ≡ ⊥) × (AreRows two [] [] ≡ Unit {0})
-rows_for_names row name = (refl, refl, refl)
+rows_for_names : (AreRows two [] (2 ∷ []) ≡ ⊥) × (AreRows two (codes "A" ∷ []) [] ≡ ⊥)
+    × (AreRows two [] [] ≡ Unit {0})
+rows_for_names = (refl, refl, refl)
 
 -- the keys of both: `B` is 66 and `A` 65, each before seven bytes that are missing
 abbrev key_of_b : SortKey

@@ -24,6 +24,7 @@ use Rattle.deb_control.specs.Documents.{rules_of}
 use Rattle.deb_control.specs.Refused.{seen_given}
 use Rattle.deb_control.specs.Refusals.{Answered, built, next_checked, next_given, passed_in}
 use Rattle.deb_control.specs.Rules.{Rules}
+use Rattle.deb_base.specs.declared.code.Code.TheVariants.{MissingField}
 
 -- A paragraph that passes: what was seen of it, and its canonical text.
 pub record Passing : Type 0 where
@@ -206,24 +207,26 @@ current_answer doc current (Ok true) = Ok (option_map (passing_seen doc) current
 current_answer doc current (Ok false) = Ok None
 current_answer doc current (Err fault) = Err fault
 
-counts_given : (given : Passing) → (given_count None ≡ 0) × (given_count (Some given) ≡ 1)
-counts_given given = (refl, refl)
+counts_given : (given_count None ≡ 0)
+    × (given_count (Some (record { seen = record { first = 4; fields = [] }; text = [] })) ≡ 1)
+counts_given = (refl, refl)
 
-answers_whole : (refusal : Refusal)
-    → (whole_answer (Ok ((codes "A", codes "1") ∷ [])) ≡ Ok (Some ((codes "A", codes "1") ∷ [])))
-    × (whole_answer (Err refusal) ≡ Err refusal)
-answers_whole refusal = (refl, refl)
+answers_whole : (whole_answer (Ok ((codes "A", codes "1") ∷ []))
+    ≡ Ok (Some ((codes "A", codes "1") ∷ [])))
+    × (whole_answer (Err (record { code = MissingField; line = 3 }))
+    ≡ Err (record { code = MissingField; line = 3 }))
+answers_whole = (refl, refl)
 
 -- for the worked cases: what is built of a paragraph, and its canonical text
 abbrev entries_built : Entries
 entries_built = (codes "A", codes "1") ∷ (codes "B", codes "2") ∷ []
 
-texts_built : (refusal : Refusal) → (text_built (Ok entries_built) ≡ codes "A: 1\nB: 2\n")
-    × (text_built (Err refusal) ≡ [])
+texts_built : (text_built (Ok entries_built) ≡ codes "A: 1\nB: 2\n")
+    × (text_built (Err (record { code = MissingField; line = 3 })) ≡ [])
     × (is_text_of (Ok entries_built) (codes "A: 1\nB: 2\n") ≡ true)
     × (is_text_of (Ok entries_built) (codes "A: 1\nB: 2") ≡ false)
-    × (is_text_of (Err refusal) [] ≡ false)
-texts_built refusal = (refl, refl, refl, refl, refl)
+    × (is_text_of (Err (record { code = MissingField; line = 3 })) [] ≡ false)
+texts_built = (refl, refl, refl, refl, refl)
 
 -- a paragraph without fields, which passes where no field is asked for, with no text
 abbrev bare : Seen
@@ -238,30 +241,23 @@ bare_paragraph : (is_judged Any bare ≡ true) × (is_judged Packages bare ≡ f
 unfolding paragraph_limit
 bare_paragraph = (refl, refl, refl, refl, refl, refl)
 
-texts_seen : (doc : Doc) (seen : Seen)
-    → (passing_seen doc seen
-    ≡ record { seen = seen; text = text_built (built (rules_of doc) seen) })
-texts_seen doc seen = refl
-
-paragraphs_found : (fault : Fault)
-    → (is_found None Packages (Some bare) ≡ false) × (is_found None Any (Some bare) ≡ true)
-    × (is_found None Any None ≡ true) × (is_found (Some fault) Packages (Some bare) ≡ true)
+paragraphs_found : (is_found None Packages (Some bare) ≡ false)
+    × (is_found None Any (Some bare) ≡ true) × (is_found None Any None ≡ true)
+    × (is_found (Some Read) Packages (Some bare) ≡ true)
     × (seen_last None (Some bare) ≡ Some bare) × (seen_last None None ≡ None)
-    × (seen_last (Some fault) (Some bare) ≡ None)
+    × (seen_last (Some Read) (Some bare) ≡ None)
 unfolding paragraph_limit
-paragraphs_found fault = (refl, refl, refl, refl, refl, refl, refl)
+paragraphs_found = (refl, refl, refl, refl, refl, refl, refl)
 
-answers_by_current : (fault : Fault)
-    → (current_answer Any (Some bare) (Ok true) ≡ Ok (Some bare_passes))
+answers_by_current : (current_answer Any (Some bare) (Ok true) ≡ Ok (Some bare_passes))
     × (current_answer Any (Some bare) (Ok false) ≡ Ok None)
-    × (current_answer Any (Some bare) (Err fault) ≡ Err fault)
+    × (current_answer Any (Some bare) (Err Read) ≡ Err Read)
 unfolding paragraph_limit
-answers_by_current fault = (refl, refl, refl)
+answers_by_current = (refl, refl, refl)
 
-sound_faults : (fault inside : Fault) → (is_sound (Some fault) (Some inside) ≡ true)
-    × (is_sound (Some fault) None ≡ true) × (is_sound None (Some inside) ≡ false)
-    × (is_sound None None ≡ true)
-sound_faults fault inside = (refl, refl, refl, refl)
+sound_faults : (is_sound (Some Read) (Some Memory) ≡ true) × (is_sound (Some Read) None ≡ true)
+    × (is_sound None (Some Read) ≡ false) × (is_sound None None ≡ true)
+sound_faults = (refl, refl, refl, refl)
 
 -- refusals of documents have the codes of texts, of paragraphs and of values
 codes_of_documents : (refusal : Refusal) → IsRefusalOfDocument refusal

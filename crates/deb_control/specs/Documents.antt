@@ -17,7 +17,6 @@ use Rattle.deb_field.specs.RelationFieldCases.{told}
 use Rattle.deb_field.specs.Values.{ValueMeaning, NameMeans, VersionMeans, ArchitectureMeans, FoldedMeans, value_text, SpellsValue, value_refusal}
 use Rattle.deb_field.specs.ValueLaws.{value_refusals}
 use Rattle.deb_control.specs.Rules.{Rules}
-use Rattle.deb_control.specs.Canonical.{file_text}
 use Rattle.deb_control.specs.Refusals.{next_checked, outcome, refusal_by, text_by}
 use Rattle.deb_control.specs.ValueFiles.{ValueEntries, MeansValues, values_text}
 use Rattle.deb_control.specs.Acceptance.{IsAccepted}
@@ -63,10 +62,11 @@ refusal_of doc = refusal_by (rules_of doc)
 abbrev pub out_of : Doc → List ℕ → List ℕ
 out_of doc = text_by (rules_of doc)
 
-texts_of_outcomes : (doc : Doc) (text : List ℕ)
-    → (out_of doc text ≡ file_text (outcome (rules_of doc) text).passed)
-    × (refusal_of doc text ≡ (outcome (rules_of doc) text).refusal)
-texts_of_outcomes doc text = (refl, refl)
+-- nothing is written before a first paragraph that is refused
+no_outcome : (out_of Packages (codes "\nPackage aa\n") ≡ [])
+    × (refusal_of Packages (codes "\nPackage aa\n") ≡ Some (record { code = NoColon; line = 2 }))
+unfolding file_limit paragraph_limit is_utf8 chars encode
+no_outcome = (refl, refl)
 
 -- no paragraph: nothing is written, and one is missing where one is asked
 no_paragraph : (outcome (rules_of Packages) [] ≡ record { passed = []; refusal = None })

@@ -1,6 +1,6 @@
 -- The words and the relations of a paragraph that are kept while it is checked. Debian Policy 5.6
 -- and 7.1.
-use Rattle.std.specs.Prelude.{◌≡◌, ℕ, ◌<◌, ◌≤◌, List, [], length, drop, take, get_or, Option, codes, refl}
+use Rattle.std.specs.Prelude.{◌≡◌, ℕ, ◌<◌, ◌≤◌, List, [], length, drop, take, get_or, Option, codes, refl, ◌∷◌, ◌++◌, replicate}
 use Rattle.deb_base.specs.Kinds.{known_row}
 use Rattle.deb_relation.specs.Regular.{IsRegularRelation}
 use Rattle.deb_relation.specs.Texts.{relation_text}
@@ -11,6 +11,7 @@ use Rattle.deb_control.specs.ValueFiles.{ValueEntries}
 use Rattle.deb_control.specs.Visiting.{Visit}
 use Rattle.deb_control.specs.declared.field_texts.FieldTexts.{FieldTexts}
 use Rattle.deb_control.specs.declared.field_texts.TextSpan.{TextSpan}
+use Rattle.deb_base.specs.Literals.{vector}
 
 -- the bytes from one offset up to another
 abbrev pub part_of : List ℕ → (from to : ℕ) → List ℕ
@@ -56,13 +57,24 @@ pub record HasTexts (texts : FieldTexts) (values : ValueEntries ValueMeaning) : 
       → relation_kept texts name ≡ relation_text (groups_of (value_under name values))
   pub regular : (name : List ℕ) → IsRegularRelation (groups_of (value_under name values))
 
--- `Architecture` is in row 0, however it is spelled
-worked-texts : (texts : FieldTexts)
-    → (span_at texts 0 ≡ get_or texts.spans 0 (record { start = 0; word_end = 0; end = 0 }))
-    × (word_kept texts (codes "architecture") ≡ word_at texts 0)
-    × (relation_kept texts (codes "Provides") ≡ relation_at texts 35)
+-- `Architecture` is in row 0, however it is spelled, and `Provides` in row 35
+abbrev nowhere : TextSpan
+nowhere = record { start = 0; word_end = 0; end = 0 }
+
+abbrev two_texts : FieldTexts
+two_texts = record {
+  buffer = vector (codes "allaa, bb") refl;
+  spans = record { start = 0; word_end = 3; end = 3 }
+      ∷ (replicate 34 nowhere ++ record { start = 3; word_end = 3; end = 9 } ∷ []);
+}
+
+worked-texts : (span_at two_texts 35 ≡ record { start = 3; word_end = 3; end = 9 })
+    × (word_kept two_texts (codes "aRCHITECTURE") ≡ codes "all")
+    × (relation_kept two_texts (codes "Architecture") ≡ [])
+    × (relation_kept two_texts (codes "Provides") ≡ codes "aa, bb")
+    × (word_kept two_texts (codes "Package") ≡ [])
 unfolding known_row
-worked-texts texts = (refl, refl, refl)
+worked-texts = (refl, refl, refl, refl, refl)
 
 parts : (part_of (codes "abc") 1 2 ≡ codes "b") × (part_of (codes "abc") 1 9 ≡ codes "bc")
     × (part_of (codes "abc") 2 1 ≡ [])

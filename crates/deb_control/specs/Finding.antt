@@ -1,10 +1,10 @@
 -- What the parts of a reader of checked paragraphs show while the next one is found.
-use Rattle.std.specs.Prelude.{◌≡◌, ◌⊎◌, ℕ, ◌+◌, ◌<◌, ◌≤◌, ◌==◌, ◌&&◌, Bool, true, false, cond, List, [], length, Option, None, Some, Result, Ok, Err, refl}
+use Rattle.std.specs.Prelude.{◌≡◌, ◌⊎◌, ℕ, ◌+◌, ◌<◌, ◌≤◌, ◌==◌, ◌&&◌, Bool, true, false, cond, List, [], length, Option, None, Some, Result, Ok, Err, refl, codes}
 use Rattle.std.proofs.lemmas.Bool.{leb-true}
 use Rattle.deb_base.specs.Bodies.{file_limit}
 use Rattle.deb_base.specs.declared.code.Code.TheVariants.{NoParagraph, FileTooLong}
 use Rattle.deb_base.specs.declared.fault.Fault.{Fault}
-use Rattle.deb_base.specs.declared.fault.Fault.TheVariants.{Refused}
+use Rattle.deb_base.specs.declared.fault.Fault.TheVariants.{Refused, Read}
 use Rattle.deb_base.specs.declared.refusal.Refusal.{Refusal}
 use Rattle.deb_syntax.specs.Answers.{Seen}
 use Rattle.deb_syntax.specs.Meaning.{Entries}
@@ -19,6 +19,7 @@ use Rattle.deb_syntax.specs.Paragraphs.{state_of}
 use Rattle.deb_syntax.specs.declared.paragraphs.Paragraphs.{Paragraphs}
 use Rattle.deb_control.specs.Checking.{CheckedMoment, Passing}
 use Rattle.deb_control.specs.declared.totals.Totals.{Totals}
+use Rattle.deb_syntax.specs.Literals.{a_reader, found}
 
 -- A reader of paragraphs and the totals of what it gave, with a source that has these bytes left
 -- and failed so often; what was given last, and the error, are beside them.
@@ -74,21 +75,6 @@ abbrev pub seen_found : Option Seen → Seen
 seen_found None = record { first = 0; fields = [] }
 seen_found (Some seen) = seen
 
-moment_by_parts : (shown : Option Seen) (fault : Option Fault) (paragraphs : Paragraphs)
-    (totals : Totals) (left : Option (List ℕ)) (failures : ℕ)
-    → moment_from shown fault paragraphs totals left failures ≡ record {
-      state =
-          record {
-            reader = state_of paragraphs;
-            count = totals.paragraphs;
-            bytes = totals.bytes;
-            current = shown;
-            fault = fault;
-          };
-      source = record { bytes = left; failures = failures };
-    }
-moment_by_parts shown fault paragraphs totals left failures = refl
-
 -- for the worked cases: nothing was given, or one paragraph without text
 abbrev none_given : Totals
 none_given = record {
@@ -114,11 +100,27 @@ ends_without_paragraph : (end_answer Binary none_given 2
     × (end_answer Any none_given 2 ≡ Ok false) × (end_answer Binary one_given 2 ≡ Ok false)
 ends_without_paragraph = (refl, refl, refl, refl, refl, refl)
 
-answers_with_given : (given : Passing) (fault : Fault)
-    → (given_answer given (Ok true) ≡ Ok (Some given)) × (given_answer given (Ok false) ≡ Ok None)
-    × (given_answer given (Err fault) ≡ Err fault)
-answers_with_given given fault = (refl, refl, refl)
+abbrev bare : Passing
+bare = record { seen = record { first = 4; fields = [] }; text = [] }
 
-paragraph_or_none : (seen : Seen) → (seen_found (Some seen) ≡ seen)
+answers_with_given : (given_answer bare (Ok true) ≡ Ok (Some bare))
+    × (given_answer bare (Ok false) ≡ Ok None) × (given_answer bare (Err Read) ≡ Err Read)
+answers_with_given = (refl, refl, refl)
+
+paragraph_or_none : (seen_found (Some found) ≡ found)
     × (seen_found None ≡ record { first = 0; fields = [] })
-paragraph_or_none seen = (refl, refl)
+paragraph_or_none = (refl, refl)
+
+moment_by_parts : moment_from (Some found) (Some Read) a_reader one_given (Some (codes "D")) 3
+    ≡ record {
+      state =
+          record {
+            reader = state_of a_reader;
+            count = 1;
+            bytes = 0;
+            current = Some found;
+            fault = Some Read;
+          };
+      source = record { bytes = Some (codes "D"); failures = 3 };
+    }
+moment_by_parts = refl

@@ -55,6 +55,6 @@ worked-bodies : (bodies_built (Ok ((codes "B", codes "2") ∷ [])) ≡ (codes "B
 unfolding paragraph_limit kind_of kind_at known_row
 worked-bodies = (refl, refl, refl)
 
-answers_of_seen : (doc : Doc) (seen : Seen)
-    → answered_seen doc (seen ∷ []) ≡ Ok (bodies_seen doc seen) ∷ []
-answers_of_seen doc seen = refl
+answers_of_seen : answered_seen Packages (second ∷ second ∷ []) ≡ Ok [] ∷ Ok [] ∷ []
+unfolding paragraph_limit kind_of kind_at known_row
+answers_of_seen = refl

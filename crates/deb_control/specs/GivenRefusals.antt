@@ -1,5 +1,5 @@
 -- What a reader of refusals has given of a file, and what is left of it. Debian Policy 5.1.
-use Rattle.std.specs.Prelude.{◌≡◌, ℕ, ◌+◌, Bool, List, [], ◌∷◌, ◌++◌, length, Option, None, Some, IfSome, Result, Ok, Err, codes, refl}
+use Rattle.std.specs.Prelude.{◌≡◌, ℕ, ◌+◌, Bool, List, [], ◌∷◌, ◌++◌, length, Option, None, Some, IfSome, Result, Ok, Err, codes, refl, false}
 use Rattle.std.specs.Option.{option_map}
 use Rattle.deb_base.specs.Bodies.{file_limit}
 use Rattle.deb_base.specs.Reading.{IsMemoryOrRead, TakesNoMore}
@@ -11,7 +11,7 @@ use Rattle.deb_syntax.specs.Lines.{Paragraph}
 use Rattle.deb_syntax.specs.Paragraphs.{seen_of}
 use Rattle.deb_control.specs.AllRefusals.{passed_among, passed_of, refusals_of}
 use Rattle.deb_control.specs.Checking.{CheckedState, FitsChecked}
-use Rattle.deb_control.specs.CheckedStates.{checked_state, doc_read, lines_checked}
+use Rattle.deb_control.specs.CheckedStates.{checked_state, doc_read, lines_checked, a_checked}
 use Rattle.deb_control.specs.Documents.{rules_of}
 use Rattle.deb_control.specs.Positions.{fault_at, is_end, refusal_at}
 use Rattle.deb_control.specs.Refusals.{Answered, next_given, passed_in}
@@ -24,6 +24,9 @@ use Rattle.deb_control.specs.declared.refusals.Position.TheVariants.{Start, At, 
 use Rattle.deb_control.specs.declared.refusals.RefusedRun.{RefusedRun}
 use Rattle.deb_control.specs.declared.refusals.Refusals.{Refusals}
 use Rattle.deb_control.specs.declared.summary.Summary.{Summary}
+use Rattle.deb_base.specs.Literals.{lent}
+use Rattle.deb_base.specs.declared.code.Code.TheVariants.{Comment, MissingField}
+use Rattle.deb_base.specs.declared.doc.Doc.TheVariants.{Packages}
 
 -- ---- what a reader of refusals shows
 
@@ -174,31 +177,31 @@ pub record IsLastOf {A : Type 0} (last : A) (all : List A) : Type 0 where
   pub front : List A
   pub is : all ≡ front ++ last ∷ []
 
-parts_shown : (r : Refusals) → (summary_of r ≡ r.summary) × (given_last r ≡ refusal_at r.position)
-    × (failure_of r ≡ fault_at r.position) × (has_ended r ≡ is_end r.position)
-parts_shown r = (refl, refl, refl, refl)
-
-answers : (doc : Doc) (text : List ℕ) (refusal : Refusal) (new : Refusals) (left : Option (List ℕ))
-    (done : List SeenRefusal)
-    → (GivesNext doc text (Ok (Some refusal)) new left done
-    ≡ GivesRefusal doc text refusal new left done)
-    × (GivesNext doc text (Ok None) new left done ≡ GivesAll doc text new left done)
-    × (GivesNext doc text (Err Memory) new left done ≡ AreFirst doc text done)
-    × (GivesNext doc text (Err Read) new left done ≡ AreFirst doc text done)
-    × (GivesNext doc text (Err (Refused refusal)) new left done ≡ ⊥)
-    × (GivesNext doc text (Err Write) new left done ≡ ⊥)
-answers doc text refusal new left done = (refl, refl, refl, refl, refl, refl)
-
 -- a line that is refused
-run_shown : (doc : Doc) (refusal : Refusal) → shown_by_run (record {
-  doc = doc;
-  refusal = refusal;
-  line = Some (record { ref_ptr = (0, 0); now = codes "# b" });
+run_shown : shown_by_run (record {
+  doc = Packages;
+  refusal = record { code = Comment; line = 4 };
+  line = Some (lent (codes "# b"));
   paragraph = None;
-}) ≡ record { refusal = refusal; line = Some (codes "# b"); seen = None }
-run_shown doc refusal = refl
+}) ≡ record {
+  refusal = record { code = Comment; line = 4 };
+  line = Some (codes "# b");
+  seen = None;
+}
+run_shown = refl
 
--- at the start of a file they are those of the file
-from_start : (doc : Doc) (text : List ℕ)
-    → refusals_seen_given (rules_of doc) text [] ≡ refusals_seen doc text
-from_start doc text = refl
+-- a reader that has given two refusals
+abbrev two_given : Refusals
+unfolding a_checked
+two_given = record {
+  checked = a_checked;
+  summary = record { passed = 1; refused = 2 };
+  position = At (record { code = MissingField; line = 5 });
+  sound = refl;
+}
+
+parts_shown : (summary_of two_given ≡ record { passed = 1; refused = 2 })
+    × (given_last two_given ≡ Some (record { code = MissingField; line = 5 }))
+    × (failure_of two_given ≡ None) × (has_ended two_given ≡ false)
+unfolding two_given
+parts_shown = (refl, refl, refl, refl)

@@ -1,5 +1,5 @@
 -- What a paragraph whose values have been read shows of it. Debian Policy 5.1.
-use Rattle.std.specs.Prelude.{◌≡◌, ℕ, List, [], ◌∷◌, map, Ok, codes, refl}
+use Rattle.std.specs.Prelude.{◌≡◌, ℕ, List, [], ◌∷◌, map, Ok, codes, refl, true, false}
 use denote.Ref.{Bor}
 use Rattle.deb_base.specs.Kinds.{known_row}
 use Rattle.deb_base.specs.Names.{canonical_name}
@@ -18,6 +18,7 @@ use Rattle.deb_control.specs.Pairs.{Pairwise}
 use Rattle.deb_control.specs.Refusals.{built}
 use Rattle.deb_control.specs.ValueFiles.{ValueEntries, SpellsEntry, body_under}
 use Rattle.deb_control.specs.declared.typed_field.TypedField.{TypedField}
+use Rattle.deb_control.specs.Sorting.{comes_before}
 
 -- the field as it is in the file
 abbrev pub field_in : TypedField → Field
@@ -50,7 +51,7 @@ pub record AreValuesOf (doc : Doc) (seen : Seen) (values : ValueEntries ValueMea
 abbrev to : {T : Type 0} → T → Bor T
 to value = record { ref_ptr = (0, 0); now = value }
 
-abbrev flag_field : TypedField
+unfoldable pub flag_field : TypedField
 unfolding known_row
 flag_field = record {
   raw =
@@ -64,7 +65,7 @@ flag_field = record {
   value = Flag Yes;
 }
 
-abbrev text_field : TypedField
+unfoldable pub text_field : TypedField
 unfolding known_row
 text_field = record {
   raw =
@@ -90,3 +91,8 @@ text_of_two : (text_of_values
     ((codes "Essential", FlagMeans Yes) ∷ (codes "X-A", TextMeans (codes "1")) ∷ [])
     ≡ codes "Essential: yes\nX-A: 1\n") × (text_of_values [] ≡ [])
 text_of_two = (refl, refl)
+
+fields_in_order : (comes_before flag_field text_field ≡ true)
+    × (comes_before text_field flag_field ≡ false)
+unfolding flag_field text_field
+fields_in_order = (refl, refl)

@@ -1,6 +1,6 @@
 -- What a call says that reads on in a file whose first paragraphs were given (Debian Policy
 -- 5.1; the limits and the order of the refusals are this project's own).
-use Rattle.std.specs.Prelude.{refl, ◌≡◌, ℕ, List, Option, Some, None, IfOk, IfErr, Result}
+use Rattle.std.specs.Prelude.{refl, ◌≡◌, ℕ, List, Option, Some, None, IfOk, IfErr, Result, codes}
 use Rattle.deb_base.specs.Bodies.{file_limit}
 use Rattle.deb_base.specs.Devices.{Shown, read_failures_after}
 use Rattle.deb_base.specs.Faults.{IsReadersFault}
@@ -38,6 +38,5 @@ pub record ReadsOn {T : Type 0} (before : Checked) (source : Shown) (result : Re
   pub failed : IfErr result (λ fault. after.fault ≡ Some fault)
   pub doc : IfOk result (λ _. after.doc ≡ before.doc)
 
-devices_shown : (left : Option (List ℕ)) (failures : ℕ)
-    → ((shown left failures).bytes ≡ left) × ((shown left failures).failures ≡ failures)
-devices_shown left failures = (refl, refl)
+devices_shown : shown (Some (codes "D")) 3 ≡ record { bytes = Some (codes "D"); failures = 3 }
+devices_shown = refl

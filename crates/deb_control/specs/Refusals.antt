@@ -419,27 +419,19 @@ outcomes_of_left : (outcome_behind (sample true) None 9 [] []
 unfolding paragraph_limit file_limit is_utf8 chars encode
 outcomes_of_left = (refl, refl, refl, refl)
 
-limits_of_paragraphs : (rules : Rules) (seen : Seen) (first : Option Refusal)
-    (before : List Entries) (n : ℕ) (entries : Result Entries Refusal)
-    (next : Result (Option Seen) Refusal)
-    → (named_and_short rules seen ≡ named_and_short_under 16777216 rules seen)
-    × (refused_or_built rules seen first ≡ refused_or_built_under 16777216 rules seen first)
-    × (built rules seen ≡ built_under 16777216 rules seen)
-    × (within_file before n entries ≡ within_bytes 4294967295 before n entries)
-    × (answer_of_seen rules n before next
-    ≡ answer_of_seen_under 16777216 4294967295 rules n before next)
+-- at the limits of this project
+limits_of_paragraphs : (named_and_short ≡ named_and_short_under 16777216)
+    × (refused_or_built ≡ refused_or_built_under 16777216) × (built ≡ built_under 16777216)
+    × (within_file ≡ within_bytes 4294967295)
+    × (answer_of_seen ≡ answer_of_seen_under 16777216 4294967295)
 unfolding paragraph_limit file_limit
-limits_of_paragraphs rules seen first before n entries next = (refl, refl, refl, refl, refl)
+limits_of_paragraphs = (refl, refl, refl, refl, refl)
 
-limits_of_files : (rules : Rules) (beyond : Option ℕ) (n : ℕ) (before : List Entries)
-    (left : List Paragraph) (text : List ℕ)
-    → (answer_behind rules beyond n before left
-    ≡ answer_behind_under 16777216 4294967295 rules beyond n before left)
-    × (outcome_behind rules beyond n before left
-    ≡ outcome_behind_under 16777216 4294967295 rules beyond n before left)
-    × (next_checked rules text before ≡ next_checked_under 16777216 4294967295 rules text before)
-    × (outcome rules text ≡ outcome_under 16777216 4294967295 rules text)
-    × (refusal_by rules text ≡ refusal_under 16777216 4294967295 rules text)
-    × (text_by rules text ≡ text_under 16777216 4294967295 rules text)
+limits_of_files : (answer_behind ≡ answer_behind_under 16777216 4294967295)
+    × (outcome_behind ≡ outcome_behind_under 16777216 4294967295)
+    × (next_checked ≡ next_checked_under 16777216 4294967295)
+    × (outcome ≡ outcome_under 16777216 4294967295)
+    × (refusal_by ≡ refusal_under 16777216 4294967295)
+    × (text_by ≡ text_under 16777216 4294967295)
 unfolding paragraph_limit file_limit
-limits_of_files rules beyond n before left text = (refl, refl, refl, refl, refl, refl)
+limits_of_files = (refl, refl, refl, refl, refl, refl)

@@ -13,6 +13,7 @@ use Rattle.deb_syntax.specs.Lines.{Paragraph}
 use Rattle.deb_syntax.specs.Meaning.{Entries}
 use Rattle.deb_control.specs.Refusals.{Answered, has_some, passed_in}
 use Rattle.deb_control.specs.Rules.{Rules}
+use Rattle.deb_base.specs.declared.code.Code.TheVariants.{NoColon}
 
 -- what is seen of a paragraph, where its lines aren't refused
 abbrev pub seen_in : Result (Option Seen) Refusal → Option Seen
@@ -87,18 +88,19 @@ unfolding file_limit paragraph_limit is_utf8 chars encode
 lines_shown = (refl, refl, refl)
 
 -- after a first paragraph that was refused: the second isn't one too many
-after_refused : (refusal : Refusal)
-    → (seen_given (sample true) (codes "c\n\nb:2\n") (Err refusal ∷ []) ≡ Some second)
-    × (lines_given (sample true) (codes "c\n\nb:2\n") (Err refusal ∷ [])
+abbrev no_colon : Refusal
+no_colon = record { code = NoColon; line = 1 }
+
+after_refused : (seen_given (sample true) (codes "c\n\nb:2\n") (Err no_colon ∷ []) ≡ Some second)
+    × (lines_given (sample true) (codes "c\n\nb:2\n") (Err no_colon ∷ [])
     ≡ Some (record { first = 3; lines = codes "b:2" ∷ [] }))
     × (seen_given (sample true) (codes "c\n\nb:2\n") (Ok [] ∷ []) ≡ None)
 unfolding file_limit paragraph_limit is_utf8 chars encode
-after_refused refusal = (refl, refl, refl)
+after_refused = (refl, refl, refl)
 
-errors_shown : (refusal : Refusal)
-    → (seen_refused (Some (Refused refusal)) (Some second) ≡ Some second)
-    × (seen_refused (Some (Refused refusal)) None ≡ None)
+errors_shown : (seen_refused (Some (Refused no_colon)) (Some second) ≡ Some second)
+    × (seen_refused (Some (Refused no_colon)) None ≡ None)
     × (seen_refused (Some Memory) (Some second) ≡ None)
     × (seen_refused (Some Read) (Some second) ≡ None)
     × (seen_refused (Some Write) (Some second) ≡ None) × (seen_refused None (Some second) ≡ None)
-errors_shown refusal = (refl, refl, refl, refl, refl, refl)
+errors_shown = (refl, refl, refl, refl, refl, refl)

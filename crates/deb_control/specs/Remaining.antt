@@ -17,6 +17,7 @@ use Rattle.deb_control.specs.Rules.{Rules}
 use Rattle.deb_control.specs.Streams.{CheckedItem, CheckedStream, stream_of, stream_under}
 use Rattle.deb_control.specs.ValueFiles.{bodies_of}
 use Rattle.deb_control.specs.AllRefusals.{passed_of, refusals_of}
+use Rattle.deb_base.specs.declared.code.Code.TheVariants.{NoColon, FileTooLong}
 
 -- the lines of a paragraph that passes, and none of a refused run
 abbrev pub lines_if_passed : Result Entries Refusal → List Line → List Line
@@ -156,29 +157,26 @@ at_the_limit = (refl, refl, refl)
 abbrev passing : ℕ → Entries → CheckedItem
 passing n entries = record { first = n; lines = codes "A" ∷ []; bodies = Ok entries }
 
-abbrev refused : ℕ → Refusal → CheckedItem
-refused n refusal = record { first = n; lines = codes "B" ∷ []; bodies = Err refusal }
+abbrev refused : ℕ → CheckedItem
+refused n = record {
+  first = n;
+  lines = codes "B" ∷ [];
+  bodies = Err (record { code = NoColon; line = n });
+}
 
-lines_that_remain : (refusal : Refusal) (entries : Entries)
-    → (remaining_lines 3 (codes "" ∷ codes "A" ∷ codes " " ∷ codes "B" ∷ codes "\t" ∷ [])
-    (passing 4 entries ∷ refused 6 refusal ∷ []) None
+lines_that_remain : (remaining_lines 3
+    (codes "" ∷ codes "A" ∷ codes " " ∷ codes "B" ∷ codes "\t" ∷ [])
+    (passing 4 [] ∷ refused 6 ∷ []) None
     ≡ codes "" ∷ codes "A" ∷ codes " " ∷ codes "\t" ∷ [])
-    × (remaining_lines 1 (codes "A" ∷ codes "" ∷ codes "C" ∷ []) (passing 1 entries ∷ [])
-    (Some refusal) ≡ codes "A" ∷ [])
-    × (passed_bodies (passing 4 entries ∷ refused 6 refusal ∷ passing 8 [] ∷ [])
-    ≡ entries ∷ [] ∷ [])
-    × (passed_lines (passing 4 entries ∷ refused 6 refusal ∷ passing 8 [] ∷ [])
+    × (remaining_lines 1 (codes "A" ∷ codes "" ∷ codes "C" ∷ []) (passing 1 [] ∷ [])
+    (Some (record { code = FileTooLong; line = 3 })) ≡ codes "A" ∷ [])
+    × (passed_bodies (passing 4 ((codes "A", []) ∷ []) ∷ refused 6 ∷ passing 8 [] ∷ [])
+    ≡ ((codes "A", []) ∷ []) ∷ [] ∷ [])
+    × (passed_lines (passing 4 [] ∷ refused 6 ∷ passing 8 [] ∷ [])
     ≡ (codes "A" ∷ []) ∷ (codes "A" ∷ []) ∷ [])
-lines_that_remain refusal entries = (refl, refl, refl, refl)
+lines_that_remain = (refl, refl, refl, refl)
 
 -- the same of a kind of document
 small_file : remaining_of Packages (codes "#\n\nVersion 1\n") ≡ codes "\n"
 unfolding paragraph_limit file_limit is_utf8 chars encode
 small_file = refl
-
--- at the limits of this project
-limits_of_what_remains : (doc : Doc) (text : List ℕ)
-    → (remaining_of doc text
-    ≡ remaining_in (stream_under 16777216 4294967295 (rules_of doc) text) text)
-unfolding paragraph_limit file_limit
-limits_of_what_remains doc text = refl

@@ -1,18 +1,17 @@
 -- How a reader of checked paragraphs goes on after a paragraph that is refused (this project's
 -- own).
-use Rattle.std.specs.Prelude.{◌≡◌, ℕ, ◌==◌, ◌&&◌, Bool, true, false, not, List, [], ◌∷◌, ◌++◌, Option, Some, None, Err, refl}
+use Rattle.std.specs.Prelude.{◌≡◌, ℕ, ◌==◌, ◌&&◌, Bool, true, false, not, List, [], ◌∷◌, ◌++◌, Option, Some, None, Err, refl, map, codes}
 use Rattle.deb_base.specs.Codes.{number_of}
 use Rattle.deb_base.specs.Docs.{is_single}
-use Rattle.deb_base.specs.declared.code.Code.TheVariants.{BadNumber, FileTooLong, ParagraphTooLong}
+use Rattle.deb_base.specs.declared.code.Code.TheVariants.{BadNumber, FileTooLong, ParagraphTooLong, NoColon}
 use Rattle.deb_base.specs.declared.doc.Doc.{Doc}
 use Rattle.deb_base.specs.declared.doc.Doc.TheVariants.{Binary, Packages}
 use Rattle.deb_base.specs.declared.fault.Fault.{Fault}
 use Rattle.deb_base.specs.declared.fault.Fault.TheVariants.{Refused, Memory, Read, Write}
-use Rattle.deb_base.specs.declared.refusal.Refusal.{Refusal}
-use Rattle.deb_syntax.specs.Answers.{Seen}
 use Rattle.deb_syntax.specs.Lines.{Paragraph}
 use Rattle.deb_control.specs.Checking.{CheckedState, FitsChecked}
 use Rattle.deb_control.specs.Refusals.{Answered}
+use Rattle.deb_syntax.specs.Reading.{State}
 
 -- After an error the paragraph has passed too: if it is refused, that is what was answered of it.
 abbrev pub FitsRefused : (doc : Doc) (text : List ℕ) (answered : List Answered) → Fault
@@ -63,61 +62,63 @@ resumed state = record state {
 }
 
 -- a value is refused, canonical text of a paragraph is too long, and that of a file
-refusals_of_paragraphs : (p : Paragraph) (last : Option Paragraph)
-    → (refuses_paragraph (Some (Refused (record { code = BadNumber; line = 4 }))) (Some p) ≡ true)
+abbrev p : Paragraph
+p = record { first = 4; lines = codes "Size: x" ∷ [] }
+
+refusals_of_paragraphs : (refuses_paragraph (Some (Refused (record { code = BadNumber; line = 4 })))
+    (Some p) ≡ true)
     × (refuses_paragraph (Some (Refused (record { code = ParagraphTooLong; line = 4 }))) (Some p)
     ≡ true)
     × (refuses_paragraph (Some (Refused (record { code = FileTooLong; line = 4 }))) (Some p)
     ≡ false)
     × (refuses_paragraph (Some (Refused (record { code = BadNumber; line = 4 }))) None ≡ false)
-    × (refuses_paragraph (Some Memory) last ≡ false) × (refuses_paragraph (Some Read) last ≡ false)
-    × (refuses_paragraph (Some Write) last ≡ false) × (refuses_paragraph None last ≡ false)
-refusals_of_paragraphs p last = (refl, refl, refl, refl, refl, refl, refl, refl)
+    × (map (λ fault. refuses_paragraph fault (Some p))
+    (Some Memory ∷ Some Read ∷ Some Write ∷ None ∷ [])
+    ≡ false ∷ false ∷ false ∷ false ∷ [])
+refusals_of_paragraphs = (refl, refl, refl, refl, refl)
 
 -- the same where a file has any number of paragraphs, and where it has one
-kinds_to_go_on_in : (p : Paragraph)
-    → (resumes Packages (Some (Refused (record { code = BadNumber; line = 4 }))) (Some p) ≡ true)
+kinds_to_go_on_in : (resumes Packages (Some (Refused (record { code = BadNumber; line = 4 })))
+    (Some p) ≡ true)
     × (resumes Packages (Some (Refused (record { code = ParagraphTooLong; line = 4 }))) None
     ≡ false)
     × (resumes Binary (Some (Refused (record { code = BadNumber; line = 4 }))) (Some p) ≡ false)
-kinds_to_go_on_in p = (refl, refl, refl)
+kinds_to_go_on_in = (refl, refl, refl)
 
-answers_refused : (doc : Doc) (text : List ℕ) (answered : List Answered) (refusal : Refusal)
-    (new : CheckedState) (left : Option (List ℕ))
-    → (FitsRefused doc text answered (Refused refusal) new left
-    ≡ FitsChecked doc text (answered ++ Err refusal ∷ []) new left)
-    × (FitsRefused doc text answered Memory new left ≡ Unit {0})
-answers_refused doc text answered refusal new left = (refl, refl)
+errors_inside : (map (is_inside (Some (Refused (record { code = BadNumber; line = 4 }))))
+    (None ∷ Some (Refused (record { code = NoColon; line = 4 })) ∷ Some Memory ∷ Some Read
+    ∷ Some Write ∷ [])
+    ≡ true ∷ true ∷ false ∷ false ∷ false ∷ [])
+    × (map (λ fault. is_inside fault (Some Memory))
+    (None ∷ Some Memory ∷ Some Read ∷ Some Write ∷ [])
+    ≡ true ∷ true ∷ true ∷ true ∷ [])
+errors_inside = (refl, refl)
 
-errors_inside : (refusal other : Refusal) (inside : Option Fault)
-    → (is_inside (Some (Refused refusal)) None ≡ true)
-    × (is_inside (Some (Refused refusal)) (Some (Refused other)) ≡ true)
-    × (is_inside (Some (Refused refusal)) (Some Memory) ≡ false)
-    × (is_inside (Some Memory) inside ≡ true) × (is_inside None inside ≡ true)
-    × (is_none_or_refusal (Some Read) ≡ false) × (is_none_or_refusal (Some Write) ≡ false)
-errors_inside refusal other inside = (refl, refl, refl, refl, refl, refl, refl)
-
--- for the worked case: a reader by the errors of its reader of paragraphs and its own, and the
--- paragraph that the former found last
-abbrev reader_of : Option Fault → Option Fault → Option Seen → CheckedState
-reader_of inside fault found = record {
-  reader = record {
-    unread = [];
-    held = 9;
-    bytes = 5;
-    lines = 1;
-    overlong_len = 0;
-    ended = false;
-    finished = false;
-    current = found;
-    fault = inside;
-  };
-  count = 1;
+-- a reader of paragraphs that has refused the one that it found last
+abbrev refused_reader : State
+refused_reader = record {
+  unread = codes "D";
+  held = 9;
   bytes = 5;
-  current = None;
-  fault = fault;
+  lines = 1;
+  overlong_len = 0;
+  ended = false;
+  finished = false;
+  current = Some (record { first = 1; fields = [] });
+  fault = Some (Refused (record { code = BadNumber; line = 1 }));
 }
 
-reader_gone_on : (inside fault : Option Fault) (found : Option Seen)
-    → resumed (reader_of inside fault found) ≡ reader_of None None None
-reader_gone_on inside fault found = refl
+reader_gone_on : resumed (record {
+  reader = refused_reader;
+  count = 1;
+  bytes = 4;
+  current = Some (record { first = 1; fields = [] });
+  fault = Some (Refused (record { code = BadNumber; line = 1 }));
+}) ≡ record {
+  reader = record refused_reader { current = None; fault = None };
+  count = 1;
+  bytes = 4;
+  current = None;
+  fault = None;
+}
+reader_gone_on = refl

@@ -16,6 +16,7 @@ use Rattle.deb_control.specs.Refusals.{Answered, Outcome, outcome, passed_in}
 use Rattle.deb_control.specs.Refused.{lines_after, seen_after}
 use Rattle.deb_control.specs.Rules.{Rules}
 use Rattle.deb_control.specs.Streams.{CheckedItem, CheckedStream, stream_after, stream_given}
+use Rattle.deb_base.specs.declared.doc.Doc.TheVariants.{Packages}
 
 -- A refusal as a reader shows it: with the line of the refused paragraph that has its number, and
 -- with what is seen of that paragraph, where its lines aren't refused.
@@ -148,12 +149,13 @@ first_refusals : (first_seen (sample false) (codes "Package:a\n\n# b\n\nX:1\n") 
 unfolding file_limit paragraph_limit is_utf8 chars encode
 first_refusals = (refl, refl)
 
--- after a paragraph that was refused
-after_refused : (refusal : Refusal)
-    → (refusals_seen_given (sample false) (codes "#\n\n# b\n\nX:1\n") (Err refusal ∷ [])
-    ≡ comment 3 ∷ nameless 5 ∷ [])
+-- after a first paragraph that was refused, and from the start
+after_refused : (refusals_seen_given (sample false) (codes "#\n\n# b\n\nX:1\n")
+    (Err (record { code = Comment; line = 1 }) ∷ []) ≡ comment 3 ∷ nameless 5 ∷ [])
     × (refusals_seen_after (sample false) (codes "#\n\n# b\n") 1 [] ≡ comment 3 ∷ [])
-    × (refusal_seen_given (sample false) (codes "#\n\n# b\n") (Err refusal ∷ [])
-    (record { code = Comment; line = 3 }) ≡ comment 3)
+    × (refusal_seen_given (sample false) (codes "#\n\n# b\n")
+    (Err (record { code = Comment; line = 1 }) ∷ []) (record { code = Comment; line = 3 })
+    ≡ comment 3)
+    × (refusals_seen Packages (codes "# b\n") ≡ comment 1 ∷ [])
 unfolding file_limit paragraph_limit is_utf8 chars encode
-after_refused refusal = (refl, refl, refl)
+after_refused = (refl, refl, refl, refl)

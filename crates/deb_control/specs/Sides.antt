@@ -4,6 +4,7 @@ use Rattle.deb_base.specs.declared.fault.Fault.{Fault}
 use Rattle.deb_control.specs.declared.side.Side.{Side}
 use Rattle.deb_control.specs.declared.side.Side.TheVariants.{First, Second}
 use Rattle.deb_control.specs.declared.side.SideFault.{SideFault}
+use Rattle.deb_base.specs.declared.fault.Fault.TheVariants.{Read}
 
 abbrev pub if_first : Side → Fault → Result ⊤ Fault
 if_first First fault = Err fault
@@ -22,15 +23,14 @@ abbrev pub of_second : {T : Type 0} → Result T SideFault → Result ⊤ Fault
 of_second (Ok _) = Ok tt
 of_second (Err told) = if_second told.side told.fault
 
-faults_of_sides : (fault : Fault) → (if_first First fault ≡ Err fault)
-    × (if_first Second fault ≡ Ok tt) × (if_second First fault ≡ Ok tt)
-    × (if_second Second fault ≡ Err fault)
-faults_of_sides fault = (refl, refl, refl, refl)
+faults_of_sides : (if_first First Read ≡ Err Read) × (if_first Second Read ≡ Ok tt)
+    × (if_second First Read ≡ Ok tt) × (if_second Second Read ≡ Err Read)
+faults_of_sides = (refl, refl, refl, refl)
 
-answers_of_sides : (fault : Fault) → (of_first {T = ℕ} (Ok 1) ≡ Ok tt)
-    × (of_first {T = ℕ} (Err (record { side = First; fault = fault })) ≡ Err fault)
-    × (of_first {T = ℕ} (Err (record { side = Second; fault = fault })) ≡ Ok tt)
+answers_of_sides : (of_first {T = ℕ} (Ok 1) ≡ Ok tt)
+    × (of_first {T = ℕ} (Err (record { side = First; fault = Read })) ≡ Err Read)
+    × (of_first {T = ℕ} (Err (record { side = Second; fault = Read })) ≡ Ok tt)
     × (of_second {T = ℕ} (Ok 1) ≡ Ok tt)
-    × (of_second {T = ℕ} (Err (record { side = First; fault = fault })) ≡ Ok tt)
-    × (of_second {T = ℕ} (Err (record { side = Second; fault = fault })) ≡ Err fault)
-answers_of_sides fault = (refl, refl, refl, refl, refl, refl)
+    × (of_second {T = ℕ} (Err (record { side = First; fault = Read })) ≡ Ok tt)
+    × (of_second {T = ℕ} (Err (record { side = Second; fault = Read })) ≡ Err Read)
+answers_of_sides = (refl, refl, refl, refl, refl, refl)

@@ -19,10 +19,6 @@ front_number zero bytes = 0
 front_number (suc k) [] = 0
 front_number (suc k) (b ∷ bs) = b * 256 ^ k + front_number k bs
 
-order_of_fields : (field other : TypedField)
-    → comes_before field other ≡ name_before field.raw.name.now other.raw.name.now
-order_of_fields field other = refl
-
 -- the bytes of canonical spellings decide, neither those of the names as they are spelled nor those
 -- of names in lower case: `A` before `_`, which comes before `a`
 order_of_names : (name_before (codes "a") (codes "B") ≡ true)

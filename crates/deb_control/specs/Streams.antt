@@ -229,18 +229,19 @@ long_canonical : stream_under 10 99 (sample false) (codes "Package:a\n\n#\n")
 unfolding is_utf8 chars encode
 long_canonical = refl
 
-refusals_of_items : (refusal : Refusal) → (refusals_in [] None ≡ [])
-    × (refusals_in (good 1 ∷ bad 3 ∷ good 5 ∷ nameless 7 ∷ []) (Some refusal)
+refusals_of_items : (refusals_in [] None ≡ [])
+    × (refusals_in (good 1 ∷ bad 3 ∷ good 5 ∷ nameless 7 ∷ [])
+    (Some (record { code = FileTooLong; line = 9 }))
     ≡ record { code = Comment; line = 3 } ∷ record { code = MissingField; line = 7 }
-    ∷ refusal ∷ [])
-refusals_of_items refusal = (refl, refl)
+    ∷ record { code = FileTooLong; line = 9 } ∷ [])
+refusals_of_items = (refl, refl)
 
--- at the limits of this project
-limits_of_streams : (rules : Rules) (text : List ℕ) (before : List Entries)
-    → (stream_from rules text before ≡ stream_from_under 16777216 4294967295 rules text before)
-    × (stream_of rules text ≡ stream_under 16777216 4294967295 rules text)
-    × (refusals_by rules text
-    ≡ refusals_in (stream_under 16777216 4294967295 rules text).items
-    (stream_under 16777216 4294967295 rules text).end)
-unfolding paragraph_limit file_limit
-limits_of_streams rules text before = (refl, refl, refl)
+-- at the limits of this project, and after a paragraph that has passed
+limits_of_streams : (stream_from ≡ stream_from_under 16777216 4294967295)
+    × (stream_of ≡ stream_under 16777216 4294967295)
+    × (stream_from (sample false) (codes "Package:a\n\n#\n") ([] ∷ [])
+    ≡ record { items = bad 3 ∷ []; end = None })
+    × (refusals_by (sample false) (codes "#\n\nPackage:a\n\nX:1\n")
+    ≡ record { code = Comment; line = 1 } ∷ record { code = MissingField; line = 5 } ∷ [])
+unfolding paragraph_limit file_limit is_utf8 chars encode
+limits_of_streams = (refl, refl, refl, refl)

@@ -10,7 +10,7 @@ use Rattle.deb_syntax.specs.Raw.{field_of}
 use Rattle.deb_syntax.specs.declared.raw.RawField.{RawField}
 use Rattle.deb_base.specs.declared.doc.Doc.{Doc}
 use Rattle.deb_base.specs.declared.kind.Kind.{Kind}
-use Rattle.deb_field.specs.Values.{ValueMeaning, NameMeans, NumberMeans, SpellsKind, SpellsValue, value_text}
+use Rattle.deb_field.specs.Values.{ValueMeaning, NameMeans, NumberMeans, SpellsKind, SpellsValue, value_text, FlagMeans}
 use Rattle.deb_field.specs.ValueMeanings.{value_meaning}
 use Rattle.deb_field.specs.declared.value.Value.{Value}
 use Rattle.deb_control.specs.Canonical.{field_text}
@@ -18,6 +18,8 @@ use Rattle.deb_control.specs.Checking.{CheckedMoment, ChecksOn, is_judged, passi
 use Rattle.deb_control.specs.Documents.{rules_of}
 use Rattle.deb_control.specs.Finding.{given_answer}
 use Rattle.deb_control.specs.Refusals.{value_refusal_of}
+use Rattle.deb_control.specs.Paragraphs.{flag_field}
+use Rattle.deb_field.specs.declared.flag.Flag.TheVariants.{Yes}
 
 -- a field with its value
 abbrev pub Visit : Type 0
@@ -107,9 +109,10 @@ two_visits =
     (record { name = codes "Package"; line = 1; body = codes "bb" }, NameMeans (codes "bb"))
     ∷ (record { name = codes "PACKAGE"; line = 2; body = codes "aa" }, NameMeans (codes "aa")) ∷ []
 
-field_with_value : (field : RawField) (value : Value)
-    → visit_of field value ≡ (field_of field, value_meaning value)
-field_with_value field value = refl
+field_with_value : visit_of flag_field.raw flag_field.value
+    ≡ (record { name = codes "eSSENTIAL"; line = 3; body = codes "yes" }, FlagMeans Yes)
+unfolding flag_field
+field_with_value = refl
 
 -- the value replaces the body, and not the name as spelled
 value_for_body : canonical_visit
@@ -122,7 +125,3 @@ texts_of_visits : (map visit_text two_visits
     × (map canonical_visit two_visits ≡ fields_visited two_visits)
     × (texts_length two_visits ≡ 24) × (most ≡ 18446744073709551615)
 texts_of_visits = (refl, refl, refl, refl)
-
-found_or_not : (Holds : Seen → Type 0) (seen : Seen) → (HoldsFound Holds (Some seen) ≡ Holds seen)
-    × (HoldsFound Holds None ≡ ⊥)
-found_or_not Holds seen = (refl, refl)

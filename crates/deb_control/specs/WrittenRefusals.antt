@@ -15,6 +15,10 @@ use Rattle.deb_control.specs.GivenRefusals.{AreFirst, GivesAll, HasGiven}
 use Rattle.deb_control.specs.SeenRefusals.{SeenRefusal, refusals_seen}
 use Rattle.deb_control.specs.declared.refusals.Refusals.{Refusals}
 use Rattle.deb_control.specs.declared.summary.Summary.{Summary}
+use Rattle.deb_base.specs.declared.doc.Doc.TheVariants.{Packages}
+use Rattle.deb_base.specs.Bodies.{file_limit, paragraph_limit}
+use Rattle.std.specs.Str.{is_utf8, chars}
+use lib.Utf8.{encode}
 
 -- Exactly the lines of the file were written, and the summary has its counts.
 pub record WritesAll (doc : Doc) (text : List ℕ) (summary : Summary) (old new : Option (List ℕ))
@@ -77,20 +81,7 @@ worked-line :
 unfolding digits
 worked-line = refl
 
-worked-faults : (refusal : Refusal) → (IsNoRefusal (Refused refusal) ≡ ⊥)
-    × (IsNoRefusal Memory ≡ Unit {0}) × (IsNoRefusal Read ≡ Unit {0})
-    × (IsNoRefusal Write ≡ Unit {0})
-worked-faults refusal = (refl, refl, refl, refl)
-
--- a failed write leaves a prefix of the text, another error that of the first refusals
-worked-answers : (of : SeenRefusal → List ℕ) (doc : Doc) (text : List ℕ) (r : Refusals)
-    (left old held : Option (List ℕ))
-    → (WritesNext of doc text (Err Write) r left old held
-    ≡ AppendsFront old held (text_written of doc text))
-    × (WritesNext of doc text (Err Read) r left old held
-    ≡ HasWritten of (AreFirst doc text) old held)
-    × (WritesNext of doc text (Err Memory) r left old held
-    ≡ HasWritten of (AreFirst doc text) old held)
-    × (WritesNext of doc text (Ok false) r left old held
-    ≡ HasWritten of (GivesAll doc text r left) old held)
-worked-answers of doc text r left old held = (refl, refl, refl, refl)
+worked-text : text_written line_written Packages (codes "# a\n\n# b\n")
+    ≡ codes "line 1: 3 Comment\nline 3: 3 Comment\nok 0, 2 refused\n"
+unfolding file_limit paragraph_limit is_utf8 chars encode digits
+worked-text = refl
