@@ -1,6 +1,6 @@
 -- What all refusals of a file are about, and the text that is written of them. Debian Policy 5.1,
 -- 5.3 to 5.6 and 7; which of it is reported, and the text, are this project's own.
-use Rattle.std.specs.Prelude.{◌≡◌, ℕ, List, [], ◌∷◌, ◌++◌, length, map, Option, Some, Err, codes, refl}
+use Rattle.std.specs.Prelude.{◌≡◌, ℕ, List, [], ◌∷◌, ◌++◌, length, map, Option, Some, Err, codes, refl, None}
 use Rattle.std.specs.Fmt.{digits}
 use Rattle.std.specs.Io.KnownBytes.{Appends}
 use Rattle.std.specs.List.{flat_map}
@@ -125,15 +125,18 @@ worked-end : map (why_refused Packages)
 unfolding file_limit paragraph_limit is_utf8 chars encode kind_of kind_at known_row first_fault
 worked-end = refl
 
--- each text has an empty line after it
-worked-blocks : (first second : WhyRefused) (path : List ℕ) (doc : Doc) (seen : SeenRefusal)
-    → (explained_blocks path (first ∷ second ∷ [])
-    ≡ (explanation_text path first ++ codes "\n")
-    ++ ((explanation_text path second ++ codes "\n") ++ []))
-    × (explained_blocks path [] ≡ [])
-    × (seen_block path doc seen ≡ explanation_text path (why_refused doc seen) ++ codes "\n")
-    × (refusals_explained (first ∷ second ∷ []) ≡ first.refusal ∷ second.refusal ∷ [])
-worked-blocks first second path doc seen = (refl, refl, refl, refl)
+-- by what is seen of a comment, and the refusals of two
+worked-blocks : (seen_block (codes "p") Packages
+    (record {
+      refusal = record { code = code.Comment; line = 1 };
+      line = Some (codes "# a");
+      seen = None;
+    })
+    ≡ explanation_text (codes "p") (why code.Comment 1 (AboutLine (codes "# a"))) ++ codes "\n")
+    × (explained_blocks (codes "p") [] ≡ [])
+    × (refusals_explained (why code.BadVersion 6 AboutWhole ∷ why code.Comment 9 AboutWhole ∷ [])
+    ≡ record { code = code.BadVersion; line = 6 } ∷ record { code = code.Comment; line = 9 } ∷ [])
+worked-blocks = (refl, refl, refl)
 
 -- what is written of a file with two refusals
 worked-lines : explained_lines (codes "p") Packages (codes "# a\n\nPackage: bb\n")
@@ -156,9 +159,10 @@ unfolding file_limit paragraph_limit is_utf8 chars encode kind_of kind_at known_
 next_refused = (refl, refl)
 
 -- a line of the second paragraph, after a first one that was refused
-next_given_refused : (refusal : Refusal)
-    → why_refused Packages (refusal_seen_given (rules_of Packages) (codes "# a\n\n# b\n")
-    (Err refusal ∷ []) (record { code = code.Comment; line = 3 }))
+next_given_refused : why_refused Packages
+    (refusal_seen_given (rules_of Packages) (codes "# a\n\n# b\n")
+    (Err (record { code = code.Comment; line = 1 }) ∷ [])
+    (record { code = code.Comment; line = 3 }))
     ≡ why code.Comment 3 (AboutLine (codes "# b"))
 unfolding file_limit paragraph_limit is_utf8 chars encode kind_of kind_at known_row
-next_given_refused refusal = refl
+next_given_refused = refl

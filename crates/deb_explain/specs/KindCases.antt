@@ -45,13 +45,6 @@ by_name architecture named version name body =
     cond (bytes_eq name (codes "Architecture")) architecture
     (cond (bytes_eq name (codes "Package")) named version)
 
--- the texts of the first package's values alone count
-texts_of_the_first : (canonical : List ℕ → List ℕ → List ℕ) → explained canonical
-    ≡ explained (by_name (canonical (codes "Architecture") (codes "all"))
-    (canonical (codes "Package") (codes "aa")) (canonical (codes "Version") (codes "01.0-0")))
-unfolding file_limit paragraph_limit is_utf8 chars encode kind_of kind_at known_row first_fault
-texts_of_the_first canonical = refl
-
 -- those of the kind
 abbrev of_kind : List ℕ → List ℕ → List ℕ
 of_kind = (rules_of Packages).canonical
@@ -78,7 +71,8 @@ version_text =
     (document_rules Packages).text (codes "Version") (codes "01.0-0") (VersionMeans version_1_0)
     (version_1_0, refl, spells-from_no_fault (codes "01.0-0") refl)
 
--- a bad version in the second paragraph of an index of packages
+-- a bad version in the second paragraph of an index of packages; the texts of the first package's
+-- values alone count
 second_package : explanation_of Packages index
     ≡ Some (record {
       refusal = record { code = BadVersion; line = 6 };
@@ -87,9 +81,13 @@ second_package : explanation_of Packages index
     })
 unfolding file_limit paragraph_limit is_utf8 chars encode kind_of kind_at known_row first_fault
 second_package =
+    let texts : (canonical : List ℕ → List ℕ → List ℕ) → explained canonical
+    ≡ explained (by_name (canonical (codes "Architecture") (codes "all"))
+    (canonical (codes "Package") (codes "aa")) (canonical (codes "Version") (codes "01.0-0")))
+    = λ canonical. refl in
     let named = of_kind (codes "Package") (codes "aa") in
     let version = of_kind (codes "Version") (codes "01.0-0") in
-    texts_of_the_first of_kind
+    texts of_kind
     ∙ ap (λ text. explained (by_name text named version)) architecture_text
     ∙ ap (λ text. explained (by_name (codes "all") text version)) package_text
     ∙ ap (λ text. explained (by_name (codes "all") (codes "aa") text)) version_text

@@ -1,17 +1,18 @@
 -- What the values of the code show of an explanation.
-use Rattle.std.specs.Prelude.{◌≡◌, ℕ, codes, refl, Vec}
-use Rattle.std.specs.declared.alloc.Global.{Global}
-use Rattle.deb_base.specs.declared.refusal.Refusal.{Refusal}
+use Rattle.std.specs.Prelude.{◌≡◌, ℕ, codes, refl, Some}
 use Rattle.deb_explain.specs.Explanations.{WhyRefused}
 use Rattle.deb_explain.specs.Subjects.{About, AboutWhole, AboutLine, AboutName, AboutMissing}
 use Rattle.deb_explain.specs.Subjects.{AboutField}
 use Rattle.deb_explain.specs.declared.explained.Explained.{Explained}
 use Rattle.deb_explain.specs.declared.explained.Explained.TheVariants.{Accepted, Refused}
 use Rattle.deb_explain.specs.declared.explained.Explanation.{Explanation}
-use Rattle.deb_explain.specs.declared.explained.RefusedField.{RefusedField}
 use Rattle.deb_explain.specs.declared.explained.Subject.{Subject}
 use Rattle.deb_explain.specs.declared.explained.Subject.TheVariants.{Whole, Line, Name, Missing}
 use Rattle.deb_explain.specs.declared.explained.Subject.TheVariants.{Field}
+use Rattle.deb_base.specs.Literals.{lent, vector}
+use Rattle.deb_base.specs.declared.code.Code.TheVariants.{BadVersion}
+use Rattle.deb_explain.specs.declared.cause.Cause.TheVariants as causes
+use Rattle.deb_version.specs.declared.fault.BadVersion.TheVariants.{RevisionEmpty}
 
 abbrev pub about_of : Subject → About
 about_of Whole = AboutWhole
@@ -35,20 +36,20 @@ IfRefused (Accepted count) P = Unit {0}
 IfRefused (Refused explanation) P = P explanation
 
 -- each subject by its bytes
-subjects : ((bytes : Vec ℕ Global) → about_of (Line bytes) ≡ AboutLine bytes.items)
-    × ((bytes : Vec ℕ Global) → about_of (Name bytes) ≡ AboutName bytes.items)
-    × (about_of (Missing (record { ref_ptr = (0, 0); now = codes "A" })) ≡ AboutMissing (codes "A"))
-    × ((field : RefusedField) → about_of (Field field)
-    ≡ AboutField field.name.items field.column field.body.items field.cause)
-subjects = (λ bytes. refl, λ bytes. refl, refl, λ field. refl)
-
-wholes : (refusal : Refusal) → shown_by (record { refusal = refusal; subject = Whole })
-    ≡ record { refusal = refusal; about = AboutWhole }
-wholes refusal = refl
-
--- each fact is asked of its own answer
-facts_of_answers : (explanation : Explanation) (P : ℕ → Type 0) (Q : Explanation → Type 0)
-    → (IfAccepted (Accepted 2) P ≡ P 2) × (IfAccepted (Refused explanation) P ≡ Unit {0})
-    × (IfRefused (Accepted 2) Q ≡ Unit {0})
-    × (IfRefused (Refused explanation) Q ≡ Q explanation)
-facts_of_answers explanation P Q = (refl, refl, refl, refl)
+subjects : (about_of (Line (vector (codes "# a") refl)) ≡ AboutLine (codes "# a"))
+    × (about_of (Name (vector (codes "A B") refl)) ≡ AboutName (codes "A B"))
+    × (about_of (Missing (lent (codes "A"))) ≡ AboutMissing (codes "A"))
+    × (shown_by (record {
+      refusal = record { code = BadVersion; line = 2 };
+      subject = Field (record {
+        name = vector (codes "vERSION") refl;
+        column = 10;
+        body = vector (codes "1-") refl;
+        cause = Some (causes.Version RevisionEmpty 0);
+      });
+    }) ≡ record {
+      refusal = record { code = BadVersion; line = 2 };
+      about = AboutField
+          (codes "vERSION") 10 (codes "1-") (Some (causes.Version RevisionEmpty 0));
+    })
+subjects = (refl, refl, refl, refl)

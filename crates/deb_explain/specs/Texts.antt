@@ -239,10 +239,9 @@ worked_relation_reasons : map relation_reason
 unfolding relation_reason version_reason
 worked_relation_reasons = refl
 
--- a refused word of each kind begins with its code
-worked_word_codes : (why : Cause) (word : List ℕ)
-    → (word_text words.Relation why word ≡ code_lines code.BadRelation
-    ++ (word_cause_text why ++ (shown_line (codes "value: ") word ++ rule_lines code.BadRelation)))
-    × (word_text words.Version why word ≡ code_lines code.BadVersion
-    ++ (word_cause_text why ++ (shown_line (codes "value: ") word ++ rule_lines code.BadVersion)))
-worked_word_codes why word = (refl, refl)
+worked_version : word_text words.Version (cause.Version (UpstreamByte 1) 2) (codes "1:1_2")
+    ≡ codes "code: 18\nname: BadVersion\nplace: 3\nreason: UpstreamByte\nvalue: 1:1_2\n"
+    ++ rule_lines code.BadVersion
+unfolding digits shown_line shortened front_of escaped_byte code_lines word_cause_text place_of
+    place_within reason_of version_reason
+worked_version = refl
