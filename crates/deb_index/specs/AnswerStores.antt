@@ -1,5 +1,5 @@
 -- The answers that a store keeps: lengths that cut its texts and its numbers.
-use Rattle.std.specs.Prelude.{◌≡◌, ℕ, List, [], ◌∷◌, ◌++◌, drop, length, map, take, codes, refl}
+use Rattle.std.specs.Prelude.{◌≡◌, ℕ, List, [], ◌∷◌, ◌++◌, drop, length, map, take}
 use Rattle.std.specs.List.{flat_map, sum_by}
 use Rattle.deb_relation.specs.Applying.{Environment}
 use Rattle.deb_relation.specs.Meaning.{Relation}
@@ -9,7 +9,6 @@ use Rattle.deb_index.specs.Reports.{Answer, Numbered, answer, picked}
 use Rattle.deb_index.specs.declared.answer_store.AnswerSpan.{AnswerSpan}
 use Rattle.deb_index.specs.declared.answer_store.AnswerStore.{AnswerStore}
 use Rattle.deb_index.specs.declared.verdict.Verdict.{Verdict}
-use Rattle.deb_index.specs.declared.verdict.Verdict.TheVariants.{Met, Unmet}
 
 -- the packages of these numbers
 abbrev pub numbered : List Listed → List ℕ → List Numbered
@@ -59,11 +58,3 @@ pub record HasAnswers (environment : Environment) (packages : List Listed) (grou
   pub numbers : sum_by (λ span. span.found_len) store.spans.items ≡ length store.numbers.items
   pub listed : AreNumbers packages store.numbers.items
   pub answers : answers_in packages store ≡ map (answer environment packages) groups
-
--- no package for the first group, and the packages 1 and 3 for the second
-worked-cut : (p q r : Listed)
-    → answers_cut (p ∷ q ∷ r ∷ []) (codes "bbaa | cc") (1 ∷ 3 ∷ [])
-    (span_of (codes "bb") Unmet [] ∷ span_of (codes "aa | cc") Met (1 ∷ 3 ∷ []) ∷ [])
-    ≡ record { text = codes "bb"; verdict = Unmet; packages = [] }
-    ∷ record { text = codes "aa | cc"; verdict = Met; packages = (1, p) ∷ (3, r) ∷ [] } ∷ []
-worked-cut p q r = refl

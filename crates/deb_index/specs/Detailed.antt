@@ -1,8 +1,6 @@
 -- The report with reasons that the values of the code are to the contracts, and the answer of the
 -- call that makes it.
-use Rattle.std.specs.Prelude.{◌≡◌, ℕ, List, [], ◌∷◌, ◌++◌, drop, length, take, IsFalse, IsTrue, Result, Ok, Err, Vec, codes, refl}
-use Rattle.std.specs.Global.{Global}
-use denote.Ref.{Bor}
+use Rattle.std.specs.Prelude.{◌≡◌, ℕ, List, [], ◌∷◌, ◌++◌, drop, length, take, IsFalse, IsTrue, Result, Ok, Err, codes, refl}
 use Rattle.deb_base.specs.Faults.{RefusedOrMemory}
 use Rattle.deb_base.specs.declared.fault.Fault.{Fault}
 use Rattle.deb_relation.specs.Applying.{Environment}
@@ -14,12 +12,10 @@ use Rattle.deb_index.specs.Reported.{answer_of, answers_left, report_of}
 use Rattle.deb_index.specs.Reports.{Answer}
 use Rattle.deb_index.specs.ReportText.{VersionShown, canonical_version}
 use Rattle.deb_index.specs.Why.{Detailed, detailed_report_by}
-use Rattle.deb_index.specs.declared.answer.Answer.{Answer as Answered}
-use Rattle.deb_index.specs.declared.answer.Answers.{Answers}
-use Rattle.deb_index.specs.declared.report.Report.{Report}
 use Rattle.deb_index.specs.declared.why.DetailedAnswer.{DetailedAnswer}
 use Rattle.deb_index.specs.declared.why.DetailedAnswers.{DetailedAnswers}
 use Rattle.deb_index.specs.declared.why.DetailedReport.{DetailedReport}
+use Rattle.deb_index.specs.declared.verdict.Verdict.TheVariants.{Unmet}
 
 abbrev pub detailed_of : DetailedAnswer → Detailed
 detailed_of reported =
@@ -64,29 +60,16 @@ abbrev pub DetailsOf : List Listed → Relation → Environment → Result Detai
 DetailsOf packages relation environment answer =
     DetailsOfBy canonical_version packages relation environment answer
 
--- the answer and the lines of one group
-worked-detailed : (answer : Answered) (reasons : Bor (List ℕ))
-    → detailed_of (record { answer = answer; reasons = reasons })
-    ≡ record { answer = answer_of answer; reasons = reasons.now }
-worked-detailed answer reasons = refl
-
 -- two bytes for the first answer, none for the second, and the others for the third
-worked-cut : (a b c : Answer)
-    → details_cut (a ∷ b ∷ c ∷ []) (codes "xxyyy") (2 ∷ 0 ∷ 3 ∷ [])
-    ≡ record { answer = a; reasons = codes "xx" } ∷ record { answer = b; reasons = [] }
-    ∷ record { answer = c; reasons = codes "yyy" } ∷ []
-worked-cut a b c = refl
+abbrev answered : List ℕ → Answer
+answered text = record { text = text; verdict = Unmet; packages = [] }
 
--- the answers of a report, all of them and those that are left
-worked-details : (report : Report) (reasons lens : Vec ℕ Global)
-    → details_of (record { report = report; reasons = reasons; lens = lens })
-    ≡ details_cut (report_of report) reasons.items lens.items
-worked-details report reasons lens = refl
-
-worked-left : (answers : Answers) (reasons lens : Bor (List ℕ))
-    → details_left (record { answers = answers; reasons = reasons; lens = lens })
-    ≡ details_cut (answers_left answers) reasons.now lens.now
-worked-left answers reasons lens = refl
+worked-cut : details_cut (answered (codes "a") ∷ answered (codes "b") ∷ answered (codes "c") ∷ [])
+    (codes "xxyyy") (2 ∷ 0 ∷ 3 ∷ [])
+    ≡ record { answer = answered (codes "a"); reasons = codes "xx" }
+    ∷ record { answer = answered (codes "b"); reasons = [] }
+    ∷ record { answer = answered (codes "c"); reasons = codes "yyy" } ∷ []
+worked-cut = refl
 
 worked-first : (first_len [] ≡ 0) × (first_len (3 ∷ 1 ∷ []) ≡ 3)
 worked-first = (refl, refl)

@@ -1,6 +1,6 @@
 -- The packages that an index is to its callers, the lines of their paragraphs, the texts by which
 -- these spell their versions, and the packages of offers.
-use Rattle.std.specs.Prelude.{◌≡◌, ℕ, List, refl}
+use Rattle.std.specs.Prelude.{ℕ, List}
 use Rattle.deb_index.specs.Listed.{Listed}
 use Rattle.deb_index.specs.Offers.{number_of}
 use Rattle.deb_index.specs.Stores.{lines_in, listed_in, spellings_in}
@@ -21,7 +21,3 @@ spellings_of index = spellings_in index.store
 -- the number of the package of an offer
 abbrev pub number_in : Index → ℕ → ℕ
 number_in index offer = number_of index.store offer
-
-package_of_offer : (index : Index) (offer : ℕ)
-    → number_in index offer ≡ number_of index.store offer
-package_of_offer index offer = refl

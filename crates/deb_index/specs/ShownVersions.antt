@@ -1,5 +1,5 @@
 -- The text of versions that the values of the code choose.
-use Rattle.std.specs.Prelude.{◌≡◌, ℕ, List, refl}
+use Rattle.std.specs.Prelude.{ℕ, List}
 use Rattle.deb_base.specs.declared.version_text.VersionText.{VersionText}
 use Rattle.deb_index.specs.Indexes.{spellings_of}
 use Rattle.deb_index.specs.ReportText.{VersionShown, version_shown}
@@ -21,14 +21,3 @@ spellings_reported reported = spellings_of reported.index.now
 
 abbrev pub spellings_detailed : DetailedReport → List (List ℕ)
 spellings_detailed reported = spellings_reported reported.report
-
--- those of the index
-worked-by : (chosen : VersionText) (index : Index)
-    → version_by chosen index ≡ version_shown chosen (spellings_of index)
-worked-by chosen index = refl
-
-worked-shown : (versions : Versions) (found : Report) (detailed : DetailedReport)
-    → (shown_by versions ≡ version_shown versions.chosen (spellings_of versions.index.now))
-    × (spellings_reported found ≡ spellings_of found.index.now)
-    × (spellings_detailed detailed ≡ spellings_of detailed.report.index.now)
-worked-shown versions found detailed = (refl, refl, refl)

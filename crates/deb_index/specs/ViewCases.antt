@@ -1,7 +1,6 @@
 -- Worked cases of what the contracts see of the code's values, which are written out here: each
 -- field under its own name, and lists in their order.
-use Rattle.std.specs.Prelude.{◌≡◌, ℕ, ◌+◌, ◌^◌, ◌==◌, ◌&&◌, nat_lt, true, false, List, [], ◌∷◌, length, map, None, Some, Vec, codes, refl}
-use Rattle.std.specs.Global.{Global}
+use Rattle.std.specs.Prelude.{◌≡◌, ℕ, ◌+◌, ◌==◌, ◌&&◌, true, false, List, [], ◌∷◌, map, None, Some, codes, refl, zero, suc}
 use Rattle.std.specs.Option.{option_map}
 use Rattle.std.specs.List.{All, AllPairs}
 use Rattle.std.specs.Map.{lookup}
@@ -9,9 +8,6 @@ use Rattle.std.specs.Ordering.{is_lt}
 use Rattle.std.specs.Str.{bytes_eq}
 use Rattle.std.specs.declared.cmp.Ordering.TheVariants.{Less, Equal as Same, Greater}
 use Rattle.std.proofs.Common.{ap, ◌∙◌, arith}
-use Rattle.std.proofs.lemmas.Bool.{ltb-true}
-use denote.RawPtr.{null_ptr}
-use denote.Ref.{Bor}
 use Rattle.deb_version.specs.Canonical.{version_text}
 use Rattle.deb_version.specs.Faults.{first_fault}
 use Rattle.deb_version.specs.Order.{version_cmp}
@@ -21,46 +17,30 @@ use Rattle.deb_field.specs.declared.flag.MultiArch.TheVariants.{Foreign}
 use Rattle.deb_index.specs.AnswerStores.{answers_in, numbered, span_of}
 use Rattle.deb_index.specs.Crowds.{comes_first, passes}
 use Rattle.deb_index.specs.Entries.{IsFaultless, Places, entry_name}
-use Rattle.deb_index.specs.Indexes.{lines_of, packages_of, spellings_of}
+use Rattle.deb_index.specs.Indexes.{lines_of, packages_of, spellings_of, number_in}
 use Rattle.deb_index.specs.Kept.{line_of, listed_of, spelling_of}
 use Rattle.deb_index.specs.Listed.{Listed, Provision}
 use Rattle.deb_index.specs.Named.{AreNumbers}
 use Rattle.deb_index.specs.Offers.{number_of, offer_cmp, offered, standing}
 use Rattle.deb_index.specs.ProvidedNames.{IsNotAfter}
 use Rattle.deb_index.specs.Maps.{list_under, numbers_under, numbers_with}
-use Rattle.deb_index.specs.Reported.{answer_of, answers_left, found_of, report_of}
-use Rattle.deb_index.specs.Stores.{line_by, listed_by, spelling_by}
+use Rattle.deb_index.specs.Reported.{found_of}
+use Rattle.deb_index.specs.Stores.{line_by, listed_by, spelling_by, lines_in, listed_in, spellings_in}
 use Rattle.deb_index.specs.VersionSpellings.{spelling_or}
-use Rattle.deb_index.specs.declared.answer.Found.{Found}
-use Rattle.deb_index.specs.declared.answer.FoundPackages.{FoundPackages}
 use Rattle.deb_index.specs.declared.answer_store.AnswerStore.{AnswerStore}
 use Rattle.deb_index.specs.declared.index.Index.{Index}
 use Rattle.deb_index.specs.declared.names.Names.{Names}
 use Rattle.deb_index.specs.declared.package.Package.{Package}
-use Rattle.deb_index.specs.declared.provisions.Provisions.{Provisions}
 use Rattle.deb_index.specs.declared.store.Record.{Record}
 use Rattle.deb_index.specs.declared.store.Store.{Store}
-use Rattle.deb_index.specs.declared.verdict.Verdict.TheVariants.{Ignored, Met}
-
--- a reference, and a vector that has room for what it holds
-abbrev lent : {X : Type 0} → X → Bor X
-lent x = record { ref_ptr = (0, 0); now = x }
-
-abbrev vector : {X : Type 0} (alloc : Global) (xs : List X)
-    → nat_lt (length xs) (2 ^ 63) ≡ true → Vec X Global
-vector alloc xs short =
-    record {
-      ptr = null_ptr;
-      len = length xs;
-      cap = length xs;
-      alloc = alloc;
-      items = xs;
-      ok = (refl, omega arith);
-      small = ltb-true (length xs) (2 ^ 63) short;
-    }
-
-abbrev text : Global → (bytes : List ℕ) → nat_lt (length bytes) (2 ^ 63) ≡ true → Vec ℕ Global
-text alloc bytes short = vector alloc bytes short
+use Rattle.deb_index.specs.declared.verdict.Verdict.TheVariants.{Ignored, Met, Unmet}
+use Rattle.deb_base.specs.Literals.{lent, vector}
+use Rattle.deb_base.specs.declared.version_text.VersionText.TheVariants.{Canonical, Spelled}
+use Rattle.deb_index.specs.Detailed.{detailed_of, details_cut, details_left, details_of}
+use Rattle.deb_index.specs.ReportText.{version_shown}
+use Rattle.deb_index.specs.Reports.{Answer}
+use Rattle.deb_index.specs.ShownVersions.{shown_by, spellings_detailed}
+use Rattle.deb_index.specs.declared.answer_store.AnswerSpan.{AnswerSpan}
 
 -- aa in version 1, which provides vv in version 3 and ww without one; and bb in version 2, which
 -- provides vv in version 4
@@ -78,75 +58,49 @@ record_of start architecture_end first entries_end line =
       multi_arch = None;
     }
 
-abbrev two_packages : Global → Store
-two_packages alloc =
+abbrev two_packages : Store
+two_packages =
     record {
-      bytes = text alloc (codes "aa1allvv (= 3), wwbb2i386vv (= 4)") refl;
-      entries = vector alloc
+      bytes = vector (codes "aa1allvv (= 3), wwbb2i386vv (= 4)") refl;
+      entries = vector
           (record { start = 6; name_end = 8; version = 12; end = 13; number = 1 }
           ∷ record { start = 16; name_end = 18; version = 18; end = 18; number = 1 }
           ∷ record { start = 25; name_end = 27; version = 31; end = 32; number = 2 } ∷ [])
           refl;
-      records = vector alloc (record_of 0 6 0 2 1 ∷ record_of 18 25 2 3 7 ∷ []) refl;
+      records = vector (record_of 0 6 0 2 1 ∷ record_of 18 25 2 3 7 ∷ []) refl;
     }
 
 -- the own versions of aa and bb, vv in version 3, ww, vv in version 4, and what is no offer
-worked-offered : (alloc : Global)
-    → map (offered (two_packages alloc)) (0 ∷ 1 ∷ 2 ∷ 3 ∷ 4 ∷ 5 ∷ [])
+worked-offered : map (offered two_packages) (0 ∷ 1 ∷ 2 ∷ 3 ∷ 4 ∷ 5 ∷ [])
     ≡ Some (version_in (codes "1")) ∷ Some (version_in (codes "2"))
     ∷ Some (version_in (codes "3")) ∷ None ∷ Some (version_in (codes "4")) ∷ None ∷ []
-worked-offered alloc = refl
+worked-offered = refl
 
-worked-number_of : (alloc : Global)
-    → map (number_of (two_packages alloc)) (0 ∷ 1 ∷ 2 ∷ 3 ∷ 4 ∷ 5 ∷ [])
+worked-number_of : map (number_of two_packages) (0 ∷ 1 ∷ 2 ∷ 3 ∷ 4 ∷ 5 ∷ [])
     ≡ 1 ∷ 2 ∷ 1 ∷ 1 ∷ 2 ∷ 0 ∷ []
-worked-number_of alloc = refl
+worked-number_of = refl
 
 -- two versions, each with itself and with the other, and ww with one
-worked-offer_cmp : (alloc : Global)
-    → map (λ o. map (offer_cmp (two_packages alloc) o) (2 ∷ 3 ∷ 4 ∷ [])) (2 ∷ 3 ∷ 4 ∷ [])
+worked-offer_cmp : map (λ o. map (offer_cmp two_packages o) (2 ∷ 3 ∷ 4 ∷ [])) (2 ∷ 3 ∷ 4 ∷ [])
     ≡ (Same ∷ Greater ∷ Less ∷ []) ∷ (Less ∷ Same ∷ Less ∷ [])
     ∷ (Greater ∷ Greater ∷ Same ∷ []) ∷ []
-worked-offer_cmp alloc = refl
+worked-offer_cmp = refl
 
-worked-comes_first : (alloc : Global)
-    → map (comes_first (two_packages alloc) 2) (2 ∷ 3 ∷ 4 ∷ []) ≡ false ∷ false ∷ true ∷ []
-worked-comes_first alloc = refl
+worked-comes_first : map (comes_first two_packages 2) (2 ∷ 3 ∷ 4 ∷ []) ≡ false ∷ false ∷ true ∷ []
+worked-comes_first = refl
 
 -- to `= 3`: versions 1 and 2, 3, ww and 4
-worked-standing : (alloc : Global)
-    → map (standing (two_packages alloc) (Equal, version_in (codes "3")))
+worked-standing : map (standing two_packages (Equal, version_in (codes "3")))
     (0 ∷ 1 ∷ 2 ∷ 3 ∷ 4 ∷ [])
     ≡ Less ∷ Less ∷ Same ∷ Less ∷ Greater ∷ []
-worked-standing alloc = refl
+worked-standing = refl
 
 -- the second package in version 2, in version 4, and in another
-worked-passes : (alloc : Global)
-    → map (passes
+worked-passes : map (passes
     (λ n version. (n == 2) && is_lt (version_cmp version (version_in (codes "5"))))
-    (two_packages alloc)) (0 ∷ 1 ∷ 2 ∷ 3 ∷ 4 ∷ [])
+    two_packages) (0 ∷ 1 ∷ 2 ∷ 3 ∷ 4 ∷ [])
     ≡ false ∷ true ∷ false ∷ false ∷ true ∷ []
-worked-passes alloc = refl
-
--- aa for all with Multi-Arch `foreign`, which provides vv, and ww in a version
-abbrev listed : Provisions → (besides : List ℕ) → first_fault (codes "1.0") ≡ None
-    → version_text (version_in (codes "1.0")) ≡ codes "1.0"
-    → first_fault (spelling_or (codes "1.0") besides) ≡ None
-    → version_text (version_in (spelling_or (codes "1.0") besides)) ≡ codes "1.0" → Package
-listed provisions besides faultless canonical is_version equal =
-    record {
-      name = lent (codes "aa");
-      version = lent (codes "1.0");
-      besides = lent besides;
-      architecture = lent (codes "all");
-      line = 7;
-      multi_arch = Some Foreign;
-      provisions = provisions;
-      faultless = faultless;
-      canonical = canonical;
-      is_version = is_version;
-      equal = equal;
-    }
+worked-passes = refl
 
 abbrev provided_from : ℕ → List Places
 provided_from n = record { start = n; name_end = n + 2; version = n + 2; end = n + 2; number = 2 }
@@ -158,15 +112,50 @@ provided = provided_from 0
 abbrev provides : List ℕ
 provides = codes "vv, ww (= 2)"
 
-abbrev lent_provisions : AllPairs IsNotAfter (map (entry_name provides) provided)
-    → All (IsFaultless provides) provided → Provisions
-lent_provisions ascend faultless =
+ascend : AllPairs IsNotAfter (map (entry_name provides) provided)
+ascend zero zero d before within = absurd (omega (arith, before))
+ascend zero (suc zero) d before within = refl
+ascend zero (suc (suc j)) d before within = absurd (omega (arith, within))
+ascend (suc i) j d before within = absurd (omega (arith, before, within))
+
+faultless : All (IsFaultless provides) provided
+unfolding first_fault
+faultless zero d within = tt
+faultless (suc zero) d within = refl
+faultless (suc (suc k)) d within = absurd (omega (arith, within))
+
+-- aa for all with Multi-Arch `foreign`, which provides vv, and ww in a version; its version is
+-- spelled canonically, or by another text
+abbrev package_by : (besides : List ℕ) → first_fault (spelling_or (codes "1.0") besides) ≡ None
+    → version_text (version_in (spelling_or (codes "1.0") besides)) ≡ codes "1.0" → Package
+unfolding first_fault
+package_by besides is_version equal =
     record {
-      text = lent provides;
-      entries = lent provided;
-      ascend = ascend;
-      faultless = faultless;
+      name = lent (codes "aa");
+      version = lent (codes "1.0");
+      besides = lent besides;
+      architecture = lent (codes "all");
+      line = 7;
+      multi_arch = Some Foreign;
+      provisions = record {
+        text = lent provides;
+        entries = lent provided;
+        ascend = ascend;
+        faultless = faultless;
+      };
+      faultless = refl;
+      canonical = refl;
+      is_version = is_version;
+      equal = equal;
     }
+
+abbrev a_package : Package
+unfolding package_by first_fault
+a_package = package_by [] refl refl
+
+abbrev spelled_package : Package
+unfolding package_by first_fault
+spelled_package = package_by (codes "01.0") refl refl
 
 abbrev foreign : List Provision → Listed
 foreign provisions =
@@ -182,24 +171,11 @@ abbrev two : List Provision
 two = record { name = codes "vv"; version = None }
     ∷ record { name = codes "ww"; version = Some (version_in (codes "2")) } ∷ []
 
-worked-package : (ascend : AllPairs IsNotAfter (map (entry_name provides) provided))
-    (faultless : All (IsFaultless provides) provided) (own : first_fault (codes "1.0") ≡ None)
-    (canonical : version_text (version_in (codes "1.0")) ≡ codes "1.0")
-    → (listed_of (listed (lent_provisions ascend faultless) [] own canonical own canonical)
-    ≡ foreign two)
-    × (line_of (listed (lent_provisions ascend faultless) [] own canonical own canonical) ≡ 7)
-    × (spelling_of (listed (lent_provisions ascend faultless) [] own canonical own canonical)
-    ≡ codes "1.0")
-worked-package ascend faultless own canonical = (refl, refl, refl)
-
--- where another text spells its version
-worked-spelling : (provisions : Provisions) (own : first_fault (codes "1.0") ≡ None)
-    (canonical : version_text (version_in (codes "1.0")) ≡ codes "1.0")
-    (is_version : first_fault (codes "01.0") ≡ None)
-    (equal : version_text (version_in (codes "01.0")) ≡ codes "1.0")
-    → spelling_of (listed provisions (codes "01.0") own canonical is_version equal)
-    ≡ codes "01.0"
-worked-spelling provisions own canonical is_version equal = refl
+worked-package : (listed_of a_package ≡ foreign two) × (line_of a_package ≡ 7)
+    × (map spelling_of (a_package ∷ spelled_package ∷ []) ≡ codes "1.0" ∷ codes "01.0" ∷ [])
+    × (found_of (record { number = 2; «package» = a_package }) ≡ (2, foreign two))
+unfolding a_package spelled_package package_by
+worked-package = (refl, refl, refl, refl)
 
 -- the same package after another one in a store
 abbrev second : Record
@@ -242,31 +218,14 @@ worked-other :
     × (spelling_by (codes "xxaa1.00:1.0allvv, ww (= 2)yy") other ≡ codes "0:1.0")
 worked-other = (refl, refl)
 
-worked-packages : (index : Index) (p q : Record) → index.store.records.items ≡ p ∷ q ∷ p ∷ []
-    → packages_of index
-    ≡ listed_by index.store.bytes.items index.store.entries.items p
-    ∷ listed_by index.store.bytes.items index.store.entries.items q
-    ∷ listed_by index.store.bytes.items index.store.entries.items p ∷ []
-worked-packages index p q are =
-    ap (map (listed_by index.store.bytes.items index.store.entries.items)) are
-
-worked-line_numbers : (index : Index) (p q : Record) → index.store.records.items ≡ p ∷ q ∷ []
-    → lines_of index ≡ p.line ∷ q.line ∷ []
-worked-line_numbers index p q are = ap (map line_by) are
-
-worked-spellings : (index : Index) (p q : Record) → index.store.records.items ≡ p ∷ q ∷ []
-    → spellings_of index
-    ≡ spelling_by index.store.bytes.items p ∷ spelling_by index.store.bytes.items q ∷ []
-worked-spellings index p q are = ap (map (spelling_by index.store.bytes.items)) are
-
 -- aa under 1 and 3, and vv under 2: names that are there, a prefix of one, and another one
-worked-numbers : (alloc : Global) (names : Names)
+worked-numbers : (names : Names)
     → names.last.entries
-    ≡ (text alloc (codes "aa") refl, 3) ∷ (text alloc (codes "vv") refl, 2) ∷ []
-    → names.lists.entries ≡ (text alloc (codes "aa") refl, vector alloc (1 ∷ 3 ∷ []) refl) ∷ []
+    ≡ (vector (codes "aa") refl, 3) ∷ (vector (codes "vv") refl, 2) ∷ []
+    → names.lists.entries ≡ (vector (codes "aa") refl, vector (1 ∷ 3 ∷ []) refl) ∷ []
     → map (numbers_under names) (codes "aa" ∷ codes "vv" ∷ codes "a" ∷ codes "ww" ∷ [])
     ≡ (1 ∷ 3 ∷ []) ∷ (2 ∷ []) ∷ [] ∷ [] ∷ []
-worked-numbers alloc names last lists =
+worked-numbers names last lists =
     ap (λ entries. map
     (λ name. numbers_with (list_under names.lists name)
     (lookup (λ k. bytes_eq name k.items) entries))
@@ -275,61 +234,126 @@ worked-numbers alloc names last lists =
     (λ name. numbers_with
     (option_map (λ v. v.items) (lookup (λ k. bytes_eq name k.items) entries))
     (lookup (λ k. bytes_eq name k.items)
-    ((text alloc (codes "aa") refl, 3) ∷ (text alloc (codes "vv") refl, 2) ∷ [])))
+    ((vector (codes "aa") refl, 3) ∷ (vector (codes "vv") refl, 2) ∷ [])))
     (codes "aa" ∷ codes "vv" ∷ codes "a" ∷ codes "ww" ∷ [])) lists
 
--- the packages p and q of an index, with their numbers there
-abbrev found : ℕ → Package → Found
-found number p = record { number = number; «package» = p }
+-- ---- of an index with these packages
 
-worked-found : (p : Package) → found_of (found 2 p) ≡ (2, listed_of p)
-worked-found p = refl
+abbrev aa : Listed
+aa = record {
+  name = codes "aa";
+  version = version_in (codes "1");
+  architecture = codes "all";
+  multi_arch = None;
+  provisions = record { name = codes "vv"; version = Some (version_in (codes "3")) }
+      ∷ record { name = codes "ww"; version = None } ∷ [];
+}
 
--- what is kept of two answers: the packages 1 and 3 meet the first group, and the second is ignored
-abbrev store : Global → AnswerStore
-store alloc =
-    record {
-      texts = text alloc (codes "aa | bbcc [i386]") refl;
-      numbers = vector alloc (1 ∷ 3 ∷ []) refl;
-      spans = vector alloc
-          (span_of (codes "aa | bb") Met (1 ∷ 3 ∷ [])
-          ∷ span_of (codes "cc [i386]") Ignored [] ∷ [])
-          refl;
-    }
+abbrev bb : Listed
+bb = record {
+  name = codes "bb";
+  version = version_in (codes "2");
+  architecture = codes "i386";
+  multi_arch = None;
+  provisions = record { name = codes "vv"; version = Some (version_in (codes "4")) } ∷ [];
+}
 
-worked-store : (alloc : Global) (p q r : Listed) → answers_in (p ∷ q ∷ r ∷ []) (store alloc)
-    ≡ record { text = codes "aa | bb"; verdict = Met; packages = (1, p) ∷ (3, r) ∷ [] }
+worked-packages : (index : Index) → index.store ≡ two_packages → packages_of index ≡ aa ∷ bb ∷ []
+worked-packages index = ap listed_in
+
+worked-line_numbers : (index : Index) → index.store ≡ two_packages → lines_of index ≡ 1 ∷ 7 ∷ []
+worked-line_numbers index = ap lines_in
+
+worked-spellings : (index : Index) → index.store ≡ two_packages
+    → spellings_of index ≡ codes "1" ∷ codes "2" ∷ []
+worked-spellings index = ap spellings_in
+
+worked-number_in : (index : Index) → index.store ≡ two_packages
+    → map (number_in index) (0 ∷ 1 ∷ 4 ∷ []) ≡ 1 ∷ 2 ∷ 2 ∷ []
+worked-number_in index = ap (λ store. map (number_of store) (0 ∷ 1 ∷ 4 ∷ []))
+
+-- the canonical version of a package, and that of a number as the file spells it
+worked-versions : (index : Index) → index.store ≡ two_packages
+    → map (λ chosen. shown_by (record { index = lent index; chosen = chosen }) (1, bb))
+    (Canonical ∷ Spelled ∷ [])
+    ≡ codes "2" ∷ codes "1" ∷ []
+worked-versions index =
+    ap (λ store. map (λ chosen. version_shown chosen (spellings_in store) (1, bb))
+    (Canonical ∷ Spelled ∷ []))
+
+-- what is kept of three answers: none meets the first group, both meet the second, and the third is
+-- ignored
+abbrev three_spans : List AnswerSpan
+three_spans = span_of (codes "dd") Unmet [] ∷ span_of (codes "aa | bb") Met (1 ∷ 2 ∷ [])
+    ∷ span_of (codes "cc [i386]") Ignored [] ∷ []
+
+abbrev store : AnswerStore
+store = record {
+  texts = vector (codes "ddaa | bbcc [i386]") refl;
+  numbers = vector (1 ∷ 2 ∷ []) refl;
+  spans = vector three_spans refl;
+}
+
+abbrev three_answers : List Answer
+three_answers = record { text = codes "dd"; verdict = Unmet; packages = [] }
+    ∷ record { text = codes "aa | bb"; verdict = Met; packages = (1, aa) ∷ (2, bb) ∷ [] }
     ∷ record { text = codes "cc [i386]"; verdict = Ignored; packages = [] } ∷ []
-worked-store alloc p q r = refl
 
--- the answers of a report, all of them and those that are left, and the packages of one
-worked-report : (index : Index) (alloc : Global)
-    (listed : AreNumbers (packages_of index) (1 ∷ 3 ∷ []))
-    → report_of (record { index = lent index; answers = store alloc; listed = listed })
-    ≡ answers_in (packages_of index) (store alloc)
-worked-report index alloc listed = refl
+worked-store : answers_in (aa ∷ bb ∷ []) store ≡ three_answers
+worked-store = refl
 
-worked-left : (index : Index) (alloc : Global)
-    (listed : AreNumbers (packages_of index) (1 ∷ 3 ∷ []))
-    → answers_left (record {
-      index = lent index;
-      texts = lent (store alloc).texts.items;
-      numbers = lent (1 ∷ 3 ∷ []);
-      spans = lent (store alloc).spans.items;
-      listed = listed;
-    }) ≡ answers_in (packages_of index) (store alloc)
-worked-left index alloc listed = refl
+-- the answers of a report with their lines, all of them and those that are left
+worked-report : (index : Index) (listed : AreNumbers (packages_of index) (1 ∷ 2 ∷ []))
+    → index.store ≡ two_packages
+    → details_of (record {
+      report = record { index = lent index; answers = store; listed = listed };
+      reasons = vector (codes "xxy") refl;
+      lens = vector (2 ∷ 1 ∷ 0 ∷ []) refl;
+    }) ≡ details_cut three_answers (codes "xxy") (2 ∷ 1 ∷ 0 ∷ [])
+worked-report index listed =
+    ap (λ kept. details_cut (answers_in (listed_in kept) store) (codes "xxy") (2 ∷ 1 ∷ 0 ∷ []))
 
-abbrev two_found : (index : Index) → AreNumbers (packages_of index) (1 ∷ 3 ∷ []) → FoundPackages
-two_found index listed =
-    record { index = lent index; numbers = lent (1 ∷ 3 ∷ []); listed = listed }
+worked-left : (index : Index) (listed : AreNumbers (packages_of index) (1 ∷ 2 ∷ []))
+    → index.store ≡ two_packages
+    → details_left (record {
+      answers = record {
+        index = lent index;
+        texts = lent (codes "ddaa | bbcc [i386]");
+        numbers = lent (1 ∷ 2 ∷ []);
+        spans = lent three_spans;
+        listed = listed;
+      };
+      reasons = lent (codes "xxy");
+      lens = lent (2 ∷ 1 ∷ 0 ∷ []);
+    }) ≡ details_cut three_answers (codes "xxy") (2 ∷ 1 ∷ 0 ∷ [])
+worked-left index listed =
+    ap (λ kept. details_cut (answers_in (listed_in kept) store) (codes "xxy") (2 ∷ 1 ∷ 0 ∷ []))
 
-worked-answer : (index : Index) (listed : AreNumbers (packages_of index) (1 ∷ 3 ∷ []))
-    → answer_of
-    (record { text = lent (codes "aa | bb"); verdict = Met; packages = two_found index listed })
-    ≡ record {
-      text = codes "aa | bb";
-      verdict = Met;
-      packages = numbered (packages_of index) (1 ∷ 3 ∷ []);
+-- an answer with its lines, and its packages
+worked-answer : (index : Index) (listed : AreNumbers (packages_of index) (2 ∷ []))
+    → index.store ≡ two_packages
+    → detailed_of (record {
+      answer = record {
+        text = lent (codes "bb");
+        verdict = Met;
+        packages = record { index = lent index; numbers = lent (2 ∷ []); listed = listed };
+      };
+      reasons = lent (codes "x");
+    }) ≡ record {
+      answer = record { text = codes "bb"; verdict = Met; packages = (2, bb) ∷ [] };
+      reasons = codes "x";
     }
-worked-answer index listed = refl
+worked-answer index listed = ap (λ kept. record {
+  answer =
+      record { text = codes "bb"; verdict = Met; packages = numbered (listed_in kept) (2 ∷ []) };
+  reasons = codes "x";
+})
+
+worked-reported : (index : Index) (listed : AreNumbers (packages_of index) (1 ∷ 2 ∷ []))
+    → index.store ≡ two_packages
+    → spellings_detailed (record {
+      report = record { index = lent index; answers = store; listed = listed };
+      reasons = vector [] refl;
+      lens = vector [] refl;
+    }) ≡ codes "1" ∷ codes "2" ∷ []
+worked-reported index listed = ap spellings_in
