@@ -8,6 +8,7 @@ use Rattle.deb_base.specs.FieldNames.{colon, is_name}
 use Rattle.deb_syntax.specs.Meaning.{Entries, byte_order}
 use Rattle.deb_control.specs.Canonical.{behind_colon, paragraph_text}
 use Rattle.deb_diff.specs.declared.cut.First.{First}
+use Rattle.deb_base.specs.Literals.{lent}
 
 -- the bytes until a newline after which there is no space or tab
 abbrev pub field_len : List ℕ → ℕ
@@ -60,3 +61,8 @@ worked-rest_of : (rest_of (codes "A", codes "b") ≡ (codes "A", codes ": b\n"))
     × (rest_of (codes "A", codes "\n b") ≡ (codes "A", codes ":\n b\n"))
     × (rest_of (codes "A", []) ≡ (codes "A", codes ":\n"))
 worked-rest_of = (refl, refl, refl)
+
+worked-texts : texts_in
+    ((lent (codes "A"), lent (codes ": 1\n")) ∷ (lent (codes "B"), lent []) ∷ [])
+    ≡ (codes "A", codes ": 1\n") ∷ (codes "B", []) ∷ []
+worked-texts = refl

@@ -1,5 +1,5 @@
 -- Paragraphs that are kept. Debian Policy 5.1.
-use Rattle.std.specs.Prelude.{◌≡◌, ℕ, ◌==◌, cond, List, [], ◌∷◌, length, take, drop, codes, refl}
+use Rattle.std.specs.Prelude.{◌≡◌, ℕ, ◌==◌, cond, List, [], ◌∷◌, length, take, drop, codes, refl, map}
 use Rattle.std.specs.Str.{bytes_eq}
 use Rattle.deb_base.specs.declared.version_text.VersionText.{VersionText}
 use Rattle.deb_base.specs.declared.version_text.VersionText.TheVariants.{Canonical, Spelled}
@@ -12,6 +12,9 @@ use Rattle.deb_control.specs.declared.checked_text.CheckedText.{CheckedText}
 use Rattle.deb_field.specs.Values.{ValueMeaning}
 use Rattle.deb_diff.specs.Items.{Item, whole}
 use Rattle.deb_diff.specs.declared.kept.Kept.{Kept}
+use Rattle.deb_base.specs.Literals.{vector}
+use Rattle.std.proofs.Common.{ap}
+use Rattle.deb_syntax.specs.Paragraphs.{seen_of}
 
 -- These are the values of a paragraph that passes.
 abbrev pub HasValues : CheckedText → ValueEntries ValueMeaning → Type 0
@@ -66,28 +69,33 @@ pub record IsKept (kept : Kept) (item : Item) : Type 0 where
 abbrev pub AreKept : List Kept → List Item → Type 0
 AreKept kept items = Pairwise IsKept kept items
 
--- the package aa of version 1 for all architectures, spelled so, and spelled 01-0
-worked-words : (kept : Kept) → kept.name_len ≡ 2 → kept.version_len ≡ 1 → kept.spelled_len ≡ 0
-    → kept.words.items ≡ codes "aa1all"
-    → (name_in kept ≡ codes "aa") × (printed_in Canonical kept ≡ codes "1")
-    × (printed_in Spelled kept ≡ codes "1") × (architecture_in kept ≡ codes "all")
-worked-words kept name_len version_len spelled_len words =
-    rw (name_len, version_len, spelled_len, words) (refl, refl, refl, refl)
-
-worked-spelled : (kept : Kept) → kept.name_len ≡ 2 → kept.version_len ≡ 1 → kept.spelled_len ≡ 5
-    → kept.words.items ≡ codes "aa1 01-0all"
-    → (name_in kept ≡ codes "aa") × (printed_in Canonical kept ≡ codes "1")
-    × (printed_in Spelled kept ≡ codes "01-0") × (architecture_in kept ≡ codes "all")
-worked-spelled kept name_len version_len spelled_len words =
-    rw (name_len, version_len, spelled_len, words) (refl, refl, refl, refl)
-
 worked-marked : (marked (codes "1") (codes "1") ≡ [])
     × (marked (codes "1") (codes "01") ≡ codes " 01")
     × (unmarked (codes "1") [] ≡ codes "1") × (unmarked (codes "1") (codes " 01") ≡ codes "01")
 worked-marked = (refl, refl, refl, refl)
 
--- the text of the version by the choice, and the fields of the paragraph
-worked-printed : (kept : Kept) (paragraph : CheckedText)
-    → (printed_in Canonical kept ≡ version_in kept) × (printed_in Spelled kept ≡ spelling_in kept)
-    × (fields_in paragraph ≡ (passing_of paragraph).seen.fields)
-worked-printed kept paragraph = (refl, refl, refl)
+-- the package aa of version 1 for all architectures, spelled so, and spelled 01-0
+abbrev pub aa_1 : Kept
+aa_1 = record {
+  number = 3;
+  name_len = 2;
+  spelled_len = 0;
+  version_len = 1;
+  words = vector (codes "aa1all") refl;
+  text = vector (codes "A: 1\n") refl;
+}
+
+abbrev pub aa_01 : Kept
+aa_01 = record aa_1 { number = 4; spelled_len = 5; words = vector (codes "aa1 01-0all") refl }
+
+worked-words : (map name_in (aa_1 ∷ aa_01 ∷ []) ≡ codes "aa" ∷ codes "aa" ∷ [])
+    × (map (printed_in Canonical) (aa_1 ∷ aa_01 ∷ []) ≡ codes "1" ∷ codes "1" ∷ [])
+    × (map (printed_in Spelled) (aa_1 ∷ aa_01 ∷ []) ≡ codes "1" ∷ codes "01-0" ∷ [])
+    × (map architecture_in (aa_1 ∷ aa_01 ∷ []) ≡ codes "all" ∷ codes "all" ∷ [])
+worked-words = (refl, refl, refl, refl)
+
+-- the fields of a paragraph of these
+worked-fields : (paragraph : CheckedText) → seen_of paragraph.view.raw
+    ≡ record { first = 5; fields = record { name = codes "A"; line = 5; body = codes "1" } ∷ [] }
+    → fields_in paragraph ≡ record { name = codes "A"; line = 5; body = codes "1" } ∷ []
+worked-fields paragraph = ap (λ seen. seen.fields)

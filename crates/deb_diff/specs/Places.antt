@@ -1,5 +1,5 @@
 -- Ranks of paragraphs that are kept.
-use Rattle.std.specs.Prelude.{◌≡◌, ℕ, Bool, true, false, List, [], ◌++◌, map, None, codes, refl}
+use Rattle.std.specs.Prelude.{◌≡◌, ℕ, Bool, true, false, List, [], ◌++◌, map, None, codes, refl, ◌∷◌}
 use Rattle.std.specs.Borrow.{Bor}
 use Rattle.std.specs.Fmt.{decimal, digits}
 use Rattle.std.specs.Option.{option_map}
@@ -8,10 +8,11 @@ use Rattle.std.specs.declared.cmp.Ordering.{Ordering}
 use Rattle.std.specs.declared.cmp.Ordering.TheVariants.{Less, Equal, Greater}
 use Rattle.deb_version.specs.Faults.{first_fault}
 use Rattle.deb_version.specs.Version.{meaning_of}
-use Rattle.deb_diff.specs.Kepts.{architecture_in, name_in, version_in}
+use Rattle.deb_diff.specs.Kepts.{architecture_in, name_in, version_in, aa_1, aa_01}
 use Rattle.deb_diff.specs.Ranks.{Placing, latest_first, rank, series_cmp, version_of}
 use Rattle.deb_diff.specs.declared.kept.Kept.{Kept}
 use Rattle.deb_diff.specs.declared.ranks.Ranked.{Ranked}
+use Rattle.deb_base.specs.Literals.{vector}
 
 abbrev pub placing_in : Kept → Placing
 placing_in kept =
@@ -87,9 +88,15 @@ worked-comes_first :
     × (comes_first (ranked (codes "x") (codes "a") 1) (ranked (codes "x") (codes "a") 1) ≡ false)
 worked-comes_first = (refl, refl, refl, refl)
 
--- of a paragraph alone
-worked-place : (kept : Kept)
-    → (place_in [] kept
-    ≡ name_in kept ++ codes " " ++ architecture_in kept ++ codes " " ++ codes "0")
-unfolding digits
-worked-place kept = refl
+-- of a paragraph alone, and after one of a later version
+abbrev aa_2 : Kept
+aa_2 = record aa_1 { number = 5; words = vector (codes "aa2all") refl }
+
+worked-place : (placing_in aa_01 ≡ record {
+  name = codes "aa";
+  architecture = codes "all";
+  version = version_of (codes "1");
+  number = 4;
+}) × (place_in [] aa_1 ≡ codes "aa all 0") × (place_in (aa_01 ∷ aa_2 ∷ []) aa_1 ≡ codes "aa all 1")
+unfolding digits first_fault
+worked-place = (refl, refl, refl)
