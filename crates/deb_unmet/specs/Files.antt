@@ -113,7 +113,7 @@ pub record WritesSome (asks : Asks) (text : List ℕ) (old new : Option (List �
 
 -- For amd64 and no packages: two source packages, of which the second has unmet groups and spells
 -- its version otherwise than the canonical text does.
-abbrev asks : VersionText → Asks
+abbrev pub asks : VersionText → Asks
 asks versions = record {
   asked = Sources;
   versions = versions;
@@ -121,12 +121,12 @@ asks versions = record {
   packages = [];
 }
 
-abbrev without : ValueEntries ValueMeaning
+abbrev pub without : ValueEntries ValueMeaning
 without =
     (codes "Package", NameMeans (codes "xx"))
     ∷ (codes "Version", VersionMeans (version_in (codes "1"))) ∷ []
 
-abbrev with_two : ValueEntries ValueMeaning
+abbrev pub with_two : ValueEntries ValueMeaning
 with_two = (
   codes "Build-Depends",
   RelationMeans ((alone (codes "aa") ∷ []) ∷ (alone (codes "bb") ∷ []) ∷ []),

@@ -1,7 +1,6 @@
 -- What is kept of the paragraphs of an index until all of them are read. Debian Policy 5.3, 5.6 and
 -- 7.2; which texts are kept, and how, is this project's own.
 use Rattle.std.specs.Prelude.{◌≡◌, ℕ, List, [], ◌∷◌, take, drop, codes, refl}
-use Rattle.std.specs.Borrow.{Bor}
 use Rattle.deb_base.specs.declared.doc.Doc.TheVariants.{Packages}
 use Rattle.deb_relation.specs.Regular.{IsRegularRelation}
 use Rattle.deb_relation.specs.Texts.{group_text, relation_text}
@@ -19,6 +18,7 @@ use Rattle.deb_unmet.specs.declared.kept.KeptParagraph.{KeptParagraph}
 use Rattle.deb_unmet.specs.declared.kept.KeptParagraphs.{KeptParagraphs}
 use Rattle.deb_unmet.specs.declared.kept.KeptTexts.{KeptTexts}
 use Rattle.deb_unmet.specs.declared.kept.TextLens.{TextLens}
+use Rattle.deb_base.specs.Literals.{lent, vector}
 
 -- the canonical text of the relation in a field
 abbrev pub relation_under : List ℕ → ValueEntries ValueMeaning → List ℕ
@@ -105,22 +105,20 @@ worked-cut : (cut_texts (lens_in lens) (codes "xx1.01.0-0allaa, bbcc") ≡ texts
     × (cut_texts (2 ∷ 3 ∷ []) (codes "xx1") ≡ codes "xx" ∷ codes "1" ∷ [] ∷ [])
 worked-cut = (refl, refl)
 
-abbrev to : List ℕ → Bor (List ℕ)
-to text = record { ref_ptr = (0, 0); now = text }
-
 worked-in : texts_in
     (record {
-      name = to (codes "xx");
-      version = to (codes "1.0");
-      spelled = to (codes "1.0-0");
-      architecture = to (codes "all");
-      pre_depends = to [];
-      depends = to (codes "aa, bb");
-      recommends = to (codes "cc");
+      name = lent (codes "xx");
+      version = lent (codes "1.0");
+      spelled = lent (codes "1.0-0");
+      architecture = lent (codes "all");
+      pre_depends = lent [];
+      depends = lent (codes "aa, bb");
+      recommends = lent (codes "cc");
     }) ≡ texts
 worked-in = refl
 
 -- those of a paragraph are its bytes, cut
-worked-kept : (kept : KeptParagraph)
-    → texts_kept kept ≡ cut_texts (lens_in kept.lens) kept.bytes.items
-worked-kept kept = refl
+worked-kept : texts_kept
+    (record { bytes = vector (codes "xx1.01.0-0allaa, bbcc") refl; lens = lens })
+    ≡ texts
+worked-kept = refl

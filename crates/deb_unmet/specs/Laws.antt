@@ -12,8 +12,6 @@ use Rattle.deb_version.specs.Canonical.{version_text}
 use Rattle.deb_version.specs.Faults.{first_fault}
 use Rattle.deb_version.specs.Places.{version_in}
 use Rattle.deb_control.specs.Documents.{Meaning, Accepted, canonical_text}
-use Rattle.deb_control.specs.ValueFiles.{ValueEntries}
-use Rattle.deb_field.specs.Values.{ValueMeaning}
 use Rattle.deb_index.specs.Alternatives.{alone, with_list}
 use Rattle.deb_index.specs.Listed.{Listed}
 use Rattle.deb_index.specs.Listing.{ListsAll}
@@ -23,7 +21,7 @@ use Rattle.deb_index.specs.declared.verdict.Verdict.TheVariants.{Ignored, Met, U
 use Rattle.deb_unmet.specs.Asked.{doc_of, request_for}
 use Rattle.deb_unmet.specs.Asking.{asks_of}
 use Rattle.deb_unmet.specs.Fields.{paragraph_lines}
-use Rattle.deb_unmet.specs.Files.{Asks, file_lines}
+use Rattle.deb_unmet.specs.Files.{Asks, file_lines, asks, without, with_two}
 use Rattle.deb_unmet.specs.GroupReadings.{EachReading, IsMeaning, SomeReading, verdict_in}
 use Rattle.deb_unmet.specs.Readings.{applies_by}
 use Rattle.deb_unmet.specs.Troubles.{can_be_otherwise, can_be_unmet, trouble}
@@ -32,6 +30,8 @@ use Rattle.deb_unmet.specs.declared.applying.Applies.TheVariants.{Surely, Maybe,
 use Rattle.deb_unmet.specs.declared.asked.Asked.{Asked}
 use Rattle.deb_unmet.specs.declared.trouble.Trouble.{Trouble}
 use Rattle.deb_unmet.specs.declared.trouble.Trouble.TheVariants as troubles
+use Rattle.deb_relation.specs.Texts.{group_text}
+use Rattle.std.specs.Fmt.{digits}
 
 -- With canonical versions, the lines don't change if the index, the file or both are replaced by
 -- their canonical text.
@@ -173,8 +173,9 @@ worked-verdicts : map unmet_alone (Ignored ∷ Met ∷ Unmet ∷ [])
 worked-verdicts = refl
 
 -- no text, and one for the first of two paragraphs
-worked-lines_with : (asks : Asks) (values other : ValueEntries ValueMeaning)
-    → (lines_with asks 0 [] (values ∷ []) ≡ [])
-    × (lines_with asks 0 (codes "01" ∷ []) (values ∷ other ∷ [])
-    ≡ paragraph_lines asks.asked asks.environment asks.packages 1 (codes "01") values ++ [])
-worked-lines_with asks values other = (refl, refl)
+worked-lines_with : (lines_with (asks Canonical) 1 [] (with_two ∷ []) ≡ [])
+    × (lines_with (asks Canonical) 0 (codes "1" ∷ codes "02-0" ∷ [])
+    (without ∷ with_two ∷ with_two ∷ [])
+    ≡ codes "unmet 2 yy 02-0 source Build-Depends aa\nunmet 2 yy 02-0 source Build-Depends bb\n")
+unfolding group_text digits
+worked-lines_with = (refl, refl)

@@ -20,6 +20,8 @@ use Rattle.deb_unmet.specs.declared.asked.Asked.{Asked}
 use Rattle.deb_unmet.specs.declared.asked.Asked.TheVariants.{Source}
 use Rattle.deb_unmet.specs.declared.line_texts.LineTexts.{LineTexts}
 use Rattle.deb_unmet.specs.declared.paragraph.Paragraph.{Paragraph}
+use Rattle.deb_syntax.specs.Paragraphs.{seen_of}
+use Rattle.std.proofs.Common.{ap}
 
 -- its fields as they are in the file
 abbrev pub fields_in : CheckedView → List Field
@@ -51,9 +53,10 @@ heading_in p =
     ∷ p.texts.now.version.now ∷ codes " " ∷ p.texts.now.architecture.now ∷ codes " " ∷ [])
 
 -- those of the paragraph that passes
-worked-fields : (paragraph : CheckedView)
-    → fields_in paragraph ≡ (passing_judged paragraph).seen.fields
-worked-fields paragraph = refl
+worked-fields : (paragraph : CheckedView) → seen_of paragraph.raw
+    ≡ record { first = 5; fields = record { name = codes "A"; line = 5; body = codes "1" } ∷ [] }
+    → fields_in paragraph ≡ record { name = codes "A"; line = 5; body = codes "1" } ∷ []
+worked-fields paragraph = ap (λ seen. seen.fields)
 
 abbrev two : ValueEntries ValueMeaning
 two =

@@ -92,16 +92,15 @@ worked-hyphen : map (λ name. named_applies false (name ∷ []) (codes "kfreebsd
 worked-hyphen = refl
 
 -- where the formula doesn't apply, the list isn't asked
-worked-formula : (names : Option (Bool × List (List ℕ)))
-    → for_amd64
+worked-formula : for_amd64
     (record {
       name = codes "aa";
       qualifier = None;
       bound = None;
-      architectures = names;
+      architectures = Some (false, codes "amd64" ∷ []);
       formula = ((false, codes "nodoc") ∷ []) ∷ [];
     }) ≡ Never
-worked-formula names = refl
+worked-formula = refl
 
 worked-readings : (map surely (Surely ∷ Maybe ∷ Never ∷ []) ≡ true ∷ false ∷ false ∷ [])
     × (map may (Surely ∷ Maybe ∷ Never ∷ []) ≡ true ∷ true ∷ false ∷ [])
