@@ -1,186 +1,117 @@
 -- Worked cases of tasks and of mistakes: the request that each task is, with the bytes of its
 -- words, whatever these are; and what each kind of `clap`'s error is.
-use Rattle.std.specs.Prelude.{◌≡◌, ℕ, [], ◌∷◌, map, Option, Some, None, Ok, Err, true, false, String, Vec, codes, string_bytes, refl}
+use Rattle.std.specs.Prelude.{◌≡◌, ℕ, [], ◌∷◌, map, Option, Some, None, true, false, String, codes, refl, List}
 use Rattle.std.specs.declared.alloc.Global.{Global}
-use Rattle.std.proofs.Common.{ap}
 use Rattle.clap.specs.declared.error.kind.ErrorKind.TheVariants as kind
-use Rattle.clap.specs.Walk.{Text}
 use Rattle.deb_base.specs.declared.code.Code.TheVariants as code
-use Rattle.deb_base.specs.declared.doc.Doc.{Doc}
-use Rattle.deb_base.specs.declared.version_text.VersionText.{VersionText}
-use Rattle.debctl_args.specs.Asked.{asks, asks_help, audited_of, audits, canonicalises, checks, checks_all, checks_whole, compares, explain_takes_one, explains, explains_all, explains_relation, explains_version, finds_changes, finds_unmet, first_or_whole, has_mistake, has_request, is_request_kind, keys, kind_of_path, listed, no_names, no_number, no_recommends, no_relations, normalises, paths, paths_or_list, queries, queries_from, relation_or_file, request_of, sorts, standard_input_twice, explains_rule, compares_files, unknown_code, unknown_command, unknown_kind, unknown_operator, wanted_of, IsHelp, IsUsage, MeansKind, MeansLeast, Request, FitsKind, UsesText}
-use Rattle.debctl_args.specs.declared.jobs.Cmp.{Cmp}
+use Rattle.debctl_args.specs.Asked.{audits, canonicalises, checks, checks_all, checks_whole, compares, explain_takes_one, explains, explains_all, explains_relation, explains_version, finds_changes, finds_unmet, first_or_whole, has_mistake, has_request, is_request_kind, keys, kind_of_path, listed, no_names, no_number, no_recommends, no_relations, normalises, paths, paths_or_list, queries, queries_from, relation_or_file, request_of, sorts, standard_input_twice, explains_rule, compares_files, unknown_code, unknown_command, unknown_kind, unknown_operator, wanted_of, IsUsage, Request, FitsKind, Wanted}
 use Rattle.debctl_args.specs.declared.jobs.Demands.{Demands}
-use Rattle.debctl_args.specs.declared.jobs.Dependents.{Dependents}
-use Rattle.debctl_args.specs.declared.jobs.Detail.{Detail}
-use Rattle.debctl_args.specs.declared.jobs.DiffDetail.{DiffDetail}
-use Rattle.debctl_args.specs.declared.jobs.DiffKind.{DiffKind}
 use Rattle.debctl_args.specs.declared.jobs.Explain.TheVariants as explain
-use Rattle.debctl_args.specs.declared.jobs.Extent.{Extent}
 use Rattle.debctl_args.specs.declared.jobs.Files.{Files}
 use Rattle.debctl_args.specs.declared.jobs.Files.TheVariants as files
-use Rattle.debctl_args.specs.declared.jobs.Job.{Job}
 use Rattle.debctl_args.specs.declared.jobs.Job.TheVariants as job
-use Rattle.debctl_args.specs.declared.jobs.LineEnd.{LineEnd}
 use Rattle.debctl_args.specs.declared.jobs.Task.{Task}
 use Rattle.debctl_args.specs.declared.jobs.Task.TheVariants as task
-use Rattle.debctl_args.specs.declared.arguments.UsageFault.TheVariants.{Usage, Help, Memory}
+use Rattle.debctl_args.specs.declared.arguments.UsageFault.TheVariants.{Usage, Help}
+use Rattle.debctl_args.specs.declared.jobs.DiffKind.TheVariants as diff_kinds
+use Rattle.debctl_args.specs.declared.jobs.DiffDetail.TheVariants as diff_details
+use Rattle.debctl_args.specs.declared.jobs.Cmp.TheVariants as cmps
+use Rattle.debctl_args.specs.declared.jobs.Dependents.TheVariants as dependents
+use Rattle.debctl_args.specs.declared.jobs.Extent.TheVariants as extents
+use Rattle.debctl_args.specs.declared.jobs.LineEnd.TheVariants as line_ends
+use Rattle.debctl_args.specs.declared.jobs.Detail.TheVariants.{Reasons, Verdicts}
+use Rattle.deb_base.specs.declared.version_text.VersionText.TheVariants.{Canonical, Spelled}
+use Rattle.deb_base.specs.declared.doc.Doc.TheVariants as docs
+use Rattle.deb_base.specs.Literals.{string, vector}
+use Rattle.std.specs.Str.{is_utf8, chars}
+use lib.Utf8.{encode}
+
+abbrev one : String Global
+unfolding is_utf8 chars encode
+one = string (codes "amd64") refl refl
+
+abbrev other : String Global
+unfolding is_utf8 chars encode
+other = string (codes "b-") refl refl
+
+abbrev demands : Demands
+demands = record { complete = true; least = 3 }
 
 -- ---- jobs
 
-jobs_on_files : (doc : Doc) → (wanted_of (job.Check doc) ≡ checks doc)
-    × (wanted_of (job.CheckAll doc) ≡ checks_all doc)
-    × (wanted_of (job.Normalise doc) ≡ normalises doc)
-    × (wanted_of (job.Same doc) ≡ compares_files doc)
-jobs_on_files doc = (refl, refl, refl, refl)
+jobs_on_files : map wanted_of
+    (job.Check docs.Binary ∷ job.CheckAll docs.Packages ∷ job.CheckWhole docs.Source demands
+    ∷ job.Normalise docs.Sources ∷ job.Same docs.Any
+    ∷ job.Diff diff_kinds.Sources diff_details.Values Spelled ∷ job.Sort true ∷ [])
+    ≡ checks docs.Binary ∷ checks_all docs.Packages ∷ checks_whole docs.Source demands
+    ∷ normalises docs.Sources ∷ compares_files docs.Any
+    ∷ finds_changes diff_kinds.Sources diff_details.Values Spelled ∷ sorts true ∷ []
+jobs_on_files = refl
 
-demands_on_files : (doc : Doc) (demands : Demands)
-    → wanted_of (job.CheckWhole doc demands) ≡ checks_whole doc demands
-demands_on_files doc demands = refl
-
-changes_of_files : (kind : DiffKind) (detail : DiffDetail) (versions : VersionText)
-    → wanted_of (job.Diff kind detail versions) ≡ finds_changes kind detail versions
-changes_of_files kind detail versions = refl
-
-comparisons : (left right : String Global) (operator : Cmp)
-    → wanted_of (job.Compare left operator right)
-    ≡ compares (string_bytes left) operator (string_bytes right)
-comparisons left right operator = refl
-
-canonical_versions : (text : String Global)
-    → wanted_of (job.CanonVersion text) ≡ canonicalises (string_bytes text)
-canonical_versions text = refl
-
-orders : (wanted_of (job.Sort true) ≡ sorts true) × (wanted_of (job.Sort false) ≡ sorts false)
-orders = (refl, refl)
-
-keys_of_versions : (one other : String Global) (versions : Vec (String Global) Global)
-    → versions.items ≡ one ∷ other ∷ []
-    → wanted_of (job.VersionKey versions) ≡ keys (string_bytes one ∷ string_bytes other ∷ [])
-keys_of_versions one other versions are = ap (λ named. keys (map string_bytes named)) are
-
-queries_with_profiles : (arch relation one other : String Global) (detail : Detail)
-    (versions : VersionText) (profiles : Vec (String Global) Global)
-    → profiles.items ≡ one ∷ other ∷ []
-    → wanted_of (job.Query arch profiles relation detail versions)
-    ≡ queries (string_bytes arch) (string_bytes one ∷ string_bytes other ∷ [])
-    (string_bytes relation) detail versions
-queries_with_profiles arch relation one other detail versions profiles are =
-    ap
-    (λ named. queries (string_bytes arch) (map string_bytes named) (string_bytes relation) detail
-    versions) are
-
-queries_from_a_file : (arch one other : String Global) (detail : Detail) (versions : VersionText)
-    (profiles : Vec (String Global) Global) → profiles.items ≡ one ∷ other ∷ []
-    → wanted_of (job.QueryFrom arch profiles detail versions)
-    ≡ queries_from (string_bytes arch) (string_bytes one ∷ string_bytes other ∷ []) detail versions
-queries_from_a_file arch one other detail versions profiles are =
-    ap (λ named. queries_from (string_bytes arch) (map string_bytes named) detail versions) are
-
-groups_of_a_file : (arch one other : String Global) (dependents : Dependents)
-    (versions : VersionText) (profiles : Vec (String Global) Global)
-    → profiles.items ≡ one ∷ other ∷ []
-    → wanted_of (job.Unmet arch profiles dependents versions)
-    ≡ finds_unmet (string_bytes arch) (string_bytes one ∷ string_bytes other ∷ []) dependents
-    versions
-groups_of_a_file arch one other dependents versions profiles are =
-    ap (λ named. finds_unmet (string_bytes arch) (map string_bytes named) dependents versions) are
-
--- ---- the files of an audit
-
-paths_of_an_audit : (one other : String Global) (given : Vec (String Global) Global)
-    → given.items ≡ one ∷ other ∷ one ∷ []
-    → audited_of (files.Paths given)
-    ≡ paths (string_bytes one ∷ string_bytes other ∷ string_bytes one ∷ [])
-paths_of_an_audit one other given are = ap (λ named. paths (map string_bytes named)) are
-
-list_of_an_audit : (path : String Global) → audited_of (files.Listed path)
-    ≡ listed (string_bytes path)
-list_of_an_audit path = refl
+-- a list of words keeps its order
+jobs_on_words : map wanted_of
+    (job.Compare one cmps.Less other ∷ job.CanonVersion other
+    ∷ job.VersionKey (vector (one ∷ other ∷ []) refl)
+    ∷ job.Query one (vector (one ∷ other ∷ []) refl) other Reasons Canonical
+    ∷ job.QueryFrom other (vector (other ∷ one ∷ []) refl) Verdicts Spelled
+    ∷ job.Unmet one (vector (other ∷ []) refl) dependents.Sources Spelled ∷ [])
+    ≡ compares (codes "amd64") cmps.Less (codes "b-") ∷ canonicalises (codes "b-")
+    ∷ keys (codes "amd64" ∷ codes "b-" ∷ [])
+    ∷ queries (codes "amd64") (codes "amd64" ∷ codes "b-" ∷ []) (codes "b-") Reasons Canonical
+    ∷ queries_from (codes "b-") (codes "b-" ∷ codes "amd64" ∷ []) Verdicts Spelled
+    ∷ finds_unmet (codes "amd64") (codes "b-" ∷ []) dependents.Sources Spelled ∷ []
+unfolding one other
+jobs_on_words = refl
 
 -- ---- requests
 
--- a job, with the paths of its files
-abbrev call : Job → Option (String Global) → Option (String Global) → Task
-call wanted first second = task.Run (record { job = wanted; first = first; second = second })
-
-calls : (wanted : Job) (one other : String Global)
-    → (request_of (call wanted (Some one) (Some other)) ≡ record {
-      wanted = wanted_of wanted;
-      first = Some (string_bytes one);
-      second = Some (string_bytes other);
-    })
-    × (request_of (call wanted (Some one) None) ≡ record {
-      wanted = wanted_of wanted;
-      first = Some (string_bytes one);
-      second = None;
-    })
-    × (request_of (call wanted None None) ≡ record {
-      wanted = wanted_of wanted;
-      first = None;
-      second = None;
-    })
-calls wanted one other = (refl, refl, refl)
-
-explanations_of_files : (doc : Doc) (path : String Global)
-    → (request_of (task.Explain (explain.File doc (Some path))) ≡ record {
-      wanted = explains doc;
-      first = Some (string_bytes path);
-      second = None;
-    })
-    × (request_of (task.Explain (explain.File doc None)) ≡ record {
-      wanted = explains doc;
-      first = None;
-      second = None;
-    })
-explanations_of_files doc path = (refl, refl)
-
-explanations_of_all : (doc : Doc) (path : String Global)
-    → (request_of (task.Explain (explain.All doc (Some path))) ≡ record {
-      wanted = explains_all doc;
-      first = Some (string_bytes path);
-      second = None;
-    })
-    × (request_of (task.Explain (explain.All doc None)) ≡ record {
-      wanted = explains_all doc;
-      first = None;
-      second = None;
-    })
-explanations_of_all doc path = (refl, refl)
-
-explanations_of_texts : (text : String Global)
-    → (request_of (task.Explain (explain.Rule code.BadVersion)) ≡ record {
-      wanted = explains_rule code.BadVersion;
-      first = None;
-      second = None;
-    })
-    × (request_of (task.Explain (explain.Relation text)) ≡ record {
-      wanted = explains_relation (string_bytes text);
-      first = None;
-      second = None;
-    })
-    × (request_of (task.Explain (explain.Version text)) ≡ record {
-      wanted = explains_version (string_bytes text);
-      first = None;
-      second = None;
-    })
-explanations_of_texts text = (refl, refl, refl)
-
-audits_of_files : (doc : Doc) (given : Files) (extent : Extent) (end : LineEnd)
-    (demands : Demands)
-    → request_of (task.Audit (record {
-      doc = doc;
-      files = given;
-      extent = extent;
-      end = end;
-      demands = demands;
-    }))
+-- the paths of a job's files, both, one and none
+calls : map request_of
+    (task.Run (record { job = job.Same docs.Any; first = Some one; second = Some other })
+    ∷ task.Run (record { job = job.Check docs.Binary; first = Some other; second = None })
+    ∷ task.Run (record { job = job.Sort false; first = None; second = None }) ∷ [])
     ≡ record {
-      wanted = audits doc (audited_of given) extent end demands;
-      first = None;
-      second = None;
+      wanted = compares_files docs.Any;
+      first = Some (codes "amd64");
+      second = Some (codes "b-");
     }
-audits_of_files doc given extent end demands = refl
+    ∷ record { wanted = checks docs.Binary; first = Some (codes "b-"); second = None }
+    ∷ record { wanted = sorts false; first = None; second = None } ∷ []
+unfolding one other
+calls = refl
+
+-- what an explanation or an audit wants, and the path that it reads
+abbrev wants : Wanted → Option (List ℕ) → Request
+wants wanted first = record { wanted = wanted; first = first; second = None }
+
+explanations : map (λ it. request_of (task.Explain it))
+    (explain.File docs.Any (Some one) ∷ explain.File docs.Binary None
+    ∷ explain.All docs.Sources (Some other) ∷ explain.All docs.Packages None
+    ∷ explain.Rule code.BadVersion ∷ explain.Relation one ∷ explain.Version other ∷ [])
+    ≡ wants (explains docs.Any) (Some (codes "amd64")) ∷ wants (explains docs.Binary) None
+    ∷ wants (explains_all docs.Sources) (Some (codes "b-"))
+    ∷ wants (explains_all docs.Packages) None ∷ wants (explains_rule code.BadVersion) None
+    ∷ wants (explains_relation (codes "amd64")) None ∷ wants (explains_version (codes "b-")) None
+    ∷ []
+unfolding one other
+explanations = refl
+
+abbrev audit : Files → Task
+audit given = task.Audit (record {
+  doc = docs.Packages;
+  files = given;
+  extent = extents.All;
+  end = line_ends.Nul;
+  demands = demands;
+})
+
+audits_of_files : (request_of (audit (files.Paths (vector (one ∷ other ∷ one ∷ []) refl)))
+    ≡ wants (audits docs.Packages (paths (codes "amd64" ∷ codes "b-" ∷ codes "amd64" ∷ []))
+    extents.All line_ends.Nul demands) None)
+    × (request_of (audit (files.Listed other))
+    ≡ wants (audits docs.Packages (listed (codes "b-")) extents.All line_ends.Nul demands) None)
+unfolding one other
+audits_of_files = (refl, refl)
 
 -- ---- mistakes
 
@@ -228,41 +159,9 @@ texts_of_mistakes : IsUsage unknown_kind (codes "usage: unknown kind")
 texts_of_mistakes =
     (refl, refl, refl, refl, refl, refl, refl, refl, refl, refl, refl, refl, refl, refl)
 
-no_mistakes : (request : Request) (text : Text)
-    → (IsUsage (asks request) text ≡ ⊥) × (IsUsage asks_help text ≡ ⊥)
-no_mistakes request text = (refl, refl)
-
--- ---- what errors say
-
-help_or_memory : (text : String Global) → (IsHelp (Usage text) ≡ ⊥)
-    × (IsHelp (Help text) ≡ Unit {0}) × (IsHelp Memory ≡ Unit {0})
-help_or_memory text = (refl, refl, refl)
-
--- and neither is a number that is read
-numbers_told : (least other : ℕ) (text : String Global)
-    → (MeansLeast (Some least) (Ok other) ≡ (Some least ≡ Some other))
-    × (MeansLeast (Some least) (Err (Usage text)) ≡ (Usage text ≡ Memory))
-    × (MeansLeast None (Err (Usage text))
-    ≡ (string_bytes text ≡ codes "usage: --least takes a number"))
-numbers_told least other text = (refl, refl, refl)
-
--- a known kind isn't reported as unknown
-kinds_told : (doc other : Doc) (text : String Global)
-    → (MeansKind (Some doc) (Ok other) ≡ (Some doc ≡ Some other))
-    × (MeansKind (Some doc) (Err (Usage text)) ≡ (Usage text ≡ Memory))
-    × (MeansKind None (Err (Usage text)) ≡ (string_bytes text ≡ codes "usage: unknown kind"))
-    × (MeansKind None (Err (Help text)) ≡ (unknown_kind ≡ asks_help))
-kinds_told doc other text = (refl, refl, refl, refl)
-
 -- a call for help is answered with help, and a mistake as one
-kinds_of_errors : (text : String Global)
-    → (FitsKind kind.DisplayHelp (Help text) ≡ (true ≡ true))
-    × (FitsKind kind.UnknownArgument (Help text) ≡ (false ≡ true))
-    × (FitsKind kind.UnknownArgument (Usage text)
+kinds_of_errors : (FitsKind kind.DisplayHelp (Help one) ≡ (true ≡ true))
+    × (FitsKind kind.UnknownArgument (Help one) ≡ (false ≡ true))
+    × (FitsKind kind.UnknownArgument (Usage one)
     ≡ ((false ≡ false) × ((kind.UnknownArgument ≡ kind.OutOfMemory) → ⊥)))
-kinds_of_errors text = (refl, refl, refl)
-
-texts_used : (text : String Global)
-    → (UsesText (codes "a") (Usage text) ≡ (string_bytes text ≡ codes "a"))
-    × (UsesText (codes "a") (Help text) ≡ ⊥) × (UsesText (codes "a") Memory ≡ Unit {0})
-texts_used text = (refl, refl, refl)
+kinds_of_errors = (refl, refl, refl)
