@@ -21,6 +21,7 @@ use Rattle.deb_base.specs.Kinds.{known_row}
 use Rattle.deb_base.specs.declared.code.Code.TheVariants.{MissingField}
 use Rattle.deb_base.specs.declared.doc.Doc.TheVariants.{Any, Packages}
 use Rattle.deb_base.specs.declared.fault.Fault.TheVariants.{Refused, Read}
+use Rattle.deb_control.specs.Resuming.{resumed}
 
 abbrev pub checked_state : Checked → CheckedState
 checked_state c = record {
@@ -104,6 +105,17 @@ refused_shown : (refused_last (checked_state a_checked) ≡ Some found)
     × (lines_checked a_checked ≡ Some judged_lines)
 unfolding a_checked a_reader
 refused_shown = (refl, refl)
+
+-- the same after it goes on
+abbrev gone_on : CheckedState
+unfolding a_checked
+gone_on = resumed (checked_state a_checked)
+
+reader_gone_on : (gone_on.fault ≡ None) × (gone_on.current ≡ None) × (gone_on.bytes ≡ 14)
+    × (gone_on.reader.fault ≡ None) × (gone_on.reader.current ≡ None)
+    × (gone_on.reader.bytes ≡ 15)
+unfolding gone_on a_checked a_reader
+reader_gone_on = (refl, refl, refl, refl, refl, refl)
 
 -- a paragraph without fields, whose canonical text is empty
 abbrev a_view : CheckedView

@@ -11,7 +11,6 @@ use Rattle.deb_base.specs.declared.fault.Fault.TheVariants.{Refused, Memory, Rea
 use Rattle.deb_syntax.specs.Lines.{Paragraph}
 use Rattle.deb_control.specs.Checking.{CheckedState, FitsChecked}
 use Rattle.deb_control.specs.Refusals.{Answered}
-use Rattle.deb_syntax.specs.Reading.{State}
 
 -- After an error the paragraph has passed too: if it is refused, that is what was answered of it.
 abbrev pub FitsRefused : (doc : Doc) (text : List ℕ) (answered : List Answered) → Fault
@@ -93,32 +92,3 @@ errors_inside : (map (is_inside (Some (Refused (record { code = BadNumber; line 
     (None ∷ Some Memory ∷ Some Read ∷ Some Write ∷ [])
     ≡ true ∷ true ∷ true ∷ true ∷ [])
 errors_inside = (refl, refl)
-
--- a reader of paragraphs that has refused the one that it found last
-abbrev refused_reader : State
-refused_reader = record {
-  unread = codes "D";
-  held = 9;
-  bytes = 5;
-  lines = 1;
-  overlong_len = 0;
-  ended = false;
-  finished = false;
-  current = Some (record { first = 1; fields = [] });
-  fault = Some (Refused (record { code = BadNumber; line = 1 }));
-}
-
-reader_gone_on : resumed (record {
-  reader = refused_reader;
-  count = 1;
-  bytes = 4;
-  current = Some (record { first = 1; fields = [] });
-  fault = Some (Refused (record { code = BadNumber; line = 1 }));
-}) ≡ record {
-  reader = record refused_reader { current = None; fault = None };
-  count = 1;
-  bytes = 4;
-  current = None;
-  fault = None;
-}
-reader_gone_on = refl

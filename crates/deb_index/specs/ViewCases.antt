@@ -258,19 +258,17 @@ bb = record {
   provisions = record { name = codes "vv"; version = Some (version_in (codes "4")) } ∷ [];
 }
 
-worked-packages : (index : Index) → index.store ≡ two_packages → packages_of index ≡ aa ∷ bb ∷ []
-worked-packages index = ap listed_in
-
-worked-line_numbers : (index : Index) → index.store ≡ two_packages → lines_of index ≡ 1 ∷ 7 ∷ []
-worked-line_numbers index = ap lines_in
-
-worked-spellings : (index : Index) → index.store ≡ two_packages
-    → spellings_of index ≡ codes "1" ∷ codes "2" ∷ []
-worked-spellings index = ap spellings_in
-
-worked-number_in : (index : Index) → index.store ≡ two_packages
-    → map (number_in index) (0 ∷ 1 ∷ 4 ∷ []) ≡ 1 ∷ 2 ∷ 2 ∷ []
-worked-number_in index = ap (λ store. map (number_of store) (0 ∷ 1 ∷ 4 ∷ []))
+-- the packages, their lines and spelled versions, and the packages of two offers
+worked-packages : (index : Index) → index.store ≡ two_packages
+    → (packages_of index, lines_of index, spellings_of index, map (number_in index) (0 ∷ 4 ∷ []))
+    ≡ (aa ∷ bb ∷ [], 1 ∷ 7 ∷ [], codes "1" ∷ codes "2" ∷ [], 1 ∷ 2 ∷ [])
+worked-packages index =
+    ap (λ store. (
+      listed_in store,
+      lines_in store,
+      spellings_in store,
+      map (number_of store) (0 ∷ 4 ∷ []),
+    ))
 
 -- the canonical version of a package, and that of a number as the file spells it
 worked-versions : (index : Index) → index.store ≡ two_packages
