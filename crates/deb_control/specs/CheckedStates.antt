@@ -13,7 +13,6 @@ use Rattle.deb_control.specs.declared.checked.Checked.{Checked}
 use Rattle.deb_control.specs.declared.checked_view.CheckedView.{CheckedView}
 use Rattle.deb_base.specs.Literals.{global, lent, vector}
 use Rattle.deb_syntax.specs.Literals.{a_reader, found, judged_lines}
-use Rattle.std.proofs.Math.Dec.{lit≤}
 use Rattle.std.specs.Str.{is_utf8, chars}
 use lib.Utf8.{encode}
 use Rattle.deb_base.specs.Bodies.{paragraph_limit}
@@ -22,6 +21,7 @@ use Rattle.deb_base.specs.declared.code.Code.TheVariants.{MissingField}
 use Rattle.deb_base.specs.declared.doc.Doc.TheVariants.{Any, Packages}
 use Rattle.deb_base.specs.declared.fault.Fault.TheVariants.{Refused, Read}
 use Rattle.deb_control.specs.Resuming.{resumed}
+use Rattle.std.proofs.lemmas.Bool.{leb-true}
 
 abbrev pub checked_state : Checked → CheckedState
 checked_state c = record {
@@ -78,7 +78,12 @@ unfolding a_reader
 a_checked = record {
   paragraphs = a_reader;
   doc = Packages;
-  totals = record { paragraphs = 1; bytes = 14; within = lit≤ tt; few = lit≤ tt };
+  totals = record {
+    paragraphs = 1;
+    bytes = 14;
+    within = leb-true 14 4294967295 refl;
+    few = leb-true 1 15 refl;
+  };
   fault = Some (Refused (record { code = MissingField; line = 5 }));
   canon = record { order = vector [] refl; text = vector [] refl };
   alloc = global;

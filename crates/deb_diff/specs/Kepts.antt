@@ -15,6 +15,7 @@ use Rattle.deb_diff.specs.declared.kept.Kept.{Kept}
 use Rattle.deb_base.specs.Literals.{vector}
 use Rattle.std.proofs.Common.{ap}
 use Rattle.deb_syntax.specs.Paragraphs.{seen_of}
+use Rattle.deb_syntax.specs.Answers.{Seen}
 
 -- These are the values of a paragraph that passes.
 abbrev pub HasValues : CheckedText → ValueEntries ValueMeaning → Type 0
@@ -98,4 +99,4 @@ worked-words = (refl, refl, refl, refl)
 worked-fields : (paragraph : CheckedText) → seen_of paragraph.view.raw
     ≡ record { first = 5; fields = record { name = codes "A"; line = 5; body = codes "1" } ∷ [] }
     → fields_in paragraph ≡ record { name = codes "A"; line = 5; body = codes "1" } ∷ []
-worked-fields paragraph = ap (λ seen. seen.fields)
+worked-fields paragraph = ap (λ (seen : Seen). seen.fields)

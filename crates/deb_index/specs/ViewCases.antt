@@ -1,6 +1,6 @@
 -- Worked cases of what the contracts see of the code's values, which are written out here: each
 -- field under its own name, and lists in their order.
-use Rattle.std.specs.Prelude.{◌≡◌, ℕ, ◌+◌, ◌==◌, ◌&&◌, true, false, List, [], ◌∷◌, map, None, Some, codes, refl, zero, suc}
+use Rattle.std.specs.Prelude.{◌≡◌, ℕ, ◌+◌, ◌==◌, ◌&&◌, true, false, List, [], ◌∷◌, map, None, Some, codes, refl, zero, suc, ◌<◌}
 use Rattle.std.specs.Option.{option_map}
 use Rattle.std.specs.List.{All, AllPairs}
 use Rattle.std.specs.Map.{lookup}
@@ -115,14 +115,20 @@ provides = codes "vv, ww (= 2)"
 ascend : AllPairs IsNotAfter (map (entry_name provides) provided)
 ascend zero zero d before within = absurd (omega (arith, before))
 ascend zero (suc zero) d before within = refl
-ascend zero (suc (suc j)) d before within = absurd (omega (arith, within))
-ascend (suc i) j d before within = absurd (omega (arith, before, within))
+ascend zero (suc (suc j)) d before within =
+    let short : suc (suc j) < 2 = within in
+    absurd (omega (arith, short))
+ascend (suc i) j d before within =
+    let short : j < 2 = within in
+    absurd (omega (arith, before, short))
 
 faultless : All (IsFaultless provides) provided
 unfolding first_fault
-faultless zero d within = tt
+faultless zero d within = refl
 faultless (suc zero) d within = refl
-faultless (suc (suc k)) d within = absurd (omega (arith, within))
+faultless (suc (suc k)) d within =
+    let short : suc (suc k) < 2 = within in
+    absurd (omega (arith, short))
 
 -- aa for all with Multi-Arch `foreign`, which provides vv, and ww in a version; its version is
 -- spelled canonically, or by another text

@@ -22,6 +22,7 @@ use Rattle.deb_unmet.specs.declared.line_texts.LineTexts.{LineTexts}
 use Rattle.deb_unmet.specs.declared.paragraph.Paragraph.{Paragraph}
 use Rattle.deb_syntax.specs.Paragraphs.{seen_of}
 use Rattle.std.proofs.Common.{ap}
+use Rattle.deb_syntax.specs.Answers.{Seen}
 
 -- its fields as they are in the file
 abbrev pub fields_in : CheckedView → List Field
@@ -56,7 +57,7 @@ heading_in p =
 worked-fields : (paragraph : CheckedView) → seen_of paragraph.raw
     ≡ record { first = 5; fields = record { name = codes "A"; line = 5; body = codes "1" } ∷ [] }
     → fields_in paragraph ≡ record { name = codes "A"; line = 5; body = codes "1" } ∷ []
-worked-fields paragraph = ap (λ seen. seen.fields)
+worked-fields paragraph = ap (λ (seen : Seen). seen.fields)
 
 abbrev two : ValueEntries ValueMeaning
 two =
