@@ -21,7 +21,7 @@ use Rattle.deb_index.specs.declared.verdict.Verdict.TheVariants.{Ignored, Met, U
 use Rattle.deb_unmet.specs.Asked.{doc_of, request_for}
 use Rattle.deb_unmet.specs.Asking.{asks_of}
 use Rattle.deb_unmet.specs.Fields.{paragraph_lines}
-use Rattle.deb_unmet.specs.Files.{Asks, file_lines, asks, without, with_two}
+use Rattle.deb_unmet.specs.Files.{Asks, file_lines, asks as asks_with, without, with_two}
 use Rattle.deb_unmet.specs.GroupReadings.{EachReading, IsMeaning, SomeReading, verdict_in}
 use Rattle.deb_unmet.specs.Readings.{applies_by}
 use Rattle.deb_unmet.specs.Troubles.{can_be_otherwise, can_be_unmet, trouble}
@@ -173,8 +173,8 @@ worked-verdicts : map unmet_alone (Ignored ∷ Met ∷ Unmet ∷ [])
 worked-verdicts = refl
 
 -- no text, and one for the first of two paragraphs
-worked-lines_with : (lines_with (asks Canonical) 1 [] (with_two ∷ []) ≡ [])
-    × (lines_with (asks Canonical) 0 (codes "1" ∷ codes "02-0" ∷ [])
+worked-lines_with : (lines_with (asks_with Canonical) 1 [] (with_two ∷ []) ≡ [])
+    × (lines_with (asks_with Canonical) 0 (codes "1" ∷ codes "02-0" ∷ [])
     (without ∷ with_two ∷ with_two ∷ [])
     ≡ codes "unmet 2 yy 02-0 source Build-Depends aa\nunmet 2 yy 02-0 source Build-Depends bb\n")
 unfolding group_text digits

@@ -1,5 +1,5 @@
 -- Worked cases of tasks and of mistakes: the request that each task is, with the bytes of its
--- words, whatever these are; and what each kind of `clap`'s error is.
+-- words; and what each kind of `clap`'s error is.
 use Rattle.std.specs.Prelude.{◌≡◌, ℕ, [], ◌∷◌, map, Option, Some, None, true, false, String, codes, refl, List}
 use Rattle.std.specs.declared.alloc.Global.{Global}
 use Rattle.clap.specs.declared.error.kind.ErrorKind.TheVariants as kind
