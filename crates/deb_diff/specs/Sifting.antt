@@ -1,14 +1,15 @@
 -- The paragraphs of a file that another file doesn't have.
-use Rattle.std.specs.Prelude.{◌≡◌, ℕ, ◌++◌, cond, is_some, List, [], ◌∷◌, map}
+use Rattle.std.specs.Prelude.{◌≡◌, ℕ, ◌++◌, cond, is_some, List, [], ◌∷◌, map, codes, true, false}
 use Rattle.deb_control.specs.Documents.{Accepted, Meaning}
 use Rattle.deb_diff.specs.Items.{Item, items_of, whole}
 use Rattle.deb_diff.specs.Kepts.{AreKept}
 use Rattle.deb_diff.specs.Kinds.{doc_of}
 use Rattle.deb_diff.specs.Pairing.{all_but, earliest, without}
-use Rattle.deb_diff.specs.Pools.{IsPoolOf, left_in}
+use Rattle.deb_diff.specs.Pools.{IsPoolOf, left_in, waiting_in}
 use Rattle.deb_diff.specs.declared.kept.Kept.{Kept}
 use Rattle.deb_diff.specs.declared.kind.Kind.{Kind}
 use Rattle.deb_diff.specs.declared.pool.Pool.{Pool}
+use Rattle.std.proofs.Common.{ap}
 
 -- the paragraphs that wait
 abbrev pub items_in : List Item → Pool → List Item
@@ -31,3 +32,17 @@ pub record SiftsFile (kind : Kind) (text : List ℕ) (others : List Item) (old n
   pub is_pool : IsPoolOf (map whole others) new
   pub left : items_in others new ≡ without whole (items_in others old) (items_of kind text meaning)
   pub are_kept : AreKept kept (without whole (items_of kind text meaning) (items_in others old))
+
+abbrev item : ℕ → Item
+item number = record {
+  number = number;
+  name = codes "aa";
+  version = codes "1";
+  spelled = codes "1";
+  architecture = codes "all";
+  bodies = [];
+}
+
+worked-items : (pool : Pool) → pool.waits.items ≡ true ∷ false ∷ true ∷ []
+    → items_in (item 1 ∷ item 2 ∷ item 3 ∷ []) pool ≡ item 1 ∷ item 3 ∷ []
+worked-items pool = ap (waiting_in (item 1 ∷ item 2 ∷ item 3 ∷ []))

@@ -1,6 +1,6 @@
 -- The numbers of elements that aren't paired yet, under their keys.
 use Rattle.std.specs.Prelude.{◌≡◌, ℕ, List, [], ◌∷◌, length, map, Option, None, Some, codes, refl}
-use Rattle.std.proofs.Common.{ap}
+use Rattle.std.proofs.Common.{ap, ◌∙◌}
 use Rattle.std.specs.Map.{lookup}
 use Rattle.std.specs.Option.{option_map_or}
 use Rattle.std.specs.BTreeMap.{BTreeMap, get_by, is_at}
@@ -9,6 +9,8 @@ use Rattle.std.specs.Cmp.Lexicographic.{slice_cmp}
 use Rattle.std.specs.Ordering.{nat_cmp}
 use Rattle.std.specs.declared.collections.VecDeque.{VecDeque}
 use Rattle.deb_diff.specs.declared.waiting.Waiting.{Waiting}
+use Rattle.deb_base.specs.Literals.{lent}
+use Rattle.std.specs.declared.alloc.Global.{Global}
 
 -- those under a key, of a map with keys of one length
 abbrev pub numbers_in : {B : Type 0} → BTreeMap (Bor (List ℕ)) (VecDeque ℕ B) → List ℕ → List ℕ
@@ -38,9 +40,15 @@ abbrev found : {B : Type 0} → List (Bor (List ℕ) × VecDeque ℕ B) → List
 found entries key =
     option_map_or (λ v. v.items) (lookup (is_at (λ k. slice_cmp nat_cmp key k.now)) entries) []
 
--- those under a key, and none under another
-worked-numbers_in : {B : Type 0} (numbers : BTreeMap (Bor (List ℕ)) (VecDeque ℕ B))
-    (v : VecDeque ℕ B)
-    → numbers.entries ≡ (record { ref_ptr = (0, 0); now = codes "a" }, v) ∷ []
-    → map (numbers_in numbers) (codes "a" ∷ codes "b" ∷ []) ≡ v.items ∷ [] ∷ []
-worked-numbers_in numbers v = ap (λ l. map (found l) (codes "a" ∷ codes "b" ∷ []))
+-- those under a key, and none under another of its length or of another length
+worked-numbers_under : (waiting : Waiting) (numbers : BTreeMap (Bor (List ℕ)) (VecDeque ℕ Global))
+    (v : VecDeque ℕ Global) → waiting.lengths.entries ≡ (1, numbers) ∷ []
+    → numbers.entries ≡ (lent (codes "a"), v) ∷ [] → v.items ≡ 4 ∷ 7 ∷ []
+    → map (numbers_under waiting) (codes "a" ∷ codes "b" ∷ codes "aa" ∷ [])
+    ≡ (4 ∷ 7 ∷ []) ∷ [] ∷ [] ∷ []
+worked-numbers_under waiting numbers v lengths entries items =
+    ap (λ l. map (λ key. option_map_or (λ numbers. numbers_in numbers key)
+    (lookup (is_at (nat_cmp (length key))) l) [])
+    (codes "a" ∷ codes "b" ∷ codes "aa" ∷ [])) lengths
+    ∙ ap (λ l. found l (codes "a") ∷ found l (codes "b") ∷ [] ∷ []) entries
+    ∙ ap (λ l. l ∷ [] ∷ [] ∷ []) items
