@@ -113,13 +113,12 @@ refused_shown = (refl, refl)
 
 -- the same after it goes on
 abbrev gone_on : CheckedState
-unfolding a_checked
 gone_on = resumed (checked_state a_checked)
 
 reader_gone_on : (gone_on.fault ≡ None) × (gone_on.current ≡ None) × (gone_on.bytes ≡ 14)
     × (gone_on.reader.fault ≡ None) × (gone_on.reader.current ≡ None)
     × (gone_on.reader.bytes ≡ 15)
-unfolding gone_on a_checked a_reader
+unfolding a_checked a_reader
 reader_gone_on = (refl, refl, refl, refl, refl, refl)
 
 -- a paragraph without fields, whose canonical text is empty
