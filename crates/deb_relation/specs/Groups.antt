@@ -26,31 +26,31 @@ append_piece None groups = groups
 append_piece (Some group) groups = append group groups
 
 -- a group of two alternatives, which keep their order
-unfoldable pub b_or_a : Alternatives
+unfoldable pub bb_or_aa : Alternatives
 unfolding group_text
-b_or_a = record {
+bb_or_aa = record {
   alternatives = vector
-      (record { name = lent (codes "b"); asked = None; lists = None }
-      ∷ record { name = lent (codes "a"); asked = None; lists = None } ∷ []) refl;
-  text = vector (codes "b | a") refl;
+      (record { name = lent (codes "bb"); asked = None; lists = None }
+      ∷ record { name = lent (codes "aa"); asked = None; lists = None } ∷ []) refl;
+  text = vector (codes "bb | aa") refl;
   written = refl;
 }
 
 abbrev named : List ℕ → Alternative
 named name = alternative_with name None None None []
 
-worked-group : (group_of b_or_a ≡ named (codes "b") ∷ named (codes "a") ∷ [])
-    × (group_key b_or_a ≡ codes "b | a")
-unfolding b_or_a group_text
+worked-group : (group_of bb_or_aa ≡ named (codes "bb") ∷ named (codes "aa") ∷ [])
+    × (group_key bb_or_aa ≡ codes "bb | aa")
+unfolding bb_or_aa group_text
 worked-group = (refl, refl)
 
-worked-piece : (piece_behind (Some b_or_a, lent (codes ", c"))
-    ≡ (Some (named (codes "b") ∷ named (codes "a") ∷ []), codes ", c"))
+worked-piece : (piece_behind (Some bb_or_aa, lent (codes ", c"))
+    ≡ (Some (named (codes "bb") ∷ named (codes "aa") ∷ []), codes ", c"))
     × (piece_behind (None, lent (codes ",")) ≡ (None, codes ","))
-unfolding b_or_a
+unfolding bb_or_aa
 worked-piece = (refl, refl)
 
-worked-append : (append_piece (Some (named (codes "a") ∷ [])) ((named (codes "b") ∷ []) ∷ [])
-    ≡ (named (codes "b") ∷ []) ∷ (named (codes "a") ∷ []) ∷ [])
-    × (append_piece None ((named (codes "b") ∷ []) ∷ []) ≡ (named (codes "b") ∷ []) ∷ [])
+worked-append : (append_piece (Some (named (codes "aa") ∷ [])) ((named (codes "bb") ∷ []) ∷ [])
+    ≡ (named (codes "bb") ∷ []) ∷ (named (codes "aa") ∷ []) ∷ [])
+    × (append_piece None ((named (codes "bb") ∷ []) ∷ []) ≡ (named (codes "bb") ∷ []) ∷ [])
 worked-append = (refl, refl)

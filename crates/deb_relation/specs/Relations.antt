@@ -6,7 +6,7 @@ use Rattle.deb_relation.specs.declared.fault.RelationFault.TheVariants.{Bad, Mem
 use Rattle.deb_relation.specs.declared.relation.Relation.{Relation as Groups}
 use Rattle.deb_relation.specs.Grammar.{SpellsRelation}
 use Rattle.deb_relation.specs.Meaning.{Relation}
-use Rattle.deb_relation.specs.Groups.{group_of, b_or_a}
+use Rattle.deb_relation.specs.Groups.{group_of, bb_or_aa}
 use Rattle.deb_relation.specs.Texts.{relation_text, group_text}
 use Rattle.deb_base.specs.Literals.{vector}
 use Rattle.deb_relation.specs.Reading.{alternative_with, relation_in}
@@ -17,19 +17,19 @@ abbrev pub relation_of : Groups → Relation
 relation_of relation = map group_of relation.groups.items
 
 -- one of one group
-abbrev b_or_a_alone : Groups
-unfolding b_or_a steps relation_in group_text
-b_or_a_alone = record {
-  groups = vector (b_or_a ∷ []) refl;
-  text = vector (codes "b | a") refl;
+abbrev one_group : Groups
+unfolding bb_or_aa steps relation_in group_text
+one_group = record {
+  groups = vector (bb_or_aa ∷ []) refl;
+  text = vector (codes "bb | aa") refl;
   written = refl;
   spelled = refl;
 }
 
-worked-relation : relation_of b_or_a_alone
-    ≡ (alternative_with (codes "b") None None None []
-    ∷ alternative_with (codes "a") None None None [] ∷ []) ∷ []
-unfolding b_or_a_alone b_or_a
+worked-relation : relation_of one_group
+    ≡ (alternative_with (codes "bb") None None None []
+    ∷ alternative_with (codes "aa") None None None [] ∷ []) ∷ []
+unfolding one_group bb_or_aa
 worked-relation = refl
 
 -- The fault is the first of the text; out of memory says nothing of it.
