@@ -1,11 +1,16 @@
 //! Iterates over the words of a text.
 
-ghost use Rattle.std.specs.Prelude.{◌≡◌, ◌+◌, ◌≤◌, ◌++◌, length, OnOk, OnErr, Some, MatchOption, List, [], ◌∷◌, not};
+ghost use Rattle.std.specs.Prelude.{◌≡◌, ◌+◌, ◌≤◌, ◌++◌, length, take, OnOk, OnErr, Some, MatchOption, List, [], ◌∷◌, not};
 ghost use Rattle.std.specs.List.{prefix_len};
 ghost use Rattle.deb_version.specs.Canonical.{Extends};
+ghost use Rattle.deb_relation.specs.Lanes.{first_set};
 ghost use Rattle.deb_field.specs.Words.{is_white, words_of, words_text};
 
 use std::alloc::AllocError;
+use std::simd::prelude::*;
+
+/// How many bytes are looked at in one step.
+const LANES: usize = 16;
 
 /// The words of a text, in order: its runs of bytes other than spaces, tabs and newlines.
 #[derive(Clone, Copy, Debug)]
@@ -63,6 +68,47 @@ fn leading_white(text: &[u8]) -> usize
 
 /// With how many bytes other than white space a text begins.
 fn word_len(text: &[u8]) -> usize
+    ensures value { result ≡ prefix_len (λ b. not (is_white b)) text.now }
+    ensures bound { result ≤ length text.now }
+{
+    let mut rest = text;
+    while rest.len() >= LANES {
+        let len = front_len(rest);
+        if len < LANES {
+            return text.len() - rest.len() + len;
+        }
+        rest = &rest[LANES..];
+    }
+    text.len() - rest.len() + rest_len(rest)
+}
+
+/// How many of the first `LANES` bytes, from the first, are other than white space.
+#[inline(always)]
+fn front_len(text: &[u8]) -> usize
+    requires { LANES ≤ length text.now }
+    ensures { result ≡ prefix_len (λ b. not (is_white b)) (take LANES text.now) }
+{
+    let bytes = u8x16::from_slice(text);
+    let stops = bytes.simd_eq(u8x16::splat(b' '))
+        | bytes.simd_eq(u8x16::splat(b'\n'))
+        | bytes.simd_eq(u8x16::splat(b'\t'));
+    first_set(stops.to_bitmask())
+}
+
+/// The number of the lowest bit that is set, or `LANES`.
+#[inline(always)]
+fn first_set(mask: u64) -> usize
+    ensures { result ≡ first_set mask }
+{
+    if mask == 0 {
+        LANES
+    } else {
+        mask.trailing_zeros() as usize
+    }
+}
+
+/// The same of a whole text, byte by byte.
+fn rest_len(text: &[u8]) -> usize
     ensures value { result ≡ prefix_len (λ b. not (is_white b)) text.now }
     ensures bound { result ≤ length text.now }
 {
