@@ -14,8 +14,12 @@ abbrev pub profiles_key : ProfileList → List ℕ
 profiles_key list = restrictions_text (profiles_of list)
 
 -- `<!b a>`, whose items keep their order here
-worked-list : (λ (list : ProfileList). (profiles_of list, profiles_key list)) (record {
+abbrev a_list : ProfileList
+a_list = record {
   items = vector ((true, lent (codes "b")) ∷ (false, lent (codes "a")) ∷ []) refl;
   profiles = refl;
-}) ≡ ((true, codes "b") ∷ (false, codes "a") ∷ [], codes "<!b a>")
-worked-list = refl
+}
+
+worked-list : (profiles_of a_list ≡ (true, codes "b") ∷ (false, codes "a") ∷ [])
+    × (profiles_key a_list ≡ codes "<!b a>")
+worked-list = (refl, refl)
