@@ -1,4 +1,4 @@
-use Rattle.std.proofs.Common.{ℕ, bit_or, not, refl}
+use Rattle.std.proofs.Common.{ℕ, bit_or, refl}
 use Rattle.std.proofs.lemmas.Simd.{zip2_splat, zip2_of_maps, length-chunk}
 use lib.Lanes.{chunk}
 use Rattle.deb_relation.proofs.NameRuns.{lanes_run}
