@@ -72,5 +72,5 @@ AcceptedHasOneLine =
     (doc : Doc) (text : List ℕ) (meaning : Meaning) → Accepted doc text meaning
     → file_lines doc text ≡ total_line (length meaning) 0
 
-first_refusals : (first_of {A = ℕ} [] ≡ None) × (first_of (3 ∷ 5 ∷ []) ≡ Some 3)
+first_refusals : (first_of {A = ℕ} [] ≡ None) × (first_of {A = ℕ} (3 ∷ 5 ∷ []) ≡ Some 3)
 first_refusals = (refl, refl)
