@@ -266,8 +266,9 @@ bb = record {
 
 -- the packages, their lines and spelled versions, and the packages of two offers
 worked-packages : (index : Index) → index.store ≡ two_packages
-    → (packages_of index, lines_of index, spellings_of index, map (number_in index) (0 ∷ 4 ∷ []))
-    ≡ (aa ∷ bb ∷ [], 1 ∷ 7 ∷ [], codes "1" ∷ codes "2" ∷ [], 1 ∷ 2 ∷ [])
+    → ◌≡◌ {A = List Listed × List ℕ × List (List ℕ) × List ℕ}
+    (packages_of index, lines_of index, spellings_of index, map (number_in index) (0 ∷ 4 ∷ []))
+    (aa ∷ bb ∷ [], 1 ∷ 7 ∷ [], codes "1" ∷ codes "2" ∷ [], 1 ∷ 2 ∷ [])
 worked-packages index =
     ap (λ store. (
       listed_in store,
