@@ -19,8 +19,7 @@ use Rattle.deb_explain.specs.Texts.{file_line}
 use Rattle.deb_explain.specs.AllExplanations.{explained_block, explained_lines, explanations_of}
 use Rattle.deb_control.specs.AllRefusals.{passed_of, refusals_of, total_line}
 use Rattle.debctl_ffi.specs.Answers.{counting, refusing_some}
-use Rattle.debctl_ffi.specs.Buffers.{Gives, GivesNothing, LacksRoom}
-use Rattle.debctl_ffi.specs.Documents.{kind_number}
+use Rattle.debctl_ffi.specs.Documents.{OfKind}
 use Rattle.debctl_ffi.specs.Explaining.{explanation_lines}
 use Rattle.debctl_ffi.specs.declared.answer.Answer.{Answer}
 use Rattle.debctl_ffi.specs.declared.refusal_row.RefusalRow.{RefusalRow}
@@ -118,45 +117,10 @@ pub record ExplainsFile (doc : Doc) (text : List ℕ) (answer : Answer) (lines :
 
 -- ---- answers
 
--- Nothing is refused, and no row is given; or some of the file is refused, and exactly the rows of
--- all its refusals are given; or there is no room for them.
-pub record ChecksAccepted (kind : ℕ) (text : List ℕ) (before after : List RefusalRow) (len : ℕ)
-    (answer : Answer) : Type 0 where
-  pub doc : Doc
-  pub is_kind : kind ≡ kind_number doc
-  pub accepted : NothingRefused doc text answer
-  pub gives : GivesNothing before after len
+-- These are the answer and the rows of all refusals of the file, as a document of the kind; or the
+-- answer and the lines.
+abbrev pub ChecksAll : ℕ → List ℕ → Answer → List RefusalRow → Type 0
+ChecksAll kind text told rows = OfKind kind (λ doc. TablesFile doc text told rows)
 
-pub record ChecksRefused (kind : ℕ) (text : List ℕ) (before after : List RefusalRow) (len : ℕ)
-    (answer : Answer) : Type 0 where
-  pub doc : Doc
-  pub is_kind : kind ≡ kind_number doc
-  pub refused : SomeRefused doc text answer
-  pub gives : Gives (rows_of (refusals_of doc text)) before after len
-
-pub record LacksRoomForRows (kind : ℕ) (text : List ℕ) (before after : List RefusalRow) (len : ℕ)
-    : Type 0 where
-  pub doc : Doc
-  pub is_kind : kind ≡ kind_number doc
-  pub lacks : LacksRoom (rows_of (refusals_of doc text)) before after len
-
--- Nothing is refused, and the line with the number of paragraphs is given; or some of the file is
--- refused, and the lines of all its refusals are given; or there is no room for the lines.
-pub record ExplainsNone (kind : ℕ) (text before after : List ℕ) (len : ℕ) (answer : Answer)
-    : Type 0 where
-  pub doc : Doc
-  pub is_kind : kind ≡ kind_number doc
-  pub accepted : NothingRefused doc text answer
-  pub gives : Gives (total_line answer.count 0) before after len
-
-pub record ExplainsAll (kind : ℕ) (text before after : List ℕ) (len : ℕ) (answer : Answer)
-    : Type 0 where
-  pub doc : Doc
-  pub is_kind : kind ≡ kind_number doc
-  pub refused : SomeRefused doc text answer
-  pub gives : Gives (all_lines doc text) before after len
-
-pub record LacksRoomForAllLines (kind : ℕ) (text before after : List ℕ) (len : ℕ) : Type 0 where
-  pub doc : Doc
-  pub is_kind : kind ≡ kind_number doc
-  pub lacks : LacksRoom (all_lines doc text) before after len
+abbrev pub ExplainsAll : ℕ → List ℕ → Answer → List ℕ → Type 0
+ExplainsAll kind text told lines = OfKind kind (λ doc. ExplainsFile doc text told lines)

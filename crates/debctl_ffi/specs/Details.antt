@@ -5,29 +5,34 @@ use Rattle.deb_index.specs.FirstLines.{line_at}
 use Rattle.deb_index.specs.KeptTexts.{kept_text}
 use Rattle.deb_index.specs.Listed.{Listed}
 use Rattle.deb_index.specs.Named.{package_at}
-use Rattle.debctl_ffi.specs.Buffers.{Gives, LacksRoom}
+use Rattle.debctl_ffi.specs.Buffers.{Buffer}
+use Rattle.debctl_ffi.specs.Loads.{HasLines, NoPackage, OfPackages, RepliesLoaded}
 use Rattle.debctl_ffi.specs.declared.answer.Answer.{Answer}
+use Rattle.debctl_ffi.specs.declared.loaded.Loaded.{Loaded}
 
 -- the status 0 with a line of the file
 abbrev pub at_line : ℕ → Answer
 at_line line = record { status = 0; code = 0; line = line; count = 0 }
 
--- What is kept of the package with the number is given, and the line of its paragraph is answered;
--- or there is no room for the text.
-pub record GivesDetails (number : ℕ) (packages : List Listed) (lines before after : List ℕ)
-    (len : ℕ) (answer : Answer) : Type 0 where
+-- There is a package with the number, this is what is kept of it, and the answer has the line of
+-- its paragraph.
+pub record HasDetails (number : ℕ) (packages : List Listed) (lines : List ℕ) (told : Answer)
+    (bytes : List ℕ) : Type 0 where
   pub listed : Listed
   pub line : ℕ
   pub is : package_at number packages ≡ Some listed
   pub starts : line_at number lines ≡ Some line
-  pub answer_is : answer ≡ at_line line
-  pub gives : Gives (kept_text listed) before after len
+  pub answer_is : told ≡ at_line line
+  pub kept : bytes ≡ kept_text listed
 
-pub record LacksRoomForDetails (number : ℕ) (packages : List Listed) (before after : List ℕ)
-    (len : ℕ) : Type 0 where
-  pub listed : Listed
-  pub is : package_at number packages ≡ Some listed
-  pub lacks : LacksRoom (kept_text listed) before after len
+-- This is found; or there is no such package, or memory is out.
+abbrev pub AsksDetails : ℕ → Loaded → Buffer ℕ → Answer → Type 0
+AsksDetails number loaded =
+    RepliesLoaded loaded
+    (λ told bytes. (told.status ≡ 0)
+    × OfPackages loaded (λ packages. (lines : List ℕ) → HasLines loaded lines
+    → HasDetails number packages lines told bytes))
+    (NoPackage number loaded)
 
 worked-line : at_line 7 ≡ record { status = 0; code = 0; line = 7; count = 0 }
 worked-line = refl

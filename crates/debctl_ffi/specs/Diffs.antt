@@ -1,10 +1,8 @@
 -- What is answered to a program in C of what changed between two files. The lines and the numbers
 -- of the details are this project's own.
-use Rattle.std.specs.Prelude.{◌≡◌, ◌⊎◌, ◌↔◌, ℕ, ◌≤◌, Bool, IsTrue, List, [], ◌∷◌, map, Some, refl}
+use Rattle.std.specs.Prelude.{◌≡◌, ◌⊎◌, ◌↔◌, ℕ, ◌≤◌, Bool, true, false, IsTrue, List, [], ◌∷◌, map, refl}
 use Rattle.deb_base.specs.Faults.{MatchFault}
-use Rattle.deb_base.specs.declared.refusal.Refusal.{Refusal}
-use Rattle.deb_control.specs.Comparing.{RefusesSecond}
-use Rattle.deb_control.specs.Documents.{Accepted, Meaning, refusal_of}
+use Rattle.deb_control.specs.Documents.{Accepted, Meaning}
 use Rattle.deb_control.specs.declared.side.SideFault.{SideFault}
 use Rattle.deb_base.specs.declared.doc.Doc.{Doc}
 use Rattle.deb_diff.specs.Kinds.{doc_of}
@@ -13,9 +11,8 @@ use Rattle.deb_diff.specs.Lines.{diff_text, form_of}
 use Rattle.deb_diff.specs.declared.detail.Detail.{Detail}
 use Rattle.deb_diff.specs.declared.detail.Detail.TheVariants.{Fields, Values}
 use Rattle.deb_diff.specs.declared.kind.Kind.{Kind}
-use Rattle.debctl_ffi.specs.Answers.{refusing}
-use Rattle.debctl_ffi.specs.Buffers.{Gives, LacksRoom}
-use Rattle.debctl_ffi.specs.Documents.{RefusesSide, kind_number}
+use Rattle.debctl_ffi.specs.Answers.{plain}
+use Rattle.debctl_ffi.specs.Documents.{IsRefusedFile, IsRefusedOther, RefusesSide, kind_number}
 use Rattle.debctl_ffi.specs.declared.answer.Answer.{Answer}
 
 -- ---- what is asked
@@ -61,39 +58,26 @@ IsDiffRefusal doc text other failed =
 
 -- ---- answers
 
--- The lines are given, of which there is none, or is one; or there is no room for them.
-pub record GivesDiff (kind detail : ℕ) (text other : List ℕ) (is_empty : Bool)
-    (before after : List ℕ) (len : ℕ) : Type 0 where
+-- The numbers ask for a comparison, of which this holds.
+pub record OfCompared (kind detail : ℕ) (Says : Kind → Detail → Type 0) : Type 0 where
   pub of : Kind
   pub how : Detail
   pub asked : IsComparing kind detail of how
-  pub bytes : List ℕ
-  pub has : HasDiff of how text other is_empty bytes
-  pub gives : Gives bytes before after len
+  pub says : Says of how
 
-pub record LacksRoomForDiff (kind detail : ℕ) (text other before after : List ℕ) (len : ℕ)
-    : Type 0 where
-  pub of : Kind
-  pub how : Detail
-  pub asked : IsComparing kind detail of how
-  pub is_empty : Bool
-  pub bytes : List ℕ
-  pub has : HasDiff of how text other is_empty bytes
-  pub lacks : LacksRoom bytes before after len
+-- These are the answer and the lines, of which there is none, or is one.
+abbrev pub Differs : ℕ → ℕ → List ℕ → List ℕ → Answer → List ℕ → Type 0
+Differs kind detail text other told bytes =
+    ((told ≡ plain 0)
+    × OfCompared kind detail (λ of how. HasDiff of how text other true bytes))
+    ⊎ ((told ≡ plain 1)
+    × OfCompared kind detail (λ of how. HasDiff of how text other false bytes))
 
--- The old file is refused; or it is accepted, and the new one is refused.
-pub record RefusesOld (kind detail : ℕ) (text : List ℕ) (answer : Answer) : Type 0 where
-  pub of : Kind
-  pub how : Detail
-  pub asked : IsComparing kind detail of how
-  pub refusal : Refusal
-  pub refused : refusal_of (doc_of of) text ≡ Some refusal
-  pub is : answer ≡ refusing 2 refusal
-
-pub record RefusesNew (kind detail : ℕ) (text other : List ℕ) (answer : Answer) : Type 0 where
-  pub of : Kind
-  pub how : Detail
-  pub asked : IsComparing kind detail of how
-  pub refusal : Refusal
-  pub refused : RefusesSecond (doc_of of) text other refusal
-  pub is : answer ≡ refusing 3 refusal
+-- The old file is refused; or it is accepted, and the new one is refused; or memory is out; or the
+-- numbers ask for no comparison.
+abbrev pub DiffFails : ℕ → ℕ → List ℕ → List ℕ → Answer → Type 0
+DiffFails kind detail text other answer =
+    OfCompared kind detail (λ of how. IsRefusedFile (doc_of of) text answer)
+    ⊎ OfCompared kind detail (λ of how. IsRefusedOther (doc_of of) text other answer)
+    ⊎ (answer ≡ plain 5)
+    ⊎ ((answer ≡ plain 6) × ComparesNothing kind detail)

@@ -1,6 +1,6 @@
 -- What is answered of files to a program in C: Debian Policy 5.1 and 5.3 to 5.6. The numbers of the
 -- kinds are this project's own.
-use Rattle.std.specs.Prelude.{◌≡◌, ℕ, ◌≤◌, List, [], ◌∷◌, Bool, length, map, Some, refl}
+use Rattle.std.specs.Prelude.{◌≡◌, ℕ, ◌≤◌, ◌⊎◌, List, [], ◌∷◌, true, false, length, map, Some, refl}
 use Rattle.deb_base.specs.Faults.{RefusedOrMemory}
 use Rattle.deb_base.specs.declared.refusal.Refusal.{Refusal}
 use Rattle.deb_base.specs.declared.doc.Doc.{Doc}
@@ -11,8 +11,7 @@ use Rattle.deb_control.specs.Documents.{Accepted, Meaning, canonical_text, refus
 use Rattle.deb_control.specs.declared.side.Side.{Side}
 use Rattle.deb_control.specs.declared.side.Side.TheVariants.{First, Second}
 use Rattle.deb_control.specs.declared.side.SideFault.{SideFault}
-use Rattle.debctl_ffi.specs.Answers.{counting, refusing}
-use Rattle.debctl_ffi.specs.Buffers.{Gives, LacksRoom}
+use Rattle.debctl_ffi.specs.Answers.{counting, plain, refusing}
 use Rattle.debctl_ffi.specs.declared.answer.Answer.{Answer}
 
 -- ---- kinds
@@ -39,55 +38,24 @@ numbers_of_kinds = refl
 other_numbers : (IsNoKind 4 ≡ (5 ≤ 4)) × (IsNoKind 5 ≡ (5 ≤ 5))
 other_numbers = (refl, refl)
 
--- ---- answers
-
--- The file is accepted, and this is the number of its paragraphs.
-pub record IsAccepted (kind : ℕ) (text : List ℕ) (answer : Answer) : Type 0 where
+-- The number is that of a kind, of which this holds.
+pub record OfKind (kind : ℕ) (Says : Doc → Type 0) : Type 0 where
   pub doc : Doc
   pub is_kind : kind ≡ kind_number doc
+  pub says : Says doc
+
+-- ---- files in memory
+
+-- The file is accepted, and this is the answer with the number of its paragraphs; or it is refused,
+-- and this is the answer with its refusal.
+pub record IsAcceptedFile (doc : Doc) (text : List ℕ) (answer : Answer) : Type 0 where
   pub has : HasParagraphs doc text answer.count
   pub is : answer ≡ counting 0 answer.count
 
--- The file is refused, and this is its refusal.
-pub record IsRefused (kind : ℕ) (text : List ℕ) (answer : Answer) : Type 0 where
-  pub doc : Doc
-  pub is_kind : kind ≡ kind_number doc
+pub record IsRefusedFile (doc : Doc) (text : List ℕ) (answer : Answer) : Type 0 where
   pub refusal : Refusal
   pub refused : refusal_of doc text ≡ Some refusal
   pub is : answer ≡ refusing 2 refusal
-
--- The file is accepted, and its canonical text is given; or there is no room for that.
-pub record Normalises (kind : ℕ) (text before after : List ℕ) (len : ℕ) (answer : Answer)
-    : Type 0 where
-  pub doc : Doc
-  pub is_kind : kind ≡ kind_number doc
-  pub meaning : Meaning
-  pub accepted : Accepted doc text meaning
-  pub gives : Gives (canonical_text meaning) before after len
-  pub is : answer ≡ counting 0 (length meaning)
-
-pub record LacksRoomForFile (kind : ℕ) (text before after : List ℕ) (len : ℕ) : Type 0 where
-  pub doc : Doc
-  pub is_kind : kind ≡ kind_number doc
-  pub meaning : Meaning
-  pub accepted : Accepted doc text meaning
-  pub lacks : LacksRoom (canonical_text meaning) before after len
-
--- Both files are accepted, and this is whether they mean the same.
-pub record IsSame (kind : ℕ) (text other : List ℕ) (same : Bool) : Type 0 where
-  pub doc : Doc
-  pub is_kind : kind ≡ kind_number doc
-  pub answers : AnswersSame doc text other same
-
--- The first file is accepted, the second is refused, and this is its refusal.
-pub record RefusesOther (kind : ℕ) (text other : List ℕ) (answer : Answer) : Type 0 where
-  pub doc : Doc
-  pub is_kind : kind ≡ kind_number doc
-  pub refusal : Refusal
-  pub refused : RefusesSecond doc text other refusal
-  pub is : answer ≡ refusing 3 refusal
-
--- ---- files in memory
 
 -- The file is accepted with so many paragraphs, and this is its canonical text.
 pub record HasCanonical (doc : Doc) (text : List ℕ) (n : ℕ) (bytes : List ℕ) : Type 0 where
@@ -110,3 +78,41 @@ refusals_of_sides : (doc : Doc) (text other : List ℕ) (refusal : Refusal)
     → (RefusesSide First doc text other refusal ≡ (refusal_of doc text ≡ Some refusal))
     × (RefusesSide Second doc text other refusal ≡ RefusesSecond doc text other refusal)
 refusals_of_sides doc text other refusal = (refl, refl)
+
+-- ---- answers
+
+-- Memory is out, or there is no such kind; or the file is refused, and this is its refusal.
+abbrev pub KindFails : ℕ → Answer → Type 0
+KindFails kind answer =
+    ((answer ≡ plain 5) × IsKind kind) ⊎ ((answer ≡ plain 6) × IsNoKind kind)
+
+abbrev pub IsRefused : ℕ → List ℕ → Answer → Type 0
+IsRefused kind text answer = OfKind kind (λ doc. IsRefusedFile doc text answer)
+
+abbrev pub FileFails : ℕ → List ℕ → Answer → Type 0
+FileFails kind text answer = IsRefused kind text answer ⊎ KindFails kind answer
+
+-- The file is accepted, and this is the number of its paragraphs; or it isn't.
+abbrev pub ChecksFile : ℕ → List ℕ → Answer → Type 0
+ChecksFile kind text answer =
+    OfKind kind (λ doc. IsAcceptedFile doc text answer) ⊎ FileFails kind text answer
+
+-- The file is accepted, and these are its answer and its canonical text.
+abbrev pub Normalises : ℕ → List ℕ → Answer → List ℕ → Type 0
+Normalises kind text told bytes =
+    OfKind kind (λ doc. HasCanonical doc text told.count bytes × (told ≡ counting 0 told.count))
+
+-- Both files are accepted, and mean the same, or don't; or the first is refused; or it is accepted
+-- and the second is refused, and this is its refusal.
+pub record IsRefusedOther (doc : Doc) (text other : List ℕ) (answer : Answer) : Type 0 where
+  pub refusal : Refusal
+  pub refused : RefusesSecond doc text other refusal
+  pub is : answer ≡ refusing 3 refusal
+
+abbrev pub ComparesFiles : ℕ → List ℕ → List ℕ → Answer → Type 0
+ComparesFiles kind text other answer =
+    ((answer ≡ plain 0) × OfKind kind (λ doc. AnswersSame doc text other true))
+    ⊎ ((answer ≡ plain 1) × OfKind kind (λ doc. AnswersSame doc text other false))
+    ⊎ IsRefused kind text answer
+    ⊎ OfKind kind (λ doc. IsRefusedOther doc text other answer)
+    ⊎ KindFails kind answer

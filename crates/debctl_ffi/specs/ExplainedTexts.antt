@@ -11,7 +11,6 @@ use Rattle.deb_explain.specs.declared.cause.Word.TheVariants as words
 use Rattle.deb_relation.specs.Grammar.{SpellsRelation}
 use Rattle.deb_relation.specs.Meaning.{Relation}
 use Rattle.debctl_ffi.specs.Answers.{counting, refusing}
-use Rattle.debctl_ffi.specs.Buffers.{Gives, LacksRoom}
 use Rattle.debctl_ffi.specs.Relations.{IsNoRelation}
 use Rattle.debctl_ffi.specs.Versions.{IsNoVersion, IsVersion}
 use Rattle.debctl_ffi.specs.declared.answer.Answer.{Answer}
@@ -57,25 +56,6 @@ pub record RefusedAs (word : Word) (text : List ℕ) (answer : Answer) (bytes : 
 abbrev pub ExplainedAs : Word → List ℕ → Answer → List ℕ → Type 0
 ExplainedAs word text answer bytes =
     AcceptedAs word text answer bytes ⊎ RefusedAs word text answer bytes
-
--- The line is given; or the lines are; or there is no room for them.
-pub record GivesAccepted (word : Word) (text before after : List ℕ) (len : ℕ) (answer : Answer)
-    : Type 0 where
-  pub bytes : List ℕ
-  pub explains : AcceptedAs word text answer bytes
-  pub gives : Gives bytes before after len
-
-pub record GivesRefused (word : Word) (text before after : List ℕ) (len : ℕ) (answer : Answer)
-    : Type 0 where
-  pub bytes : List ℕ
-  pub explains : RefusedAs word text answer bytes
-  pub gives : Gives bytes before after len
-
-pub record LacksRoomForText (word : Word) (text before after : List ℕ) (len : ℕ) : Type 0 where
-  pub answer : Answer
-  pub bytes : List ℕ
-  pub explains : ExplainedAs word text answer bytes
-  pub lacks : LacksRoom bytes before after len
 
 -- what a text is read as
 worked-read : (text : List ℕ) → (IsRead words.Relation text ≡ IsRelation text)

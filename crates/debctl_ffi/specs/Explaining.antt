@@ -10,8 +10,7 @@ use Rattle.deb_control.specs.Documents.{refusal_of}
 use Rattle.deb_explain.specs.Explanations.{WhyRefused, explanation_of}
 use Rattle.deb_explain.specs.Texts.{code_lines, explanation_text, file_line, line_number, rule_lines, subject_text}
 use Rattle.debctl_ffi.specs.Answers.{counting, refusing}
-use Rattle.debctl_ffi.specs.Buffers.{Gives, LacksRoom}
-use Rattle.debctl_ffi.specs.Documents.{kind_number}
+use Rattle.debctl_ffi.specs.Documents.{OfKind}
 use Rattle.debctl_ffi.specs.declared.answer.Answer.{Answer}
 
 -- ---- lines
@@ -60,28 +59,6 @@ ExplainedText doc text answer bytes =
 
 -- ---- answers
 
--- The file is accepted, and its line is given; or it is refused, and its lines are; or there is no
--- room for that text.
-pub record ExplainsAccepted (kind : ℕ) (text before after : List ℕ) (len : ℕ) (answer : Answer)
-    : Type 0 where
-  pub doc : Doc
-  pub is_kind : kind ≡ kind_number doc
-  pub bytes : List ℕ
-  pub explains : AcceptedText doc text answer bytes
-  pub gives : Gives bytes before after len
-
-pub record ExplainsRefused (kind : ℕ) (text before after : List ℕ) (len : ℕ) (answer : Answer)
-    : Type 0 where
-  pub doc : Doc
-  pub is_kind : kind ≡ kind_number doc
-  pub bytes : List ℕ
-  pub explains : RefusedText doc text answer bytes
-  pub gives : Gives bytes before after len
-
-pub record LacksRoomForLines (kind : ℕ) (text before after : List ℕ) (len : ℕ) : Type 0 where
-  pub doc : Doc
-  pub is_kind : kind ≡ kind_number doc
-  pub answer : Answer
-  pub bytes : List ℕ
-  pub explains : ExplainedText doc text answer bytes
-  pub lacks : LacksRoom bytes before after len
+-- These are the answer and the text that explain the file, as a document of the kind.
+abbrev pub Explains : ℕ → List ℕ → Answer → List ℕ → Type 0
+Explains kind text told bytes = OfKind kind (λ doc. ExplainedText doc text told bytes)

@@ -1,17 +1,15 @@
 -- What is shown to a program in C of the fields of a file: Debian Policy 5.1. The form of the
 -- tables is this project's own.
-use Rattle.std.specs.Prelude.{◌≡◌, ◌⊎◌, ℕ, ◌+◌, ◌<◌, List, [], ◌∷◌, ◌++◌, length, map, Some, codes, refl}
+use Rattle.std.specs.Prelude.{◌≡◌, ◌⊎◌, ℕ, ◌+◌, ◌<◌, List, [], ◌∷◌, ◌++◌, length, map, codes, refl}
 use Rattle.deb_base.specs.declared.doc.Doc.{Doc}
-use Rattle.deb_base.specs.declared.refusal.Refusal.{Refusal}
 use Rattle.deb_syntax.specs.Answers.{Seen}
 use Rattle.deb_syntax.specs.Fields.{Field}
-use Rattle.deb_control.specs.Calls.{HasParagraphs}
-use Rattle.deb_control.specs.Documents.{refusal_of, rules_of}
+use Rattle.deb_control.specs.Documents.{rules_of}
 use Rattle.deb_control.specs.GivenParagraphs.{AreNext}
 use Rattle.deb_control.specs.Refusals.{outcome}
-use Rattle.debctl_ffi.specs.Answers.{counting, refusing}
-use Rattle.debctl_ffi.specs.Buffers.{Gives}
-use Rattle.debctl_ffi.specs.Documents.{kind_number}
+use Rattle.debctl_ffi.specs.Answers.{plain}
+use Rattle.debctl_ffi.specs.Buffers.{Buffer, Gives, buffer}
+use Rattle.debctl_ffi.specs.Documents.{IsAcceptedFile, IsRefusedFile, KindFails, OfKind}
 use Rattle.debctl_ffi.specs.declared.answer.Answer.{Answer}
 use Rattle.debctl_ffi.specs.declared.field.FieldSpan.{FieldSpan}
 
@@ -78,27 +76,9 @@ pub record AreTables (shown : List Numbered) (spans : List FieldSpan) (names val
 
 -- ---- answers
 
--- the answer of an accepted file, and of a refused one
-pub record IsAcceptedFile (doc : Doc) (text : List ℕ) (answer : Answer) : Type 0 where
-  pub has : HasParagraphs doc text answer.count
-  pub is : answer ≡ counting 0 answer.count
-
-pub record IsRefusedFile (doc : Doc) (text : List ℕ) (answer : Answer) : Type 0 where
-  pub refusal : Refusal
-  pub refused : refusal_of doc text ≡ Some refusal
-  pub is : answer ≡ refusing 2 refusal
-
+-- the answer of a file
 abbrev pub IsAnswer : Doc → List ℕ → Answer → Type 0
 IsAnswer doc text answer = IsAcceptedFile doc text answer ⊎ IsRefusedFile doc text answer
-
--- what a call leaves in a buffer, and in the number beside it
-pub record Buffer (T : Type 0) : Type 0 where
-  pub before : List T
-  pub after : List T
-  pub len : ℕ
-
-abbrev pub buffer : {T : Type 0} → List T → List T → ℕ → Buffer T
-buffer before after len = record { before = before; after = after; len = len }
 
 -- the buffers of spans, of names and of values
 pub record Room : Type 0 where
@@ -109,14 +89,11 @@ pub record Room : Type 0 where
 abbrev pub room : Buffer FieldSpan → Buffer ℕ → Buffer ℕ → Room
 room spans names values = record { spans = spans; names = names; values = values }
 
-abbrev pub GivesIn : {T : Type 0} → List T → Buffer T → Type 0
-GivesIn items into = Gives items into.before into.after into.len
-
 -- The tables of the fields are given.
 pub record GivesTables (shown : List Numbered) (into : Room) : Type 0 where
-  pub spans : GivesIn (spans_from 0 0 shown) into.spans
-  pub names : GivesIn (names_text shown) into.names
-  pub values : GivesIn (values_text shown) into.values
+  pub spans : Gives (spans_from 0 0 shown) into.spans
+  pub names : Gives (names_text shown) into.names
+  pub values : Gives (values_text shown) into.values
 
 -- The buffers are as they were, and these are the lengths.
 pub record LeavesRoom (into : Room) (spans names values : ℕ) : Type 0 where
@@ -138,34 +115,24 @@ pub record LacksTables (shown : List Numbered) (into : Room) : Type 0 where
       (length (values_text shown))
   pub short : IsShort into
 
--- The file is accepted, and the tables of its fields are given; or it is refused, and those of the
--- fields before its first paragraph that fails are; or there is no room for them.
-pub record ShowsAccepted (kind : ℕ) (text : List ℕ) (into : Room) (answer : Answer) : Type 0
-  where
-    pub doc : Doc
-    pub is_kind : kind ≡ kind_number doc
-    pub accepted : IsAcceptedFile doc text answer
-    pub shown : List Numbered
-    pub are : AreFields doc text shown
-    pub gives : GivesTables shown into
+-- The tables are given with this answer; or there is no room for them, and the answer is 4.
+abbrev pub RepliesTables : Answer → List Numbered → Room → Answer → Type 0
+RepliesTables told shown into answer =
+    (GivesTables shown into × (answer ≡ told)) ⊎ (LacksTables shown into × (answer ≡ plain 4))
 
-pub record ShowsRefused (kind : ℕ) (text : List ℕ) (into : Room) (answer : Answer) : Type 0
-  where
-    pub doc : Doc
-    pub is_kind : kind ≡ kind_number doc
-    pub refused : IsRefusedFile doc text answer
-    pub shown : List Numbered
-    pub are : AreFields doc text shown
-    pub gives : GivesTables shown into
-
-pub record LacksRoomForFields (kind : ℕ) (text : List ℕ) (into : Room) : Type 0 where
-  pub doc : Doc
-  pub is_kind : kind ≡ kind_number doc
-  pub answer : Answer
-  pub answers : IsAnswer doc text answer
+-- These are the answer of the file and the fields of its paragraphs that pass.
+pub record FindsFields (doc : Doc) (text : List ℕ) (into : Room) (answer : Answer) : Type 0 where
+  pub told : Answer
+  pub answers : IsAnswer doc text told
   pub shown : List Numbered
   pub are : AreFields doc text shown
-  pub lacks : LacksTables shown into
+  pub replies : RepliesTables told shown into answer
+
+-- Or nothing is given, since memory is out or there is no such kind.
+abbrev pub ShowsFields : ℕ → List ℕ → Room → Answer → Type 0
+ShowsFields kind text into answer =
+    OfKind kind (λ doc. FindsFields doc text into answer)
+    ⊎ (LeavesRoom into 0 0 0 × KindFails kind answer)
 
 -- for the worked cases: `A: xy`, and `Bb:` in the next paragraph
 abbrev one_seen : Seen
@@ -196,10 +163,6 @@ worked-spans : spans_from 0 0 two_shown
     ∷ record { paragraph = 2; line = 3; name = 2; name_length = 2; value = 3; value_length = 0 }
     ∷ []
 worked-spans = refl
-
-worked-buffer : buffer (codes "xy") (codes "ay") 1
-    ≡ record { before = codes "xy"; after = codes "ay"; len = 1 }
-worked-buffer = refl
 
 abbrev three_buffers : Room
 three_buffers = room (buffer [] [] 2) (buffer [] (codes "a") 3) (buffer (codes "b") [] 4)

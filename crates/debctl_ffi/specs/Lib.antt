@@ -1,5 +1,6 @@
 pub mod Answers
 pub mod Buffers
+pub mod Replies
 pub mod Versions
 pub mod VersionParts
 pub mod Documents

@@ -1,6 +1,6 @@
 -- An index that a program in C reads once and asks often: where it is, who owns its memory when,
 -- and what the calls return of it. The statuses are this project's own.
-use Rattle.std.specs.Prelude.{◌≡◌, ℕ, List, [], ◌∷◌, None, Some, codes, length, refl}
+use Rattle.std.specs.Prelude.{◌≡◌, ◌⊎◌, ℕ, Bool, List, [], ◌∷◌, None, Some, codes, length, refl}
 use Rattle.std.specs.List.{concat}
 use base.Fml.{Fml, Lft, Share, flft}
 use denote.RawPtr.{Ptr}
@@ -13,13 +13,18 @@ use Rattle.deb_version.specs.Places.{version_in}
 use Rattle.deb_index.specs.FirstLines.{first_lines}
 use Rattle.deb_index.specs.Indexes.{lines_of, packages_of}
 use Rattle.deb_index.specs.Listed.{Listed}
-use Rattle.deb_index.specs.Named.{package_at}
+use Rattle.deb_index.specs.Named.{numbers_of, package_at}
 use Rattle.deb_index.specs.Listing.{ListsAll}
+use Rattle.deb_index.specs.Questions.{Question}
 use Rattle.deb_index.specs.declared.index.Index.{Index}
 use Rattle.debctl_ffi.specs.Answers.{HasStatus, counting, plain, refusing}
-use Rattle.debctl_ffi.specs.Buffers.{Gives, LacksRoom}
+use Rattle.debctl_ffi.specs.Buffers.{Buffer}
+use Rattle.debctl_ffi.specs.Queries.{QueryFails, Reports}
+use Rattle.debctl_ffi.specs.Replies.{Replies}
+use Rattle.debctl_ffi.specs.Unmet.{Asker, ListsUnmet, UnmetFails}
 use Rattle.debctl_ffi.specs.declared.answer.Answer.{Answer}
 use Rattle.debctl_ffi.specs.declared.loaded.Loaded.{Loaded}
+use Rattle.debctl_ffi.specs.declared.report.Detail.{Detail}
 use Rattle.debctl_ffi.specs.contracts.loaded.Loaded.{the_row}
 
 -- ---- memory
@@ -93,18 +98,11 @@ abbrev pub package_words : Listed → List ℕ
 package_words p =
     concat (p.name ∷ codes " " ∷ version_text p.version ∷ codes " " ∷ p.architecture ∷ [])
 
--- The words of the package with the number are given; or there is no room for them.
-pub record GivesPackage (number : ℕ) (packages : List Listed) (before after : List ℕ) (len : ℕ)
-    : Type 0 where
+-- There is a package with the number, and these are its words.
+pub record HasWords (number : ℕ) (packages : List Listed) (bytes : List ℕ) : Type 0 where
   pub listed : Listed
   pub is : package_at number packages ≡ Some listed
-  pub gives : Gives (package_words listed) before after len
-
-pub record LacksRoomForPackage (number : ℕ) (packages : List Listed) (before after : List ℕ)
-    (len : ℕ) : Type 0 where
-  pub listed : Listed
-  pub is : package_at number packages ≡ Some listed
-  pub lacks : LacksRoom (package_words listed) before after len
+  pub words : bytes ≡ package_words listed
 
 worked-words : package_words (record {
   name = codes "hello";
@@ -114,3 +112,53 @@ worked-words : package_words (record {
   provisions = [];
 }) ≡ codes "hello 1.0 all"
 worked-words = refl
+
+-- ---- asking it
+
+-- Nothing is loaded.
+abbrev pub IsNotLoaded : Loaded → Answer → Type 0
+IsNotLoaded loaded answer = (answer ≡ plain 7) × HoldsNone loaded
+
+-- What a call that asks returns, where this is found or it fails so, unless nothing is loaded.
+abbrev pub RepliesLoaded : {T : Type 0} → Loaded → (Answer → List T → Type 0)
+    → (Answer → Type 0) → Buffer T → Answer → Type 0
+RepliesLoaded loaded Found Fails = Replies Found (λ told. Fails told ⊎ IsNotLoaded loaded told)
+
+-- What is said of each file whose index is loaded; of its packages.
+abbrev pub OfIndex : Loaded → (List ℕ → Type 0) → Type 0
+OfIndex loaded Says = (text : List ℕ) → HoldsIndex text loaded → Says text
+
+abbrev pub OfPackages : Loaded → (List Listed → Type 0) → Type 0
+OfPackages loaded Says = (packages : List Listed) → HasPackages loaded packages → Says packages
+
+-- A query; what a file has that is unmet.
+abbrev pub AsksQuery : Detail → Question → Loaded → Buffer ℕ → Answer → Type 0
+AsksQuery detail q loaded =
+    RepliesLoaded loaded (Reports detail q (OfIndex loaded)) (QueryFails q (OfIndex loaded))
+
+abbrev pub AsksUnmet : ℕ → Bool → (List ℕ → Asker) → List ℕ → Loaded → Buffer ℕ → Answer
+    → Type 0
+AsksUnmet kind recommends by file loaded =
+    RepliesLoaded loaded (ListsUnmet kind recommends by (OfIndex loaded) file)
+    (UnmetFails kind recommends by (OfIndex loaded) file)
+
+-- The numbers of its packages that pass a test.
+abbrev pub AsksNumbers : (Listed → Bool) → Loaded → Buffer ℕ → Answer → Type 0
+AsksNumbers test loaded =
+    RepliesLoaded loaded
+    (λ told numbers. (told ≡ plain 0)
+    × OfPackages loaded (λ packages. numbers ≡ numbers_of test packages))
+    (λ told. ⊥)
+
+-- A package by its number: its words are found; or there is none, or memory is out.
+abbrev pub NoPackage : ℕ → Loaded → Answer → Type 0
+NoPackage number loaded answer =
+    ((answer ≡ plain 1) × OfPackages loaded (λ packages. package_at number packages ≡ None))
+    ⊎ (answer ≡ plain 5)
+
+abbrev pub AsksPackage : ℕ → Loaded → Buffer ℕ → Answer → Type 0
+AsksPackage number loaded =
+    RepliesLoaded loaded
+    (λ told bytes. (told ≡ plain 0)
+    × OfPackages loaded (λ packages. HasWords number packages bytes))
+    (NoPackage number loaded)

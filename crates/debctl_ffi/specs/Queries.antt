@@ -1,6 +1,6 @@
 -- What is answered of a relation and an index to a program in C: Debian Policy 7.1 and 7.5. The
 -- order of refusals and the report's form are this project's own.
-use Rattle.std.specs.Prelude.{◌≡◌, ℕ, Bool, IsFalse, IsTrue, List, refl}
+use Rattle.std.specs.Prelude.{◌≡◌, ◌⊎◌, ℕ, Bool, true, false, IsFalse, IsTrue, List, refl}
 use Rattle.deb_base.specs.declared.refusal.Refusal.{Refusal}
 use Rattle.deb_relation.specs.Applying.{Environment}
 use Rattle.deb_relation.specs.Meaning.{Relation}
@@ -11,8 +11,7 @@ use Rattle.deb_index.specs.Questions.{bad_relation, environment_in, wildcard}
 use Rattle.deb_index.specs.Reports.{Answer as GroupAnswer, all_met, report}
 use Rattle.deb_index.specs.ReportText.{report_text}
 use Rattle.deb_index.specs.Why.{detailed_report, detailed_text}
-use Rattle.debctl_ffi.specs.Answers.{refusing}
-use Rattle.debctl_ffi.specs.Buffers.{Gives, LacksRoom}
+use Rattle.debctl_ffi.specs.Answers.{plain, refusing}
 use Rattle.debctl_ffi.specs.declared.answer.Answer.{Answer}
 use Rattle.debctl_ffi.specs.declared.report.Detail.{Detail}
 use Rattle.debctl_ffi.specs.declared.report.Detail.TheVariants.{Reasons, Verdicts}
@@ -72,16 +71,18 @@ pub record IsRefusedQuery (q : Question) (text : List ℕ) (answer : Answer) : T
   pub refused : RefusesQuery q text refusal
   pub is : answer ≡ refusing 2 refusal
 
--- The report is given; or there is no room for it.
-pub record GivesReport (detail : Detail) (q : Question) (text : List ℕ) (met : Bool)
-    (before after : List ℕ) (len : ℕ) : Type 0 where
-  pub bytes : List ℕ
-  pub reports : ReportsOn detail q text met bytes
-  pub gives : Gives bytes before after len
+-- What is said of a file that is given as a text.
+abbrev pub OfText : List ℕ → (List ℕ → Type 0) → Type 0
+OfText text Says = Says text
 
-pub record LacksRoomForReport (detail : Detail) (q : Question) (text before after : List ℕ)
-    (len : ℕ) : Type 0 where
-  pub met : Bool
-  pub bytes : List ℕ
-  pub reports : ReportsOn detail q text met bytes
-  pub lacks : LacksRoom bytes before after len
+-- These are the answer and the report: no group is unmet, or one is. `Each` says which files the
+-- index is read from.
+abbrev pub Reports : Detail → Question → ((List ℕ → Type 0) → Type 0) → Answer → List ℕ → Type 0
+Reports detail q Each told bytes =
+    ((told ≡ plain 0) × Each (λ text. ReportsOn detail q text true bytes))
+    ⊎ ((told ≡ plain 1) × Each (λ text. ReportsOn detail q text false bytes))
+
+-- The query is refused, or memory is out.
+abbrev pub QueryFails : Question → ((List ℕ → Type 0) → Type 0) → Answer → Type 0
+QueryFails q Each answer =
+    ((answer.status ≡ 2) × Each (λ text. IsRefusedQuery q text answer)) ⊎ (answer ≡ plain 5)

@@ -1,10 +1,13 @@
 -- What is answered to a program in C of the rows of a text that this library wrote. The numbers of
 -- the forms are this project's own.
-use Rattle.std.specs.Prelude.{◌≡◌, ℕ, ◌≤◌, List, [], ◌∷◌, map, refl}
+use Rattle.std.specs.Prelude.{◌≡◌, ◌⊎◌, ℕ, ◌≤◌, List, [], ◌∷◌, map, refl}
 use Rattle.deb_rows.specs.Calls.{IsOther, LacksRoom, Reads}
 use Rattle.deb_rows.specs.declared.form.Form.{Form}
 use Rattle.deb_rows.specs.declared.form.Form.TheVariants.{DiffLines, Explanation, Report, UnmetLines}
 use Rattle.deb_rows.specs.declared.row.Row.{Row}
+use Rattle.debctl_ffi.specs.Answers.{plain}
+use Rattle.debctl_ffi.specs.Buffers.{Buffer, GivesNothing}
+use Rattle.debctl_ffi.specs.declared.answer.Answer.{Answer}
 
 -- ---- forms
 
@@ -28,23 +31,20 @@ other_numbers = (refl, refl)
 
 -- ---- answers
 
--- The rows of the text are given.
-pub record GivesRows (number : ℕ) (text : List ℕ) (before after : List Row) (count : ℕ)
-    : Type 0 where
+-- The number is that of a form, of which this holds.
+pub record OfForm (number : ℕ) (Says : Form → Type 0) : Type 0 where
   pub form : Form
   pub is_form : number ≡ form_number form
-  pub reads : Reads form text before after count
+  pub says : Says form
 
--- There is no room for them.
-pub record LacksRoomForTable (number : ℕ) (text : List ℕ) (before after : List Row) (count : ℕ)
-    : Type 0 where
-  pub form : Form
-  pub is_form : number ≡ form_number form
-  pub lacks : LacksRoom form text before after count
-
--- The text has no rows of this form.
-pub record HasNoRows (number : ℕ) (text : List ℕ) (before after : List Row) (count : ℕ)
-    : Type 0 where
-  pub form : Form
-  pub is_form : number ≡ form_number form
-  pub other : IsOther form text before after count
+-- The rows of the text are given; or it has no rows of this form; or there is no room for them; or
+-- there is no such form.
+abbrev pub ReadsRows : ℕ → List ℕ → Buffer Row → Answer → Type 0
+ReadsRows number text into answer =
+    ((answer ≡ plain 0)
+    × OfForm number (λ form. Reads form text into.before into.after into.len))
+    ⊎ ((answer ≡ plain 1)
+    × OfForm number (λ form. IsOther form text into.before into.after into.len))
+    ⊎ ((answer ≡ plain 4)
+    × OfForm number (λ form. LacksRoom form text into.before into.after into.len))
+    ⊎ ((answer ≡ plain 6) × IsNoForm number × GivesNothing into)

@@ -19,8 +19,7 @@ use Rattle.deb_unmet.specs.declared.asked.Asked.{Asked}
 use Rattle.deb_unmet.specs.declared.asked.Asked.TheVariants as asked
 use Rattle.deb_unmet.specs.declared.asked.Strength.TheVariants.{Depends, Recommends}
 use Rattle.deb_unmet.specs.declared.asking.Summary.{Summary}
-use Rattle.debctl_ffi.specs.Answers.{refusing}
-use Rattle.debctl_ffi.specs.Buffers.{Gives, LacksRoom}
+use Rattle.debctl_ffi.specs.Answers.{counting, plain, refusing}
 use Rattle.debctl_ffi.specs.Documents.{kind_number}
 use Rattle.debctl_ffi.specs.declared.answer.Answer.{Answer}
 
@@ -121,42 +120,43 @@ pub record HasLines (asks : Asked) (environment : Environment) (packages : List 
       ≡ file_lines (asks_of (request_for asks Canonical) environment packages) text meaning
   pub is_empty : summary.is_empty ≡ is_nothing bytes
 
--- All are accepted, and the lines of the file are given, of which there is none, or is one; or
--- there is no room for them.
-pub record GivesLines (kind : ℕ) (recommends : Bool) (by : Asker) (text : List ℕ) (empty : Bool)
-    (before after : List ℕ) (len : ℕ) (answer : Answer) : Type 0 where
+-- ---- answers
+
+-- The numbers ask something, of which this holds.
+pub record OfAsked (kind : ℕ) (recommends : Bool) (Says : Asked → Type 0) : Type 0 where
   pub asks : Asked
   pub is_asked : IsAsked kind recommends asks
+  pub says : Says asks
+
+-- All are accepted, and these are the lines of the file, of which there is none, or is one; the
+-- answer has the number of its paragraphs.
+pub record IsUnmet (by : Asker) (text : List ℕ) (empty : Bool) (told : Answer) (bytes : List ℕ)
+    (asks : Asked) : Type 0 where
   pub packages : List Listed
   pub good : IsGoodAsker by packages
   pub summary : Summary
-  pub bytes : List ℕ
   pub has : HasLines asks (environment_in by) packages text summary bytes
   pub empty_is : summary.is_empty ≡ empty
-  pub gives : Gives bytes before after len
-  pub count : answer.count ≡ summary.paragraphs
+  pub count : told.count ≡ summary.paragraphs
 
-pub record LacksRoomForUnmet (kind : ℕ) (recommends : Bool) (by : Asker)
-    (text before after : List ℕ) (len : ℕ) : Type 0 where
-  pub asks : Asked
-  pub is_asked : IsAsked kind recommends asks
-  pub packages : List Listed
-  pub good : IsGoodAsker by packages
-  pub summary : Summary
-  pub bytes : List ℕ
-  pub has : HasLines asks (environment_in by) packages text summary bytes
-  pub lacks : LacksRoom bytes before after len
+-- There is no line, or there is one. `by` is what asks, for the file of an index, and `Each` says
+-- which files that is.
+abbrev pub ListsUnmet : ℕ → Bool → (List ℕ → Asker) → ((List ℕ → Type 0) → Type 0) → List ℕ
+    → Answer → List ℕ → Type 0
+ListsUnmet kind recommends by Each text told bytes =
+    ((told ≡ counting 0 told.count) × Each (λ index. OfAsked kind recommends
+    (λ asks. IsUnmet (by index) text true told bytes asks)))
+    ⊎ ((told ≡ counting 1 told.count) × Each (λ index. OfAsked kind recommends
+    (λ asks. IsUnmet (by index) text false told bytes asks)))
 
--- The environment or the index is refused.
-pub record RefusesFirst (kind : ℕ) (recommends : Bool) (by : Asker) (answer : Answer) : Type 0
-  where
-    pub asks : Asked
-    pub is_asked : IsAsked kind recommends asks
-    pub refused : IsRefusedAsker by answer
-
--- They are accepted, and the file is refused.
-pub record RefusesFile (kind : ℕ) (recommends : Bool) (by : Asker) (text : List ℕ)
-    (answer : Answer) : Type 0 where
-  pub asks : Asked
-  pub is_asked : IsAsked kind recommends asks
-  pub refused : IsRefusedFile asks by text answer
+-- The environment or the index is refused; or they are accepted, and the file is refused; or memory
+-- is out; or the numbers ask nothing.
+abbrev pub UnmetFails : ℕ → Bool → (List ℕ → Asker) → ((List ℕ → Type 0) → Type 0) → List ℕ
+    → Answer → Type 0
+UnmetFails kind recommends by Each text answer =
+    ((answer.status ≡ 2) × Each (λ index. OfAsked kind recommends
+    (λ asks. IsRefusedAsker (by index) answer)))
+    ⊎ ((answer.status ≡ 3) × Each (λ index. OfAsked kind recommends
+    (λ asks. IsRefusedFile asks (by index) text answer)))
+    ⊎ (answer ≡ plain 5)
+    ⊎ ((answer ≡ plain 6) × AsksNothing kind recommends)

@@ -1,6 +1,6 @@
 -- What is answered of versions to a program in C: Debian Policy 5.6.12 and deb-version(7). The
 -- numbers of the orders are this project's own.
-use Rattle.std.specs.Prelude.{◌≡◌, ℕ, List, ℤ, pos, negsuc, refl}
+use Rattle.std.specs.Prelude.{◌≡◌, ◌⊎◌, ℕ, List, ℤ, pos, negsuc, refl}
 use Rattle.std.specs.declared.cmp.Ordering.{Ordering}
 use Rattle.std.specs.declared.cmp.Ordering.TheVariants.{Less, Equal, Greater}
 use Rattle.deb_base.specs.declared.code.Code.TheVariants.{BadVersion}
@@ -11,8 +11,8 @@ use Rattle.deb_version.specs.KeyLaws.{SortsAsItsVersion}
 use Rattle.deb_version.specs.Keys.{version_key}
 use Rattle.deb_version.specs.Order.{version_cmp}
 use Rattle.deb_version.specs.Parts.{Meaning}
-use Rattle.debctl_ffi.specs.Answers.{refusing}
-use Rattle.debctl_ffi.specs.Buffers.{Gives, LacksRoom}
+use Rattle.debctl_ffi.specs.Answers.{counting, plain, refusing}
+use Rattle.debctl_ffi.specs.declared.answer.Answer.{Answer}
 use Rattle.debctl_ffi.specs.declared.versions.Comparison.{Comparison}
 
 -- The text is a version; it is none, and its refusal.
@@ -52,26 +52,21 @@ pub record Compares (left right : List ℕ) (comparison : Comparison) : Type 0 w
   pub second_spelled : SpellsVersion right second
   pub is : comparison ≡ comparing 0 0 (version_cmp first second)
 
--- The text is a version, and its canonical text is given; or there is no room for that.
-pub record GivesCanonical (text before after : List ℕ) (len : ℕ) : Type 0 where
+-- The text is a version, and this is its canonical text; or its key, which sorts as the version does.
+pub record IsCanonical (text : List ℕ) (told : Answer) (bytes : List ℕ) : Type 0 where
   pub version : Meaning
   pub spelled : SpellsVersion text version
-  pub gives : Gives (version_text version) before after len
+  pub text_is : bytes ≡ version_text version
+  pub is : told ≡ counting 0 0
 
-pub record LacksRoomForCanonical (text before after : List ℕ) (len : ℕ) : Type 0 where
-  pub version : Meaning
-  pub spelled : SpellsVersion text version
-  pub lacks : LacksRoom (version_text version) before after len
-
--- The text is a version, and its key is given, which sorts as the version does; or there is no room
--- for the key.
-pub record GivesKey (text before after : List ℕ) (len : ℕ) : Type 0 where
+pub record IsKey (text : List ℕ) (told : Answer) (bytes : List ℕ) : Type 0 where
   pub version : Meaning
   pub spelled : SpellsVersion text version
   pub sorts : SortsAsItsVersion version
-  pub gives : Gives (version_key version) before after len
+  pub key_is : bytes ≡ version_key version
+  pub is : told ≡ counting 0 0
 
-pub record LacksRoomForKey (text before after : List ℕ) (len : ℕ) : Type 0 where
-  pub version : Meaning
-  pub spelled : SpellsVersion text version
-  pub lacks : LacksRoom (version_key version) before after len
+-- It isn't one; or it is, and memory is out.
+abbrev pub VersionFails : List ℕ → Answer → Type 0
+VersionFails text answer =
+    ((answer ≡ refusing 2 bad_version) × IsNoVersion text) ⊎ ((answer ≡ plain 5) × IsVersion text)

@@ -1,13 +1,14 @@
 //! All refusals of a file, for programs in C.
 
-ghost use Rattle.std.specs.Prelude.{◌≡◌, ◌∷◌, []};
-ghost use Rattle.debctl_ffi.specs.AllRefusals.{ChecksAccepted, ChecksRefused, ExplainsAll, ExplainsNone, LacksRoomForAllLines, LacksRoomForRows};
-ghost use Rattle.debctl_ffi.specs.Answers.{HasStatus, plain};
-ghost use Rattle.debctl_ffi.specs.Buffers.{GivesNothing};
-ghost use Rattle.debctl_ffi.specs.Documents.{IsKind, IsNoKind};
+ghost use Rattle.std.specs.Prelude.{[], ◌∷◌};
+ghost use Rattle.debctl_ffi.specs.AllRefusals.{ChecksAll, ExplainsAll};
+ghost use Rattle.debctl_ffi.specs.Answers.{HasStatus};
+ghost use Rattle.debctl_ffi.specs.Buffers.{buffer};
+ghost use Rattle.debctl_ffi.specs.Documents.{KindFails};
+ghost use Rattle.debctl_ffi.specs.Replies.{Replies};
 
-use crate::answer::{Answer, no_kind, no_memory, no_room};
-use crate::buffer::give;
+use crate::answer::{Answer, no_kind, no_memory};
+use crate::buffer::reply;
 use crate::kind::kind_of;
 use crate::read_refusals::{text_explanations, text_refusals};
 use crate::refusal_row::RefusalRow;
@@ -28,16 +29,8 @@ pub extern "C" fn deb_check_all(
     refusals: &mut [RefusalRow],
     count: &mut usize,
 ) -> Answer
-    ensures accepted { result.status ≡ 0
-        → ChecksAccepted kind text.now refusals.old refusals.new count.new result }
-    ensures refused { result.status ≡ 2
-        → ChecksRefused kind text.now refusals.old refusals.new count.new result }
-    ensures no_room { result.status ≡ 4 → (result ≡ plain 4)
-        × LacksRoomForRows kind text.now refusals.old refusals.new count.new }
-    ensures no_memory { result.status ≡ 5 → (result ≡ plain 5) × IsKind kind
-        × GivesNothing refusals.old refusals.new count.new }
-    ensures no_kind { result.status ≡ 6 → (result ≡ plain 6) × IsNoKind kind
-        × GivesNothing refusals.old refusals.new count.new }
+    ensures answers { Replies (ChecksAll kind text.now) (KindFails kind)
+        (buffer refusals.old refusals.new count.new) result }
     ensures status { HasStatus result.status (0 ∷ 2 ∷ 4 ∷ 5 ∷ 6 ∷ []) }
 {
     *count = 0;
@@ -45,13 +38,7 @@ pub extern "C" fn deb_check_all(
         return no_kind();
     };
     match text_refusals(alloc, doc, text) {
-        Ok((answer, rows)) => {
-            if give(&rows, refusals, count) {
-                answer
-            } else {
-                no_room()
-            }
-        }
+        Ok((answer, rows)) => reply(answer, &rows, refusals, count),
         Err(_) => no_memory(),
     }
 }
@@ -72,16 +59,8 @@ pub extern "C" fn deb_explain_all(
     out: &mut [u8],
     len: &mut usize,
 ) -> Answer
-    ensures accepted { result.status ≡ 0
-        → ExplainsNone kind text.now out.old out.new len.new result }
-    ensures refused { result.status ≡ 2
-        → ExplainsAll kind text.now out.old out.new len.new result }
-    ensures no_room { result.status ≡ 4 → (result ≡ plain 4)
-        × LacksRoomForAllLines kind text.now out.old out.new len.new }
-    ensures no_memory { result.status ≡ 5 → (result ≡ plain 5) × IsKind kind
-        × GivesNothing out.old out.new len.new }
-    ensures no_kind { result.status ≡ 6 → (result ≡ plain 6) × IsNoKind kind
-        × GivesNothing out.old out.new len.new }
+    ensures answers { Replies (ExplainsAll kind text.now) (KindFails kind)
+        (buffer out.old out.new len.new) result }
     ensures status { HasStatus result.status (0 ∷ 2 ∷ 4 ∷ 5 ∷ 6 ∷ []) }
 {
     *len = 0;
@@ -89,13 +68,7 @@ pub extern "C" fn deb_explain_all(
         return no_kind();
     };
     match text_explanations(alloc, doc, text) {
-        Ok((answer, lines)) => {
-            if give(&lines, out, len) {
-                answer
-            } else {
-                no_room()
-            }
-        }
+        Ok((answer, lines)) => reply(answer, &lines, out, len),
         Err(_) => no_memory(),
     }
 }

@@ -1,18 +1,16 @@
 //! What a loaded index keeps of a package, for programs in C.
 
-ghost use Rattle.std.specs.Prelude.{◌≡◌, [], ◌∷◌, ◌++◌, ℕ, List, None, IfOk};
+ghost use Rattle.std.specs.Prelude.{◌≡◌, [], ◌∷◌, IfOk};
 ghost use types.Logic.{sem};
 ghost use Rattle.deb_index.specs.Kept.{listed_of};
 ghost use Rattle.deb_index.specs.KeptTexts.{kept_text};
-ghost use Rattle.deb_index.specs.Listed.{Listed};
-ghost use Rattle.deb_index.specs.Named.{package_at};
-ghost use Rattle.debctl_ffi.specs.Answers.{HasStatus, plain};
-ghost use Rattle.debctl_ffi.specs.Buffers.{GivesNothing};
-ghost use Rattle.debctl_ffi.specs.Details.{GivesDetails, LacksRoomForDetails, at_line};
-ghost use Rattle.debctl_ffi.specs.Loads.{HasLines, HasPackages, HoldsNone, Loan, lies_lent, loaded_of, share_of};
+ghost use Rattle.debctl_ffi.specs.Answers.{HasStatus};
+ghost use Rattle.debctl_ffi.specs.Buffers.{buffer};
+ghost use Rattle.debctl_ffi.specs.Details.{AsksDetails, at_line};
+ghost use Rattle.debctl_ffi.specs.Loads.{HoldsNone, Loan, lies_lent, loaded_of, share_of};
 
-use crate::answer::{Answer, no, no_index, no_memory, no_room, yes};
-use crate::buffer::give;
+use crate::answer::{Answer, no, no_index, no_memory, yes};
+use crate::buffer::reply;
 use crate::loaded::Loaded;
 use deb_index::Package;
 use std::alloc::{AllocError, Global};
@@ -30,20 +28,8 @@ pub unsafe extern "C" fn deb_index_details(
     ghost loan: { Loan }
     requires* lent { sem 𝓛 (share_of loan) ∗ sem 𝓛 (lies_lent index loan) }
     ensures* share { sem 𝓛 (share_of loan) }
-    ensures found { (packages : List Listed) (lines : List ℕ)
-        → HasPackages (loaded_of loan) packages → HasLines (loaded_of loan) lines
-        → result.status ≡ 0
-        → GivesDetails number packages lines out.old out.new len.new result }
-    ensures none { (packages : List Listed) → HasPackages (loaded_of loan) packages
-        → result.status ≡ 1 → (result ≡ plain 1) × (package_at number packages ≡ None)
-        × GivesNothing out.old out.new len.new }
-    ensures no_room { (packages : List Listed) → HasPackages (loaded_of loan) packages
-        → result.status ≡ 4 → (result ≡ plain 4)
-        × LacksRoomForDetails number packages out.old out.new len.new }
-    ensures no_memory { result.status ≡ 5 → (result ≡ plain 5)
-        × GivesNothing out.old out.new len.new }
-    ensures no_index { result.status ≡ 7 → (result ≡ plain 7) × HoldsNone (loaded_of loan)
-        × GivesNothing out.old out.new len.new }
+    ensures answers { AsksDetails number (loaded_of loan)
+        (buffer out.old out.new len.new) result }
     ensures none_held { HoldsNone (loaded_of loan) → result.status ≡ 7 }
     ensures status { HasStatus result.status (0 ∷ 1 ∷ 4 ∷ 5 ∷ 7 ∷ []) }
 {
@@ -52,19 +38,7 @@ pub unsafe extern "C" fn deb_index_details(
 
 /// The answer of [`deb_index_details`].
 fn details_at(loaded: &Loaded, number: u64, out: &mut [u8], len: &mut usize) -> Answer
-    ensures found { (packages : List Listed) (lines : List ℕ) → HasPackages loaded.now packages
-        → HasLines loaded.now lines → result.status ≡ 0
-        → GivesDetails number packages lines out.old out.new len.new result }
-    ensures none { (packages : List Listed) → HasPackages loaded.now packages
-        → result.status ≡ 1 → (result ≡ plain 1) × (package_at number packages ≡ None)
-        × GivesNothing out.old out.new len.new }
-    ensures no_room { (packages : List Listed) → HasPackages loaded.now packages
-        → result.status ≡ 4 → (result ≡ plain 4)
-        × LacksRoomForDetails number packages out.old out.new len.new }
-    ensures no_memory { result.status ≡ 5 → (result ≡ plain 5)
-        × GivesNothing out.old out.new len.new }
-    ensures no_index { result.status ≡ 7 → (result ≡ plain 7) × HoldsNone loaded.now
-        × GivesNothing out.old out.new len.new }
+    ensures answers { AsksDetails number loaded.now (buffer out.old out.new len.new) result }
     ensures none_held { HoldsNone loaded.now → result.status ≡ 7 }
     ensures status { HasStatus result.status (0 ∷ 1 ∷ 4 ∷ 5 ∷ 7 ∷ []) }
 {
@@ -76,13 +50,7 @@ fn details_at(loaded: &Loaded, number: u64, out: &mut [u8], len: &mut usize) -> 
         return no();
     };
     match details_of(loaded.alloc, &found) {
-        Ok(details) => {
-            if give(&details, out, len) {
-                at_line(found.line())
-            } else {
-                no_room()
-            }
-        }
+        Ok(details) => reply(at_line(found.line()), &details, out, len),
         Err(AllocError) => no_memory(),
     }
 }

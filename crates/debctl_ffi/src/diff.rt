@@ -1,16 +1,15 @@
 //! What changed between two files, for programs in C.
 
-ghost use Rattle.std.specs.Prelude.{◌≡◌, true, false, [], ◌∷◌, IfErr, IfNone, IfOk, IfSome};
-ghost use Rattle.std.specs.Prelude.{◌≤◌};
-ghost use Rattle.debctl_ffi.specs.Answers.{HasStatus, plain};
-ghost use Rattle.debctl_ffi.specs.Buffers.{GivesNothing};
-ghost use Rattle.debctl_ffi.specs.Diffs.{ComparesNothing, GivesDiff, HasDiff, IsDiffRefusal};
-ghost use Rattle.debctl_ffi.specs.Diffs.{LacksRoomForDiff, RefusesNew, RefusesOld, detail_number};
+ghost use Rattle.std.specs.Prelude.{◌≡◌, ◌≤◌, [], ◌∷◌, IfErr, IfNone, IfOk, IfSome};
+ghost use Rattle.debctl_ffi.specs.Answers.{HasStatus};
+ghost use Rattle.debctl_ffi.specs.Buffers.{buffer};
+ghost use Rattle.debctl_ffi.specs.Diffs.{ComparesNothing, DiffFails, Differs, HasDiff, IsDiffRefusal, detail_number};
 ghost use Rattle.debctl_ffi.specs.Documents.{kind_number};
+ghost use Rattle.debctl_ffi.specs.Replies.{Replies};
 ghost use Rattle.deb_diff.specs.Kinds.{doc_of};
 
-use crate::answer::{Answer, no, no_kind, no_memory, no_room, refused, second_refused, yes};
-use crate::buffer::give;
+use crate::answer::{Answer, no, no_kind, no_memory, refused, second_refused, yes};
+use crate::buffer::reply;
 use deb_base::{Fault, SliceSource, VecSink, VersionText};
 use deb_control::{Side, SideFault};
 use deb_diff::{Detail, Form, Kind, diff};
@@ -36,20 +35,8 @@ pub extern "C" fn deb_diff(
     out: &mut [u8],
     len: &mut usize,
 ) -> Answer
-    ensures none { result.status ≡ 0 → (result ≡ plain 0)
-        × GivesDiff kind detail text.now other.now true out.old out.new len.new }
-    ensures lines { result.status ≡ 1 → (result ≡ plain 1)
-        × GivesDiff kind detail text.now other.now false out.old out.new len.new }
-    ensures first_refused { result.status ≡ 2 → RefusesOld kind detail text.now result
-        × GivesNothing out.old out.new len.new }
-    ensures second_refused { result.status ≡ 3
-        → RefusesNew kind detail text.now other.now result × GivesNothing out.old out.new len.new }
-    ensures no_room { result.status ≡ 4 → (result ≡ plain 4)
-        × LacksRoomForDiff kind detail text.now other.now out.old out.new len.new }
-    ensures no_memory { result.status ≡ 5 → (result ≡ plain 5)
-        × GivesNothing out.old out.new len.new }
-    ensures no_kind { result.status ≡ 6 → (result ≡ plain 6) × ComparesNothing kind detail
-        × GivesNothing out.old out.new len.new }
+    ensures answers { Replies (Differs kind detail text.now other.now)
+        (DiffFails kind detail text.now other.now) (buffer out.old out.new len.new) result }
     ensures unknown_kind { ComparesNothing kind detail → result.status ≡ 6 }
     ensures status { HasStatus result.status (0 ∷ 1 ∷ 2 ∷ 3 ∷ 4 ∷ 5 ∷ 6 ∷ []) }
 {
@@ -61,12 +48,8 @@ pub extern "C" fn deb_diff(
         return no_kind();
     };
     match diff_texts(alloc, of, how, text, other) {
-        Ok((is_empty, lines)) => {
-            if !give(&lines, out, len) {
-                return no_room();
-            }
-            if is_empty { yes(0) } else { no() }
-        }
+        Ok((true, lines)) => reply(yes(0), &lines, out, len),
+        Ok((false, lines)) => reply(no(), &lines, out, len),
         Err(failed) => match failed.fault {
             Fault::Refused(refusal) => match failed.side {
                 Side::First => refused(&refusal),

@@ -1,13 +1,14 @@
 //! The functions on files, for programs in C.
 
-ghost use Rattle.std.specs.Prelude.{◌≡◌, true, false, [], ◌∷◌};
-ghost use Rattle.debctl_ffi.specs.Answers.{HasStatus, plain};
-ghost use Rattle.debctl_ffi.specs.Buffers.{GivesNothing};
-ghost use Rattle.debctl_ffi.specs.Documents.{IsAccepted, IsKind, IsNoKind, IsRefused, IsSame, LacksRoomForFile, Normalises, RefusesOther};
-ghost use Rattle.debctl_ffi.specs.Explaining.{ExplainsAccepted, ExplainsRefused, LacksRoomForLines};
+ghost use Rattle.std.specs.Prelude.{[], ◌∷◌};
+ghost use Rattle.debctl_ffi.specs.Answers.{HasStatus};
+ghost use Rattle.debctl_ffi.specs.Buffers.{buffer};
+ghost use Rattle.debctl_ffi.specs.Documents.{ChecksFile, ComparesFiles, FileFails, KindFails, Normalises};
+ghost use Rattle.debctl_ffi.specs.Explaining.{Explains};
+ghost use Rattle.debctl_ffi.specs.Replies.{Replies};
 
-use crate::answer::{Answer, no, no_kind, no_memory, no_room, refused, second_refused, yes};
-use crate::buffer::give;
+use crate::answer::{Answer, no, no_kind, no_memory, refused, second_refused, yes};
+use crate::buffer::reply;
 use crate::explanation::explain_text;
 use crate::files::{check_text, normalise_text, same_texts};
 use crate::kind::kind_of;
@@ -19,10 +20,7 @@ use std::alloc::Global;
 /// its paragraphs. 2: it is refused, with its first refusal. 5: out of memory. 6: no such kind.
 #[unsafe(no_mangle)]
 pub extern "C" fn deb_check(alloc: Global, kind: u8, text: &[u8]) -> Answer
-    ensures accepted { result.status ≡ 0 → IsAccepted kind text.now result }
-    ensures refused { result.status ≡ 2 → IsRefused kind text.now result }
-    ensures no_memory { result.status ≡ 5 → (result ≡ plain 5) × IsKind kind }
-    ensures no_kind { result.status ≡ 6 → (result ≡ plain 6) × IsNoKind kind }
+    ensures answers { ChecksFile kind text.now result }
     ensures status { HasStatus result.status (0 ∷ 2 ∷ 5 ∷ 6 ∷ []) }
 {
     let Some(doc) = kind_of(kind) else {
@@ -48,16 +46,8 @@ pub extern "C" fn deb_normalise(
     out: &mut [u8],
     len: &mut usize,
 ) -> Answer
-    ensures accepted { result.status ≡ 0
-        → Normalises kind text.now out.old out.new len.new result }
-    ensures refused { result.status ≡ 2 → IsRefused kind text.now result
-        × GivesNothing out.old out.new len.new }
-    ensures no_room { result.status ≡ 4 → (result ≡ plain 4)
-        × LacksRoomForFile kind text.now out.old out.new len.new }
-    ensures no_memory { result.status ≡ 5 → (result ≡ plain 5) × IsKind kind
-        × GivesNothing out.old out.new len.new }
-    ensures no_kind { result.status ≡ 6 → (result ≡ plain 6) × IsNoKind kind
-        × GivesNothing out.old out.new len.new }
+    ensures answers { Replies (Normalises kind text.now) (FileFails kind text.now)
+        (buffer out.old out.new len.new) result }
     ensures status { HasStatus result.status (0 ∷ 2 ∷ 4 ∷ 5 ∷ 6 ∷ []) }
 {
     *len = 0;
@@ -65,13 +55,7 @@ pub extern "C" fn deb_normalise(
         return no_kind();
     };
     match normalise_text(alloc, doc, text) {
-        Ok((count, canonical)) => {
-            if give(&canonical, out, len) {
-                yes(count)
-            } else {
-                no_room()
-            }
-        }
+        Ok((count, canonical)) => reply(yes(count), &canonical, out, len),
         Err(Fault::Refused(refusal)) => refused(&refusal),
         Err(_) => no_memory(),
     }
@@ -92,16 +76,8 @@ pub extern "C" fn deb_explain(
     out: &mut [u8],
     len: &mut usize,
 ) -> Answer
-    ensures accepted { result.status ≡ 0
-        → ExplainsAccepted kind text.now out.old out.new len.new result }
-    ensures refused { result.status ≡ 2
-        → ExplainsRefused kind text.now out.old out.new len.new result }
-    ensures no_room { result.status ≡ 4 → (result ≡ plain 4)
-        × LacksRoomForLines kind text.now out.old out.new len.new }
-    ensures no_memory { result.status ≡ 5 → (result ≡ plain 5) × IsKind kind
-        × GivesNothing out.old out.new len.new }
-    ensures no_kind { result.status ≡ 6 → (result ≡ plain 6) × IsNoKind kind
-        × GivesNothing out.old out.new len.new }
+    ensures answers { Replies (Explains kind text.now) (KindFails kind)
+        (buffer out.old out.new len.new) result }
     ensures status { HasStatus result.status (0 ∷ 2 ∷ 4 ∷ 5 ∷ 6 ∷ []) }
 {
     *len = 0;
@@ -109,13 +85,7 @@ pub extern "C" fn deb_explain(
         return no_kind();
     };
     match explain_text(alloc, doc, text) {
-        Ok((answer, lines)) => {
-            if give(&lines, out, len) {
-                answer
-            } else {
-                no_room()
-            }
-        }
+        Ok((answer, lines)) => reply(answer, &lines, out, len),
         Err(_) => no_memory(),
     }
 }
@@ -125,12 +95,7 @@ pub extern "C" fn deb_explain(
 /// is refused, with its first refusal. 5: out of memory. 6: no such kind.
 #[unsafe(no_mangle)]
 pub extern "C" fn deb_same(alloc: Global, kind: u8, text: &[u8], other: &[u8]) -> Answer
-    ensures yes { result.status ≡ 0 → (result ≡ plain 0) × IsSame kind text.now other.now true }
-    ensures no { result.status ≡ 1 → (result ≡ plain 1) × IsSame kind text.now other.now false }
-    ensures first_refused { result.status ≡ 2 → IsRefused kind text.now result }
-    ensures second_refused { result.status ≡ 3 → RefusesOther kind text.now other.now result }
-    ensures no_memory { result.status ≡ 5 → (result ≡ plain 5) × IsKind kind }
-    ensures no_kind { result.status ≡ 6 → (result ≡ plain 6) × IsNoKind kind }
+    ensures answers { ComparesFiles kind text.now other.now result }
     ensures status { HasStatus result.status (0 ∷ 1 ∷ 2 ∷ 3 ∷ 5 ∷ 6 ∷ []) }
 {
     let Some(doc) = kind_of(kind) else {

@@ -8,7 +8,8 @@ ghost use prog.Memory.{capped, size};
 ghost use types.Logic.{sem};
 ghost use Rattle.debctl_ffi.specs.Answers.{HasStatus, plain};
 ghost use Rattle.debctl_ffi.specs.Feeds.{FeedsOn, Loan, Starts, lies_lent, reader_of, share_of};
-ghost use Rattle.debctl_ffi.specs.Fields.{GivesTables, LacksTables, Numbered, buffer, room};
+ghost use Rattle.debctl_ffi.specs.Buffers.{buffer};
+ghost use Rattle.debctl_ffi.specs.Fields.{Numbered, RepliesTables, room};
 ghost use Rattle.debctl_ffi.specs.Tables.{HasTables};
 ghost use Rattle.debctl_ffi.specs.Unmet.{is_set};
 ghost use Rattle.debctl_ffi.specs.contracts.reader.Reader.{the_row};
@@ -88,16 +89,11 @@ pub unsafe extern "C" fn deb_reader_fields(
     ghost loan: { Loan }
     requires* lent { sem 𝓛 (share_of loan) ∗ sem 𝓛 (lies_lent reader loan) }
     ensures* share { sem 𝓛 (share_of loan) }
-    ensures given { (shown : List Numbered) → HasTables (reader_of loan).tables shown
-        → result.status ≡ 0 → (result ≡ plain 0) × GivesTables shown
+    ensures tables { (shown : List Numbered) → HasTables (reader_of loan).tables shown
+        → RepliesTables (plain 0) shown
         (room (buffer spans.old spans.new span_count.new)
         (buffer names.old names.new names_length.new)
-        (buffer values.old values.new values_length.new)) }
-    ensures no_room { (shown : List Numbered) → HasTables (reader_of loan).tables shown
-        → result.status ≡ 4 → (result ≡ plain 4) × LacksTables shown
-        (room (buffer spans.old spans.new span_count.new)
-        (buffer names.old names.new names_length.new)
-        (buffer values.old values.new values_length.new)) }
+        (buffer values.old values.new values_length.new)) result }
     ensures status { HasStatus result.status (0 ∷ 4 ∷ []) }
 {
     Reader::fields(

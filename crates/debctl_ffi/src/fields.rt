@@ -1,9 +1,9 @@
 //! The fields of a file, for programs in C.
 
-ghost use Rattle.std.specs.Prelude.{◌≡◌, ◌∷◌, [], IfOk, IsFalse, IsTrue, List, length};
-ghost use Rattle.debctl_ffi.specs.Answers.{HasStatus, plain};
-ghost use Rattle.debctl_ffi.specs.Documents.{IsKind, IsNoKind};
-ghost use Rattle.debctl_ffi.specs.Fields.{GivesTables, IsAnswer, LacksRoomForFields, LacksTables, LeavesRoom, Numbered, ShowsAccepted, ShowsRefused, buffer, room};
+ghost use Rattle.std.specs.Prelude.{◌∷◌, [], IfOk, IsFalse, IsTrue, List, length};
+ghost use Rattle.debctl_ffi.specs.Answers.{HasStatus};
+ghost use Rattle.debctl_ffi.specs.Buffers.{buffer};
+ghost use Rattle.debctl_ffi.specs.Fields.{GivesTables, IsAnswer, LacksTables, Numbered, ShowsFields, room};
 ghost use Rattle.debctl_ffi.specs.Tables.{HasTables, ShowFields};
 
 use crate::answer::{Answer, no_kind, no_memory, no_room, refused, yes};
@@ -35,26 +35,10 @@ pub extern "C" fn deb_fields(
     values: &mut [u8],
     values_length: &mut usize,
 ) -> Answer
-    ensures accepted { result.status ≡ 0 → ShowsAccepted kind text.now
+    ensures answers { ShowsFields kind text.now
         (room (buffer spans.old spans.new span_count.new)
         (buffer names.old names.new names_length.new)
         (buffer values.old values.new values_length.new)) result }
-    ensures refused { result.status ≡ 2 → ShowsRefused kind text.now
-        (room (buffer spans.old spans.new span_count.new)
-        (buffer names.old names.new names_length.new)
-        (buffer values.old values.new values_length.new)) result }
-    ensures no_room { result.status ≡ 4 → (result ≡ plain 4) × LacksRoomForFields kind text.now
-        (room (buffer spans.old spans.new span_count.new)
-        (buffer names.old names.new names_length.new)
-        (buffer values.old values.new values_length.new)) }
-    ensures no_memory { result.status ≡ 5 → (result ≡ plain 5) × IsKind kind × LeavesRoom
-        (room (buffer spans.old spans.new span_count.new)
-        (buffer names.old names.new names_length.new)
-        (buffer values.old values.new values_length.new)) 0 0 0 }
-    ensures no_kind { result.status ≡ 6 → (result ≡ plain 6) × IsNoKind kind × LeavesRoom
-        (room (buffer spans.old spans.new span_count.new)
-        (buffer names.old names.new names_length.new)
-        (buffer values.old values.new values_length.new)) 0 0 0 }
     ensures status { HasStatus result.status (0 ∷ 2 ∷ 4 ∷ 5 ∷ 6 ∷ []) }
 {
     *span_count = 0;

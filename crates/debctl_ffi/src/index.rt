@@ -1,22 +1,19 @@
 //! A loaded index, for programs in C.
 
-ghost use Rattle.std.specs.Prelude.{◌≡◌, true, false, [], ◌∷◌, ℕ, List, None};
+ghost use Rattle.std.specs.Prelude.{◌≡◌, [], ◌∷◌};
 ghost use Rattle.std.specs.Borrow.{full_share};
 ghost use Rattle.std.specs.Ptr.{lies_at, room_at};
 ghost use denote.Param.{layout};
 ghost use prog.Memory.{capped, size};
 ghost use types.Logic.{sem};
-ghost use Rattle.deb_index.specs.Listed.{Listed};
-ghost use Rattle.deb_index.specs.Named.{has_name, numbers_of, package_at, provides};
+ghost use Rattle.deb_index.specs.Named.{has_name, provides};
 ghost use Rattle.deb_index.specs.Questions.{question};
 ghost use Rattle.deb_relation.specs.Views.{names_of};
 ghost use Rattle.deb_unmet.specs.declared.asked.Asked.{Asked};
-ghost use Rattle.debctl_ffi.specs.Answers.{HasStatus, counting, plain};
-ghost use Rattle.debctl_ffi.specs.Buffers.{Gives, GivesNothing, LacksRoom};
-ghost use Rattle.debctl_ffi.specs.Loads.{GivesPackage, HasPackages, HoldsIndex, HoldsNone, IsLoading, LacksRoomForPackage, Loan, lies_lent, loaded_of, share_of};
-ghost use Rattle.debctl_ffi.specs.Queries.{GivesReport, IsRefusedQuery, LacksRoomForReport};
-ghost use Rattle.debctl_ffi.specs.Unmet.{AsksNothing, GivesLines, IsAsked, LacksRoomForUnmet, asker, is_set};
-ghost use Rattle.debctl_ffi.specs.Unmet.{RefusesFile, RefusesFirst};
+ghost use Rattle.debctl_ffi.specs.Answers.{HasStatus};
+ghost use Rattle.debctl_ffi.specs.Buffers.{buffer};
+ghost use Rattle.debctl_ffi.specs.Loads.{AsksNumbers, AsksPackage, AsksQuery, AsksUnmet, HoldsNone, IsLoading, Loan, lies_lent, loaded_of, share_of};
+ghost use Rattle.debctl_ffi.specs.Unmet.{AsksNothing, IsAsked, asker, is_set};
 ghost use Rattle.debctl_ffi.specs.contracts.loaded.Loaded.{the_row};
 ghost use Rattle.debctl_ffi.specs.declared.loaded.Loaded.{Loaded as LoadedData};
 ghost use Rattle.debctl_ffi.specs.declared.report.Detail.TheVariants.{Verdicts};
@@ -77,25 +74,9 @@ pub unsafe extern "C" fn deb_index_query(
     ghost loan: { Loan }
     requires* lent { sem 𝓛 (share_of loan) ∗ sem 𝓛 (lies_lent index loan) }
     ensures* share { sem 𝓛 (share_of loan) }
-    ensures met { (text : List ℕ) → HoldsIndex text (loaded_of loan) → result.status ≡ 0
-        → (result ≡ plain 0)
-        × GivesReport Verdicts (question target.now (names_of profiles.now) relation.now)
-        text true out.old out.new len.new }
-    ensures unmet { (text : List ℕ) → HoldsIndex text (loaded_of loan) → result.status ≡ 1
-        → (result ≡ plain 1)
-        × GivesReport Verdicts (question target.now (names_of profiles.now) relation.now)
-        text false out.old out.new len.new }
-    ensures refused { (text : List ℕ) → HoldsIndex text (loaded_of loan) → result.status ≡ 2
-        → IsRefusedQuery (question target.now (names_of profiles.now) relation.now) text result
-        × GivesNothing out.old out.new len.new }
-    ensures no_room { (text : List ℕ) → HoldsIndex text (loaded_of loan) → result.status ≡ 4
-        → (result ≡ plain 4)
-        × LacksRoomForReport Verdicts (question target.now (names_of profiles.now) relation.now)
-        text out.old out.new len.new }
-    ensures no_memory { result.status ≡ 5 → (result ≡ plain 5)
-        × GivesNothing out.old out.new len.new }
-    ensures no_index { result.status ≡ 7 → (result ≡ plain 7) × HoldsNone (loaded_of loan)
-        × GivesNothing out.old out.new len.new }
+    ensures answers { AsksQuery Verdicts
+        (question target.now (names_of profiles.now) relation.now) (loaded_of loan)
+        (buffer out.old out.new len.new) result }
     ensures none_held { HoldsNone (loaded_of loan) → result.status ≡ 7 }
     ensures status { HasStatus result.status (0 ∷ 1 ∷ 2 ∷ 4 ∷ 5 ∷ 7 ∷ []) }
 {
@@ -125,34 +106,8 @@ pub unsafe extern "C" fn deb_index_unmet(
     ghost loan: { Loan }
     requires* lent { sem 𝓛 (share_of loan) ∗ sem 𝓛 (lies_lent index loan) }
     ensures* share { sem 𝓛 (share_of loan) }
-    ensures none { (text : List ℕ) → HoldsIndex text (loaded_of loan) → result.status ≡ 0
-        → (result ≡ counting 0 result.count)
-        × GivesLines kind (is_set recommends)
-        (asker target.now (names_of profiles.now) text) file.now true
-        out.old out.new len.new result }
-    ensures lines { (text : List ℕ) → HoldsIndex text (loaded_of loan) → result.status ≡ 1
-        → (result ≡ counting 1 result.count)
-        × GivesLines kind (is_set recommends)
-        (asker target.now (names_of profiles.now) text) file.now false
-        out.old out.new len.new result }
-    ensures refused { (text : List ℕ) → HoldsIndex text (loaded_of loan) → result.status ≡ 2
-        → RefusesFirst kind (is_set recommends)
-        (asker target.now (names_of profiles.now) text) result
-        × GivesNothing out.old out.new len.new }
-    ensures second_refused { (text : List ℕ) → HoldsIndex text (loaded_of loan) → result.status ≡ 3
-        → RefusesFile kind (is_set recommends)
-        (asker target.now (names_of profiles.now) text) file.now result
-        × GivesNothing out.old out.new len.new }
-    ensures no_room { (text : List ℕ) → HoldsIndex text (loaded_of loan) → result.status ≡ 4
-        → (result ≡ plain 4)
-        × LacksRoomForUnmet kind (is_set recommends)
-        (asker target.now (names_of profiles.now) text) file.now out.old out.new len.new }
-    ensures no_memory { result.status ≡ 5 → (result ≡ plain 5)
-        × GivesNothing out.old out.new len.new }
-    ensures no_kind { result.status ≡ 6 → (result ≡ plain 6)
-        × AsksNothing kind (is_set recommends) × GivesNothing out.old out.new len.new }
-    ensures no_index { result.status ≡ 7 → (result ≡ plain 7) × HoldsNone (loaded_of loan)
-        × GivesNothing out.old out.new len.new }
+    ensures answers { AsksUnmet kind (is_set recommends) (asker target.now (names_of profiles.now))
+        file.now (loaded_of loan) (buffer out.old out.new len.new) result }
     ensures none_held { (asks : Asked) → IsAsked kind (is_set recommends) asks
         → HoldsNone (loaded_of loan) → result.status ≡ 7 }
     ensures unknown_kind { AsksNothing kind (is_set recommends) → result.status ≡ 6 }
@@ -183,14 +138,8 @@ pub unsafe extern "C" fn deb_index_packages(
     ghost loan: { Loan }
     requires* lent { sem 𝓛 (share_of loan) ∗ sem 𝓛 (lies_lent index loan) }
     ensures* share { sem 𝓛 (share_of loan) }
-    ensures found { (packages : List Listed) → HasPackages (loaded_of loan) packages
-        → result.status ≡ 0 → (result ≡ plain 0)
-        × Gives (numbers_of (has_name name.now) packages) numbers.old numbers.new count.new }
-    ensures no_room { (packages : List Listed) → HasPackages (loaded_of loan) packages
-        → result.status ≡ 4 → (result ≡ plain 4)
-        × LacksRoom (numbers_of (has_name name.now) packages) numbers.old numbers.new count.new }
-    ensures no_index { result.status ≡ 7 → (result ≡ plain 7) × HoldsNone (loaded_of loan)
-        × GivesNothing numbers.old numbers.new count.new }
+    ensures answers { AsksNumbers (has_name name.now) (loaded_of loan)
+        (buffer numbers.old numbers.new count.new) result }
     ensures none_held { HoldsNone (loaded_of loan) → result.status ≡ 7 }
     ensures status { HasStatus result.status (0 ∷ 4 ∷ 7 ∷ []) }
 {
@@ -210,14 +159,8 @@ pub unsafe extern "C" fn deb_index_providers(
     ghost loan: { Loan }
     requires* lent { sem 𝓛 (share_of loan) ∗ sem 𝓛 (lies_lent index loan) }
     ensures* share { sem 𝓛 (share_of loan) }
-    ensures found { (packages : List Listed) → HasPackages (loaded_of loan) packages
-        → result.status ≡ 0 → (result ≡ plain 0)
-        × Gives (numbers_of (provides name.now) packages) numbers.old numbers.new count.new }
-    ensures no_room { (packages : List Listed) → HasPackages (loaded_of loan) packages
-        → result.status ≡ 4 → (result ≡ plain 4)
-        × LacksRoom (numbers_of (provides name.now) packages) numbers.old numbers.new count.new }
-    ensures no_index { result.status ≡ 7 → (result ≡ plain 7) × HoldsNone (loaded_of loan)
-        × GivesNothing numbers.old numbers.new count.new }
+    ensures answers { AsksNumbers (provides name.now) (loaded_of loan)
+        (buffer numbers.old numbers.new count.new) result }
     ensures none_held { HoldsNone (loaded_of loan) → result.status ≡ 7 }
     ensures status { HasStatus result.status (0 ∷ 4 ∷ 7 ∷ []) }
 {
@@ -237,19 +180,8 @@ pub unsafe extern "C" fn deb_index_package(
     ghost loan: { Loan }
     requires* lent { sem 𝓛 (share_of loan) ∗ sem 𝓛 (lies_lent index loan) }
     ensures* share { sem 𝓛 (share_of loan) }
-    ensures found { (packages : List Listed) → HasPackages (loaded_of loan) packages
-        → result.status ≡ 0 → (result ≡ plain 0)
-        × GivesPackage number packages out.old out.new len.new }
-    ensures none { (packages : List Listed) → HasPackages (loaded_of loan) packages
-        → result.status ≡ 1 → (result ≡ plain 1) × (package_at number packages ≡ None)
-        × GivesNothing out.old out.new len.new }
-    ensures no_room { (packages : List Listed) → HasPackages (loaded_of loan) packages
-        → result.status ≡ 4 → (result ≡ plain 4)
-        × LacksRoomForPackage number packages out.old out.new len.new }
-    ensures no_memory { result.status ≡ 5 → (result ≡ plain 5)
-        × GivesNothing out.old out.new len.new }
-    ensures no_index { result.status ≡ 7 → (result ≡ plain 7) × HoldsNone (loaded_of loan)
-        × GivesNothing out.old out.new len.new }
+    ensures answers { AsksPackage number (loaded_of loan)
+        (buffer out.old out.new len.new) result }
     ensures none_held { HoldsNone (loaded_of loan) → result.status ≡ 7 }
     ensures status { HasStatus result.status (0 ∷ 1 ∷ 4 ∷ 5 ∷ 7 ∷ []) }
 {

@@ -1,24 +1,19 @@
 //! An index that is read once and asked often: what its memory holds, and the answers from it.
 
-ghost use Rattle.std.specs.Prelude.{◌≡◌, true, false, [], ◌∷◌, ℕ, List, None, IfOk};
-ghost use Rattle.deb_index.specs.Questions.{question};
-ghost use Rattle.deb_index.specs.Listed.{Listed};
-ghost use Rattle.deb_index.specs.Named.{has_name, numbers_of, package_at, provides};
+ghost use Rattle.std.specs.Prelude.{◌≡◌, [], ◌∷◌, IfOk};
 ghost use Rattle.deb_index.specs.Kept.{listed_of};
+ghost use Rattle.deb_index.specs.Named.{has_name, provides};
+ghost use Rattle.deb_index.specs.Questions.{question};
 ghost use Rattle.deb_relation.specs.Views.{names_of};
 ghost use Rattle.deb_unmet.specs.declared.asked.Asked.{Asked};
-ghost use Rattle.debctl_ffi.specs.Answers.{HasStatus, counting, plain};
-ghost use Rattle.debctl_ffi.specs.Buffers.{Gives, GivesNothing, LacksRoom};
-ghost use Rattle.debctl_ffi.specs.Loads.{GivesPackage, LacksRoomForPackage, package_words};
-ghost use Rattle.debctl_ffi.specs.Queries.{GivesReport, IsRefusedQuery, LacksRoomForReport};
-ghost use Rattle.debctl_ffi.specs.Unmet.{AsksNothing, GivesLines, IsAsked, LacksRoomForUnmet, asker, is_set};
-ghost use Rattle.debctl_ffi.specs.Unmet.{RefusesFile, RefusesFirst};
+ghost use Rattle.debctl_ffi.specs.Answers.{HasStatus};
+ghost use Rattle.debctl_ffi.specs.Buffers.{buffer};
+ghost use Rattle.debctl_ffi.specs.Loads.{package_words};
+ghost use Rattle.debctl_ffi.specs.Unmet.{AsksNothing, IsAsked, asker, is_set};
 
-use crate::answer::{
-    Answer, no, no_index, no_kind, no_memory, no_room, refused, second_refused, some, yes,
-};
+use crate::answer::{Answer, no, no_index, no_kind, no_memory, refused, second_refused, some, yes};
 use crate::asker::{asked_of, lines_in, make_environment};
-use crate::buffer::give;
+use crate::buffer::reply;
 use crate::report::{Detail, read_index, report_in};
 use deb_base::Fault;
 use deb_index::{Index, Package};
@@ -32,7 +27,7 @@ pub struct Loaded {
 }
 
 impl Loaded {
-    ghost use Rattle.debctl_ffi.specs.Loads.{HasPackages, HoldsIndex, HoldsNone, IsLoading};
+    ghost use Rattle.debctl_ffi.specs.Loads.{AsksNumbers, AsksPackage, AsksQuery, AsksUnmet, HoldsNone, IsLoading};
 
     /// Reads an index. The answer is 0 with the number of packages, 2 with the refusal, or 5.
     pub(crate) fn read(alloc: Global, text: &[u8], answer: &mut Answer) -> Loaded
@@ -66,28 +61,8 @@ impl Loaded {
         out: &mut [u8],
         len: &mut usize,
     ) -> Answer
-        ensures met { (text : List ℕ) → HoldsIndex text self.now → result.status ≡ 0
-            → (result ≡ plain 0)
-            × GivesReport Detail.Verdicts
-            (question target.now (names_of profiles.now) relation.now) text true
-            out.old out.new len.new }
-        ensures unmet { (text : List ℕ) → HoldsIndex text self.now → result.status ≡ 1
-            → (result ≡ plain 1)
-            × GivesReport Detail.Verdicts
-            (question target.now (names_of profiles.now) relation.now) text false
-            out.old out.new len.new }
-        ensures refused { (text : List ℕ) → HoldsIndex text self.now → result.status ≡ 2
-            → IsRefusedQuery (question target.now (names_of profiles.now) relation.now) text result
-            × GivesNothing out.old out.new len.new }
-        ensures no_room { (text : List ℕ) → HoldsIndex text self.now → result.status ≡ 4
-            → (result ≡ plain 4)
-            × LacksRoomForReport Detail.Verdicts
-            (question target.now (names_of profiles.now) relation.now) text
-            out.old out.new len.new }
-        ensures no_memory { result.status ≡ 5 → (result ≡ plain 5)
-            × GivesNothing out.old out.new len.new }
-        ensures no_index { result.status ≡ 7 → (result ≡ plain 7) × HoldsNone self.now
-            × GivesNothing out.old out.new len.new }
+        ensures answers { AsksQuery Detail.Verdicts (question target.now (names_of profiles.now) relation.now)
+            self.now (buffer out.old out.new len.new) result }
         ensures none_held { HoldsNone self.now → result.status ≡ 7 }
         ensures status { HasStatus result.status (0 ∷ 1 ∷ 2 ∷ 4 ∷ 5 ∷ 7 ∷ []) }
     {
@@ -103,28 +78,8 @@ impl Loaded {
         out: &mut [u8],
         len: &mut usize,
     ) -> Answer
-        ensures met { (text : List ℕ) → HoldsIndex text self.now → result.status ≡ 0
-            → (result ≡ plain 0)
-            × GivesReport Detail.Reasons
-            (question target.now (names_of profiles.now) relation.now) text true
-            out.old out.new len.new }
-        ensures unmet { (text : List ℕ) → HoldsIndex text self.now → result.status ≡ 1
-            → (result ≡ plain 1)
-            × GivesReport Detail.Reasons
-            (question target.now (names_of profiles.now) relation.now) text false
-            out.old out.new len.new }
-        ensures refused { (text : List ℕ) → HoldsIndex text self.now → result.status ≡ 2
-            → IsRefusedQuery (question target.now (names_of profiles.now) relation.now) text result
-            × GivesNothing out.old out.new len.new }
-        ensures no_room { (text : List ℕ) → HoldsIndex text self.now → result.status ≡ 4
-            → (result ≡ plain 4)
-            × LacksRoomForReport Detail.Reasons
-            (question target.now (names_of profiles.now) relation.now) text
-            out.old out.new len.new }
-        ensures no_memory { result.status ≡ 5 → (result ≡ plain 5)
-            × GivesNothing out.old out.new len.new }
-        ensures no_index { result.status ≡ 7 → (result ≡ plain 7) × HoldsNone self.now
-            × GivesNothing out.old out.new len.new }
+        ensures answers { AsksQuery Detail.Reasons (question target.now (names_of profiles.now) relation.now)
+            self.now (buffer out.old out.new len.new) result }
         ensures none_held { HoldsNone self.now → result.status ≡ 7 }
         ensures status { HasStatus result.status (0 ∷ 1 ∷ 2 ∷ 4 ∷ 5 ∷ 7 ∷ []) }
     {
@@ -141,28 +96,8 @@ impl Loaded {
         out: &mut [u8],
         len: &mut usize,
     ) -> Answer
-        ensures met { (text : List ℕ) → HoldsIndex text self.now → result.status ≡ 0
-            → (result ≡ plain 0)
-            × GivesReport detail
-            (question target.now (names_of profiles.now) relation.now) text true
-            out.old out.new len.new }
-        ensures unmet { (text : List ℕ) → HoldsIndex text self.now → result.status ≡ 1
-            → (result ≡ plain 1)
-            × GivesReport detail
-            (question target.now (names_of profiles.now) relation.now) text false
-            out.old out.new len.new }
-        ensures refused { (text : List ℕ) → HoldsIndex text self.now → result.status ≡ 2
-            → IsRefusedQuery (question target.now (names_of profiles.now) relation.now) text result
-            × GivesNothing out.old out.new len.new }
-        ensures no_room { (text : List ℕ) → HoldsIndex text self.now → result.status ≡ 4
-            → (result ≡ plain 4)
-            × LacksRoomForReport detail
-            (question target.now (names_of profiles.now) relation.now) text
-            out.old out.new len.new }
-        ensures no_memory { result.status ≡ 5 → (result ≡ plain 5)
-            × GivesNothing out.old out.new len.new }
-        ensures no_index { result.status ≡ 7 → (result ≡ plain 7) × HoldsNone self.now
-            × GivesNothing out.old out.new len.new }
+        ensures answers { AsksQuery detail (question target.now (names_of profiles.now) relation.now)
+            self.now (buffer out.old out.new len.new) result }
         ensures none_held { HoldsNone self.now → result.status ≡ 7 }
         ensures status { HasStatus result.status (0 ∷ 1 ∷ 2 ∷ 4 ∷ 5 ∷ 7 ∷ []) }
     {
@@ -171,12 +106,8 @@ impl Loaded {
             return no_index();
         };
         match report_in(self.alloc, detail, target, profiles, relation, index) {
-            Ok((met, report)) => {
-                if !give(&report, out, len) {
-                    return no_room();
-                }
-                if met { yes(0) } else { no() }
-            }
+            Ok((true, report)) => reply(yes(0), &report, out, len),
+            Ok((false, report)) => reply(no(), &report, out, len),
             Err(Fault::Refused(refusal)) => refused(&refusal),
             Err(_) => no_memory(),
         }
@@ -194,34 +125,8 @@ impl Loaded {
         out: &mut [u8],
         len: &mut usize,
     ) -> Answer
-        ensures none { (text : List ℕ) → HoldsIndex text self.now → result.status ≡ 0
-            → (result ≡ counting 0 result.count)
-            × GivesLines kind (is_set recommends)
-            (asker target.now (names_of profiles.now) text) file.now true
-            out.old out.new len.new result }
-        ensures lines { (text : List ℕ) → HoldsIndex text self.now → result.status ≡ 1
-            → (result ≡ counting 1 result.count)
-            × GivesLines kind (is_set recommends)
-            (asker target.now (names_of profiles.now) text) file.now false
-            out.old out.new len.new result }
-        ensures refused { (text : List ℕ) → HoldsIndex text self.now → result.status ≡ 2
-            → RefusesFirst kind (is_set recommends)
-            (asker target.now (names_of profiles.now) text) result
-            × GivesNothing out.old out.new len.new }
-        ensures second_refused { (text : List ℕ) → HoldsIndex text self.now → result.status ≡ 3
-            → RefusesFile kind (is_set recommends)
-            (asker target.now (names_of profiles.now) text) file.now result
-            × GivesNothing out.old out.new len.new }
-        ensures no_room { (text : List ℕ) → HoldsIndex text self.now → result.status ≡ 4
-            → (result ≡ plain 4)
-            × LacksRoomForUnmet kind (is_set recommends)
-            (asker target.now (names_of profiles.now) text) file.now out.old out.new len.new }
-        ensures no_memory { result.status ≡ 5 → (result ≡ plain 5)
-            × GivesNothing out.old out.new len.new }
-        ensures no_kind { result.status ≡ 6 → (result ≡ plain 6)
-            × AsksNothing kind (is_set recommends) × GivesNothing out.old out.new len.new }
-        ensures no_index { result.status ≡ 7 → (result ≡ plain 7) × HoldsNone self.now
-            × GivesNothing out.old out.new len.new }
+        ensures answers { AsksUnmet kind (is_set recommends) (asker target.now (names_of profiles.now))
+            file.now self.now (buffer out.old out.new len.new) result }
         ensures none_held { (asks : Asked) → IsAsked kind (is_set recommends) asks
             → HoldsNone self.now → result.status ≡ 7 }
         ensures unknown_kind { AsksNothing kind (is_set recommends) → result.status ≡ 6 }
@@ -241,13 +146,10 @@ impl Loaded {
         };
         match lines_in(self.alloc, index, &environment, asked, file) {
             Ok((summary, lines)) => {
-                if !give(&lines, out, len) {
-                    return no_room();
-                }
                 if summary.is_empty {
-                    yes(summary.paragraphs)
+                    reply(yes(summary.paragraphs), &lines, out, len)
                 } else {
-                    some(summary.paragraphs)
+                    reply(some(summary.paragraphs), &lines, out, len)
                 }
             }
             Err(Fault::Refused(refusal)) => second_refused(&refusal),
@@ -257,15 +159,8 @@ impl Loaded {
 
     /// The answer of [`crate::index::deb_index_packages`].
     pub(crate) fn packages(&self, name: &[u8], numbers: &mut [u64], count: &mut usize) -> Answer
-        ensures found { (packages : List Listed) → HasPackages self.now packages
-            → result.status ≡ 0 → (result ≡ plain 0)
-            × Gives (numbers_of (has_name name.now) packages) numbers.old numbers.new count.new }
-        ensures no_room { (packages : List Listed) → HasPackages self.now packages
-            → result.status ≡ 4 → (result ≡ plain 4)
-            × LacksRoom (numbers_of (has_name name.now) packages) numbers.old numbers.new
-            count.new }
-        ensures no_index { result.status ≡ 7 → (result ≡ plain 7) × HoldsNone self.now
-            × GivesNothing numbers.old numbers.new count.new }
+        ensures answers { AsksNumbers (has_name name.now) self.now
+            (buffer numbers.old numbers.new count.new) result }
         ensures none_held { HoldsNone self.now → result.status ≡ 7 }
         ensures status { HasStatus result.status (0 ∷ 4 ∷ 7 ∷ []) }
     {
@@ -273,24 +168,13 @@ impl Loaded {
         let Some(index) = &self.index else {
             return no_index();
         };
-        if give(index.packages(name), numbers, count) {
-            yes(0)
-        } else {
-            no_room()
-        }
+        reply(yes(0), index.packages(name), numbers, count)
     }
 
     /// The answer of [`crate::index::deb_index_providers`].
     pub(crate) fn providers(&self, name: &[u8], numbers: &mut [u64], count: &mut usize) -> Answer
-        ensures found { (packages : List Listed) → HasPackages self.now packages
-            → result.status ≡ 0 → (result ≡ plain 0)
-            × Gives (numbers_of (provides name.now) packages) numbers.old numbers.new count.new }
-        ensures no_room { (packages : List Listed) → HasPackages self.now packages
-            → result.status ≡ 4 → (result ≡ plain 4)
-            × LacksRoom (numbers_of (provides name.now) packages) numbers.old numbers.new
-            count.new }
-        ensures no_index { result.status ≡ 7 → (result ≡ plain 7) × HoldsNone self.now
-            × GivesNothing numbers.old numbers.new count.new }
+        ensures answers { AsksNumbers (provides name.now) self.now
+            (buffer numbers.old numbers.new count.new) result }
         ensures none_held { HoldsNone self.now → result.status ≡ 7 }
         ensures status { HasStatus result.status (0 ∷ 4 ∷ 7 ∷ []) }
     {
@@ -298,28 +182,12 @@ impl Loaded {
         let Some(index) = &self.index else {
             return no_index();
         };
-        if give(index.providers(name), numbers, count) {
-            yes(0)
-        } else {
-            no_room()
-        }
+        reply(yes(0), index.providers(name), numbers, count)
     }
 
     /// The answer of [`crate::index::deb_index_package`].
     pub(crate) fn package_at(&self, number: u64, out: &mut [u8], len: &mut usize) -> Answer
-        ensures found { (packages : List Listed) → HasPackages self.now packages
-            → result.status ≡ 0 → (result ≡ plain 0)
-            × GivesPackage number packages out.old out.new len.new }
-        ensures none { (packages : List Listed) → HasPackages self.now packages
-            → result.status ≡ 1 → (result ≡ plain 1) × (package_at number packages ≡ None)
-            × GivesNothing out.old out.new len.new }
-        ensures no_room { (packages : List Listed) → HasPackages self.now packages
-            → result.status ≡ 4 → (result ≡ plain 4)
-            × LacksRoomForPackage number packages out.old out.new len.new }
-        ensures no_memory { result.status ≡ 5 → (result ≡ plain 5)
-            × GivesNothing out.old out.new len.new }
-        ensures no_index { result.status ≡ 7 → (result ≡ plain 7) × HoldsNone self.now
-            × GivesNothing out.old out.new len.new }
+        ensures answers { AsksPackage number self.now (buffer out.old out.new len.new) result }
         ensures none_held { HoldsNone self.now → result.status ≡ 7 }
         ensures status { HasStatus result.status (0 ∷ 1 ∷ 4 ∷ 5 ∷ 7 ∷ []) }
     {
@@ -331,13 +199,7 @@ impl Loaded {
             return no();
         };
         match words_of(self.alloc, &found) {
-            Ok(words) => {
-                if give(&words, out, len) {
-                    yes(0)
-                } else {
-                    no_room()
-                }
-            }
+            Ok(words) => reply(yes(0), &words, out, len),
             Err(AllocError) => no_memory(),
         }
     }

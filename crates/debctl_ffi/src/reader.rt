@@ -5,7 +5,8 @@ ghost use Rattle.deb_base.specs.declared.doc.Doc.{Doc as DocData};
 ghost use Rattle.deb_control.specs.Calls.{IfRefused};
 ghost use Rattle.deb_syntax.specs.Answers.{Seen};
 ghost use Rattle.debctl_ffi.specs.Answers.{HasStatus, plain};
-ghost use Rattle.debctl_ffi.specs.Fields.{GivesTables, LacksTables, Numbered, buffer, room};
+ghost use Rattle.debctl_ffi.specs.Buffers.{buffer};
+ghost use Rattle.debctl_ffi.specs.Fields.{Numbered, RepliesTables, room};
 ghost use Rattle.debctl_ffi.specs.Tables.{HasTables};
 
 use crate::answer::{Answer, no_kind, no_memory, no_room, refused, yes};
@@ -249,16 +250,11 @@ impl Reader {
         values: &mut [u8],
         values_length: &mut usize,
     ) -> Answer
-        ensures given { (shown : List Numbered) → HasTables self.now.tables shown
-            → result.status ≡ 0 → (result ≡ plain 0) × GivesTables shown
+        ensures tables { (shown : List Numbered) → HasTables self.now.tables shown
+            → RepliesTables (plain 0) shown
             (room (buffer spans.old spans.new span_count.new)
             (buffer names.old names.new names_length.new)
-            (buffer values.old values.new values_length.new)) }
-        ensures no_room { (shown : List Numbered) → HasTables self.now.tables shown
-            → result.status ≡ 4 → (result ≡ plain 4) × LacksTables shown
-            (room (buffer spans.old spans.new span_count.new)
-            (buffer names.old names.new names_length.new)
-            (buffer values.old values.new values_length.new)) }
+            (buffer values.old values.new values_length.new)) result }
         ensures status { HasStatus result.status (0 ∷ 4 ∷ []) }
     {
         *span_count = self.tables.spans.len();

@@ -1,14 +1,14 @@
 //! The parts of a relation, for programs in C.
 
-ghost use Rattle.std.specs.Prelude.{◌≡◌, [], ◌∷◌};
-ghost use Rattle.deb_index.specs.Questions.{bad_relation};
-ghost use Rattle.debctl_ffi.specs.Answers.{HasStatus, counting, plain, refusing};
-ghost use Rattle.debctl_ffi.specs.Buffers.{GivesNothing};
-ghost use Rattle.debctl_ffi.specs.RelationParts.{GivesParts, LacksRoomForParts};
-ghost use Rattle.debctl_ffi.specs.Relations.{IsNoRelation};
+ghost use Rattle.std.specs.Prelude.{[], ◌∷◌};
+ghost use Rattle.debctl_ffi.specs.Answers.{HasStatus};
+ghost use Rattle.debctl_ffi.specs.Buffers.{buffer};
+ghost use Rattle.debctl_ffi.specs.RelationParts.{HasParts};
+ghost use Rattle.debctl_ffi.specs.Relations.{RelationFails};
+ghost use Rattle.debctl_ffi.specs.Replies.{Replies};
 
-use crate::answer::{Answer, no_memory, no_room, refused, yes};
-use crate::buffer::give;
+use crate::answer::{Answer, no_memory, refused, yes};
+use crate::buffer::reply;
 use deb_base::{Code, Refusal};
 use deb_relation::RelationFault;
 use deb_spelled::{AlternativeSpans, read_alternatives};
@@ -27,25 +27,13 @@ pub extern "C" fn deb_relation_parts(
     alternatives: &mut [AlternativeSpans],
     count: &mut usize,
 ) -> Answer
-    ensures done { result.status ≡ 0 → (result ≡ counting 0 0)
-        × GivesParts text.now alternatives.old alternatives.new count.new }
-    ensures refused { result.status ≡ 2 → (result ≡ refusing 2 bad_relation)
-        × IsNoRelation text.now × GivesNothing alternatives.old alternatives.new count.new }
-    ensures no_room { result.status ≡ 4 → (result ≡ plain 4)
-        × LacksRoomForParts text.now alternatives.old alternatives.new count.new }
-    ensures no_memory { result.status ≡ 5 → (result ≡ plain 5)
-        × GivesNothing alternatives.old alternatives.new count.new }
+    ensures answers { Replies (HasParts text.now) (RelationFails text.now)
+        (buffer alternatives.old alternatives.new count.new) result }
     ensures status { HasStatus result.status (0 ∷ 2 ∷ 4 ∷ 5 ∷ []) }
 {
     *count = 0;
     match read_alternatives(alloc, text) {
-        Ok(found) => {
-            if give(&found, alternatives, count) {
-                yes(0)
-            } else {
-                no_room()
-            }
-        }
+        Ok(found) => reply(yes(0), &found, alternatives, count),
         Err(RelationFault::Bad { .. }) => refused(&Refusal {
             code: Code::BadRelation,
             line: 0,

@@ -1,14 +1,15 @@
 //! The function on relations, for programs in C.
 
-ghost use Rattle.std.specs.Prelude.{◌≡◌, [], ◌∷◌, IfErr, IfOk};
+ghost use Rattle.std.specs.Prelude.{[], ◌∷◌, IfErr, IfOk};
 ghost use Rattle.deb_base.specs.Faults.{RefusedOrMemory};
-ghost use Rattle.deb_index.specs.Questions.{ParsesRelation, RefusesRelation, bad_relation};
-ghost use Rattle.debctl_ffi.specs.Answers.{HasStatus, counting, plain, refusing};
-ghost use Rattle.debctl_ffi.specs.Buffers.{GivesNothing};
-ghost use Rattle.debctl_ffi.specs.Relations.{GivesRelation, HasText, IsNoRelation, LacksRoomForRelation};
+ghost use Rattle.deb_index.specs.Questions.{ParsesRelation, RefusesRelation};
+ghost use Rattle.debctl_ffi.specs.Answers.{HasStatus};
+ghost use Rattle.debctl_ffi.specs.Buffers.{buffer};
+ghost use Rattle.debctl_ffi.specs.Relations.{HasText, IsCanonical, RelationFails};
+ghost use Rattle.debctl_ffi.specs.Replies.{Replies};
 
-use crate::answer::{Answer, no_memory, no_room, refused, yes};
-use crate::buffer::give;
+use crate::answer::{Answer, no_memory, refused, yes};
+use crate::buffer::reply;
 use deb_base::{Code, Fault, Refusal};
 use deb_relation::{RelationFault, RelationText};
 use std::alloc::Global;
@@ -27,25 +28,13 @@ pub extern "C" fn deb_relation_canonical(
     out: &mut [u8],
     len: &mut usize,
 ) -> Answer
-    ensures done { result.status ≡ 0 → (result ≡ counting 0 0)
-        × GivesRelation text.now out.old out.new len.new }
-    ensures refused { result.status ≡ 2 → (result ≡ refusing 2 bad_relation)
-        × IsNoRelation text.now × GivesNothing out.old out.new len.new }
-    ensures no_room { result.status ≡ 4 → (result ≡ plain 4)
-        × LacksRoomForRelation text.now out.old out.new len.new }
-    ensures no_memory { result.status ≡ 5 → (result ≡ plain 5)
-        × GivesNothing out.old out.new len.new }
+    ensures answers { Replies (IsCanonical text.now) (RelationFails text.now)
+        (buffer out.old out.new len.new) result }
     ensures status { HasStatus result.status (0 ∷ 2 ∷ 4 ∷ 5 ∷ []) }
 {
     *len = 0;
     match canonical_relation(alloc, text) {
-        Ok(canonical) => {
-            if give(&canonical, out, len) {
-                yes(0)
-            } else {
-                no_room()
-            }
-        }
+        Ok(canonical) => reply(yes(0), &canonical, out, len),
         Err(Fault::Refused(refusal)) => refused(&refusal),
         Err(_) => no_memory(),
     }

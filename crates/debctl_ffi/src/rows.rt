@@ -1,9 +1,9 @@
 //! The rows of a text that this library wrote, for programs in C.
 
 ghost use Rattle.std.specs.Prelude.{◌≡◌, ◌∷◌, [], IfNone, IfSome};
-ghost use Rattle.debctl_ffi.specs.Answers.{HasStatus, plain};
-ghost use Rattle.debctl_ffi.specs.Buffers.{GivesNothing};
-ghost use Rattle.debctl_ffi.specs.RowTables.{GivesRows, HasNoRows, IsNoForm, LacksRoomForTable, form_number};
+ghost use Rattle.debctl_ffi.specs.Answers.{HasStatus};
+ghost use Rattle.debctl_ffi.specs.Buffers.{buffer};
+ghost use Rattle.debctl_ffi.specs.RowTables.{IsNoForm, ReadsRows, form_number};
 
 use crate::answer::{Answer, no, no_kind, no_room, yes};
 use deb_rows::{Form, Outcome, Row, read_rows};
@@ -17,14 +17,7 @@ use deb_rows::{Form, Outcome, Row, read_rows};
 /// Except for status 0, `rows` is unchanged.
 #[unsafe(no_mangle)]
 pub extern "C" fn deb_rows(form: u8, text: &[u8], rows: &mut [Row], count: &mut usize) -> Answer
-    ensures rows { result.status ≡ 0 → (result ≡ plain 0)
-        × GivesRows form text.now rows.old rows.new count.new }
-    ensures other { result.status ≡ 1 → (result ≡ plain 1)
-        × HasNoRows form text.now rows.old rows.new count.new }
-    ensures no_room { result.status ≡ 4 → (result ≡ plain 4)
-        × LacksRoomForTable form text.now rows.old rows.new count.new }
-    ensures no_kind { result.status ≡ 6 → (result ≡ plain 6) × IsNoForm form
-        × GivesNothing rows.old rows.new count.new }
+    ensures answers { ReadsRows form text.now (buffer rows.old rows.new count.new) result }
     ensures status { HasStatus result.status (0 ∷ 1 ∷ 4 ∷ 6 ∷ []) }
 {
     *count = 0;

@@ -2,12 +2,13 @@
 
 ghost use Rattle.std.specs.Prelude.{◌≡◌, [], ◌∷◌, IfOk, codes};
 ghost use Rattle.deb_explain.specs.Texts.{word_text};
-ghost use Rattle.debctl_ffi.specs.Answers.{HasStatus, plain, refusing};
-ghost use Rattle.debctl_ffi.specs.Buffers.{GivesNothing};
-ghost use Rattle.debctl_ffi.specs.ExplainedTexts.{ExplainedAs, GivesAccepted, GivesRefused, LacksRoomForText, refusal_as};
+ghost use Rattle.debctl_ffi.specs.Answers.{HasStatus, refusing};
+ghost use Rattle.debctl_ffi.specs.Buffers.{buffer};
+ghost use Rattle.debctl_ffi.specs.ExplainedTexts.{ExplainedAs, refusal_as};
+ghost use Rattle.debctl_ffi.specs.Replies.{IsOutOfMemory, Replies};
 
-use crate::answer::{Answer, no_memory, no_room, refused, yes};
-use crate::buffer::give;
+use crate::answer::{Answer, no_memory, refused, yes};
+use crate::buffer::reply;
 use deb_base::{Code, Refusal, VecSink};
 use deb_explain::{Cause, Word, explain_word, write_refused_word};
 use std::alloc::{AllocError, Global};
@@ -25,14 +26,8 @@ pub extern "C" fn deb_explain_relation(
     out: &mut [u8],
     len: &mut usize,
 ) -> Answer
-    ensures accepted { result.status ≡ 0
-        → GivesAccepted Word.Relation text.now out.old out.new len.new result }
-    ensures refused { result.status ≡ 2
-        → GivesRefused Word.Relation text.now out.old out.new len.new result }
-    ensures no_room { result.status ≡ 4 → (result ≡ plain 4)
-        × LacksRoomForText Word.Relation text.now out.old out.new len.new }
-    ensures no_memory { result.status ≡ 5 → (result ≡ plain 5)
-        × GivesNothing out.old out.new len.new }
+    ensures answers { Replies (ExplainedAs Word.Relation text.now) IsOutOfMemory
+        (buffer out.old out.new len.new) result }
     ensures status { HasStatus result.status (0 ∷ 2 ∷ 4 ∷ 5 ∷ []) }
 {
     explain_as(alloc, Word::Relation, text, out, len)
@@ -51,14 +46,8 @@ pub extern "C" fn deb_explain_version(
     out: &mut [u8],
     len: &mut usize,
 ) -> Answer
-    ensures accepted { result.status ≡ 0
-        → GivesAccepted Word.Version text.now out.old out.new len.new result }
-    ensures refused { result.status ≡ 2
-        → GivesRefused Word.Version text.now out.old out.new len.new result }
-    ensures no_room { result.status ≡ 4 → (result ≡ plain 4)
-        × LacksRoomForText Word.Version text.now out.old out.new len.new }
-    ensures no_memory { result.status ≡ 5 → (result ≡ plain 5)
-        × GivesNothing out.old out.new len.new }
+    ensures answers { Replies (ExplainedAs Word.Version text.now) IsOutOfMemory
+        (buffer out.old out.new len.new) result }
     ensures status { HasStatus result.status (0 ∷ 2 ∷ 4 ∷ 5 ∷ []) }
 {
     explain_as(alloc, Word::Version, text, out, len)
@@ -66,25 +55,13 @@ pub extern "C" fn deb_explain_version(
 
 /// Writes that a text is a relation or a version, or why it isn't.
 fn explain_as(alloc: Global, word: Word, text: &[u8], out: &mut [u8], len: &mut usize) -> Answer
-    ensures accepted { result.status ≡ 0
-        → GivesAccepted word text.now out.old out.new len.new result }
-    ensures refused { result.status ≡ 2
-        → GivesRefused word text.now out.old out.new len.new result }
-    ensures no_room { result.status ≡ 4 → (result ≡ plain 4)
-        × LacksRoomForText word text.now out.old out.new len.new }
-    ensures no_memory { result.status ≡ 5 → (result ≡ plain 5)
-        × GivesNothing out.old out.new len.new }
+    ensures answers { Replies (ExplainedAs word text.now) IsOutOfMemory
+        (buffer out.old out.new len.new) result }
     ensures status { HasStatus result.status (0 ∷ 2 ∷ 4 ∷ 5 ∷ []) }
 {
     *len = 0;
     match explain_lines(alloc, word, text) {
-        Ok((answer, lines)) => {
-            if give(&lines, out, len) {
-                answer
-            } else {
-                no_room()
-            }
-        }
+        Ok((answer, lines)) => reply(answer, &lines, out, len),
         Err(_) => no_memory(),
     }
 }

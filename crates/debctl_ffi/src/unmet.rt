@@ -1,15 +1,16 @@
 //! Which relations of a file nothing in an index meets, for programs in C.
 
-ghost use Rattle.std.specs.Prelude.{◌≡◌, true, false, [], ◌∷◌};
+ghost use Rattle.std.specs.Prelude.{◌≡◌, [], ◌∷◌};
 ghost use Rattle.deb_relation.specs.Views.{names_of};
-ghost use Rattle.debctl_ffi.specs.Answers.{HasStatus, counting, plain};
-ghost use Rattle.debctl_ffi.specs.Buffers.{GivesNothing};
-ghost use Rattle.debctl_ffi.specs.Unmet.{AsksNothing, GivesLines, LacksRoomForUnmet, asker, is_set};
-ghost use Rattle.debctl_ffi.specs.Unmet.{RefusesFile, RefusesFirst};
+ghost use Rattle.debctl_ffi.specs.Answers.{HasStatus};
+ghost use Rattle.debctl_ffi.specs.Buffers.{buffer};
+ghost use Rattle.debctl_ffi.specs.Queries.{OfText};
+ghost use Rattle.debctl_ffi.specs.Replies.{Replies};
+ghost use Rattle.debctl_ffi.specs.Unmet.{AsksNothing, ListsUnmet, UnmetFails, asker, is_set};
 
-use crate::answer::{Answer, no_kind, no_memory, no_room, refused, second_refused, some, yes};
+use crate::answer::{Answer, no_kind, no_memory, refused, second_refused, some, yes};
 use crate::asker::{Asker, asked_of};
-use crate::buffer::give;
+use crate::buffer::reply;
 use deb_base::Fault;
 use std::alloc::Global;
 
@@ -36,29 +37,10 @@ pub extern "C" fn deb_unmet(
     out: &mut [u8],
     len: &mut usize,
 ) -> Answer
-    ensures none { result.status ≡ 0 → (result ≡ counting 0 result.count)
-        × GivesLines kind (is_set recommends)
-        (asker target.now (names_of profiles.now) index.now) text.now true
-        out.old out.new len.new result }
-    ensures lines { result.status ≡ 1 → (result ≡ counting 1 result.count)
-        × GivesLines kind (is_set recommends)
-        (asker target.now (names_of profiles.now) index.now) text.now false
-        out.old out.new len.new result }
-    ensures refused { result.status ≡ 2
-        → RefusesFirst kind (is_set recommends)
-        (asker target.now (names_of profiles.now) index.now) result
-        × GivesNothing out.old out.new len.new }
-    ensures second_refused { result.status ≡ 3
-        → RefusesFile kind (is_set recommends)
-        (asker target.now (names_of profiles.now) index.now) text.now result
-        × GivesNothing out.old out.new len.new }
-    ensures no_room { result.status ≡ 4 → (result ≡ plain 4)
-        × LacksRoomForUnmet kind (is_set recommends)
-        (asker target.now (names_of profiles.now) index.now) text.now out.old out.new len.new }
-    ensures no_memory { result.status ≡ 5 → (result ≡ plain 5)
-        × GivesNothing out.old out.new len.new }
-    ensures no_kind { result.status ≡ 6 → (result ≡ plain 6) × AsksNothing kind (is_set recommends)
-        × GivesNothing out.old out.new len.new }
+    ensures answers { let by = asker target.now (names_of profiles.now) in
+        Replies (ListsUnmet kind (is_set recommends) by (OfText index.now) text.now)
+        (UnmetFails kind (is_set recommends) by (OfText index.now) text.now)
+        (buffer out.old out.new len.new) result }
     ensures unknown_kind { AsksNothing kind (is_set recommends) → result.status ≡ 6 }
     ensures status { HasStatus result.status (0 ∷ 1 ∷ 2 ∷ 3 ∷ 4 ∷ 5 ∷ 6 ∷ []) }
 {
@@ -75,13 +57,10 @@ pub extern "C" fn deb_unmet(
     drop(asker);
     match answered {
         Ok((summary, lines)) => {
-            if !give(&lines, out, len) {
-                return no_room();
-            }
             if summary.is_empty {
-                yes(summary.paragraphs)
+                reply(yes(summary.paragraphs), &lines, out, len)
             } else {
-                some(summary.paragraphs)
+                reply(some(summary.paragraphs), &lines, out, len)
             }
         }
         Err(Fault::Refused(refusal)) => second_refused(&refusal),

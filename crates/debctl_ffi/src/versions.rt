@@ -1,12 +1,13 @@
 //! The functions on versions, for programs in C.
 
 ghost use Rattle.std.specs.Prelude.{◌≡◌, [], ◌∷◌};
-ghost use Rattle.debctl_ffi.specs.Answers.{HasStatus, counting, plain, refusing};
-ghost use Rattle.debctl_ffi.specs.Buffers.{GivesNothing};
-ghost use Rattle.debctl_ffi.specs.Versions.{Compares, GivesCanonical, GivesKey, IsNoVersion, IsVersion, LacksRoomForCanonical, LacksRoomForKey, bad_version, comparing};
+ghost use Rattle.debctl_ffi.specs.Answers.{HasStatus, refusing};
+ghost use Rattle.debctl_ffi.specs.Buffers.{buffer};
+ghost use Rattle.debctl_ffi.specs.Replies.{Replies};
+ghost use Rattle.debctl_ffi.specs.Versions.{Compares, IsCanonical, IsKey, IsNoVersion, IsVersion, VersionFails, bad_version, comparing};
 
-use crate::answer::{Answer, no_memory, no_room, refused, yes};
-use crate::buffer::give;
+use crate::answer::{Answer, no_memory, refused, yes};
+use crate::buffer::reply;
 use deb_base::{Code, Refusal};
 use deb_version::Version;
 use std::alloc::Global;
@@ -72,14 +73,8 @@ pub extern "C" fn deb_version_canonical(
     out: &mut [u8],
     len: &mut usize,
 ) -> Answer
-    ensures done { result.status ≡ 0 → (result ≡ counting 0 0)
-        × GivesCanonical text.now out.old out.new len.new }
-    ensures refused { result.status ≡ 2 → (result ≡ refusing 2 bad_version)
-        × IsNoVersion text.now × GivesNothing out.old out.new len.new }
-    ensures no_room { result.status ≡ 4 → (result ≡ plain 4)
-        × LacksRoomForCanonical text.now out.old out.new len.new }
-    ensures no_memory { result.status ≡ 5 → (result ≡ plain 5)
-        × IsVersion text.now × GivesNothing out.old out.new len.new }
+    ensures answers { Replies (IsCanonical text.now) (VersionFails text.now)
+        (buffer out.old out.new len.new) result }
     ensures status { HasStatus result.status (0 ∷ 2 ∷ 4 ∷ 5 ∷ []) }
 {
     *len = 0;
@@ -90,11 +85,7 @@ pub extern "C" fn deb_version_canonical(
     if version.canon_into(&mut canonical).is_err() {
         return no_memory();
     }
-    if give(&canonical, out, len) {
-        yes(0)
-    } else {
-        no_room()
-    }
+    reply(yes(0), &canonical, out, len)
 }
 
 /// Writes the key of a version to the start of `out`, and returns its length: bytes whose order is
@@ -111,14 +102,8 @@ pub extern "C" fn deb_version_key(
     out: &mut [u8],
     len: &mut usize,
 ) -> Answer
-    ensures done { result.status ≡ 0 → (result ≡ counting 0 0)
-        × GivesKey text.now out.old out.new len.new }
-    ensures refused { result.status ≡ 2 → (result ≡ refusing 2 bad_version)
-        × IsNoVersion text.now × GivesNothing out.old out.new len.new }
-    ensures no_room { result.status ≡ 4 → (result ≡ plain 4)
-        × LacksRoomForKey text.now out.old out.new len.new }
-    ensures no_memory { result.status ≡ 5 → (result ≡ plain 5)
-        × IsVersion text.now × GivesNothing out.old out.new len.new }
+    ensures answers { Replies (IsKey text.now) (VersionFails text.now)
+        (buffer out.old out.new len.new) result }
     ensures status { HasStatus result.status (0 ∷ 2 ∷ 4 ∷ 5 ∷ []) }
 {
     *len = 0;
@@ -129,11 +114,7 @@ pub extern "C" fn deb_version_key(
     if version.key_into(&mut key).is_err() {
         return no_memory();
     }
-    if give(&key, out, len) {
-        yes(0)
-    } else {
-        no_room()
-    }
+    reply(yes(0), &key, out, len)
 }
 
 /// The answer 2: a text isn't a version.

@@ -1,33 +1,27 @@
-use Rattle.std.proofs.Common.{◌∙◌, ap, subst, sym}
+use Rattle.std.proofs.Common.{◌∙◌, ap, inl, sym}
 use Rattle.deb_index.specs.FirstLines.{line_at}
 use Rattle.deb_index.specs.Kept.{line_of, listed_of}
 use Rattle.deb_index.specs.Named.{package_at}
-use Rattle.debctl_ffi.specs.Buffers.{Gives, LacksRoom}
 use Rattle.debctl_ffi.specs.Details.{at_line}
 use Rattle.debctl_ffi.proofs.Loading.{lines_held, packages_held}
 use Rattle.debctl_ffi.proofs.details.details_at.Goals as goal
 
-pub returns-then-give-clause-found : goal.returns-then-give-clause-found
-returns-then-give-clause-found c packages lines has has_lines e = record {
-  listed = listed_of c.in-Some-package.found;
-  line = line_of c.in-Some-package.found;
-  is = ap (λ ps. package_at c.args.number ps) (packages_held c.args.loaded.now c.in-Some.index packages c.in-Some.is has)
-      ∙ sym c.in-Some-package.ensures.listed;
-  starts = ap (λ ls. line_at c.args.number ls) (lines_held c.args.loaded.now c.in-Some.index lines c.in-Some.is has_lines)
-      ∙ sym c.in-Some-package.ensures.line;
-  answer_is = c.at_line.ensures ∙ ap at_line c.line.ensures;
-  gives = subst (λ bs. Gives bs c.args.out.now c.give.new.out c.give.new.len)
-      (c.deref.ensures.value ∙ c.in-Ok.ensures) (c.give.ensures.room c.if-give.true);
-}
-
-pub returns-in-Ok-clause-no_room : goal.returns-in-Ok-clause-no_room
-returns-in-Ok-clause-no_room c packages has e = (
-  c.no_room.ensures,
-  record {
-    listed = listed_of c.in-Some-package.found;
-    is = ap (λ ps. package_at c.args.number ps) (packages_held c.args.loaded.now c.in-Some.index packages c.in-Some.is has)
-        ∙ sym c.in-Some-package.ensures.listed;
-    lacks = subst (λ bs. LacksRoom bs c.args.out.now c.give.new.out c.give.new.len)
-        (c.deref.ensures.value ∙ c.in-Ok.ensures) (c.give.ensures.no_room c.if-give.false);
-  },
-)
+pub returns-in-Ok-clause-answers : goal.returns-in-Ok-clause-answers
+returns-in-Ok-clause-answers c = inl (record {
+  told = c.at_line.result;
+  items = c.deref.result.now;
+  found = (
+    ap (λ a. a.status) c.at_line.ensures,
+    λ packages has lines has_lines. record {
+      listed = listed_of c.in-Some-package.found;
+      line = line_of c.in-Some-package.found;
+      is = ap (λ ps. package_at c.args.number ps) (packages_held c.args.loaded.now c.in-Some.index packages c.in-Some.is has)
+          ∙ sym c.in-Some-package.ensures.listed;
+      starts = ap (λ ls. line_at c.args.number ls) (lines_held c.args.loaded.now c.in-Some.index lines c.in-Some.is has_lines)
+          ∙ sym c.in-Some-package.ensures.line;
+      answer_is = c.at_line.ensures ∙ ap at_line c.line.ensures;
+      kept = c.deref.ensures.value ∙ c.in-Ok.ensures;
+    },
+  );
+  replies = c.reply.ensures;
+})
