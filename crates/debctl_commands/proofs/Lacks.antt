@@ -1,5 +1,5 @@
 -- From what is found of a file, and written, to what `check` with demands answers and reports.
-use Rattle.std.proofs.Common.{◌≡◌, ℕ, ◌<◌, Bool, true, false, List, Option, Some, Result, Ok, Err, inl, inr, IfErr, refl, sym, ap, subst, ◌∙◌, arith}
+use Rattle.std.proofs.Common.{◌≡◌, ℕ, Bool, true, false, List, Option, Some, Result, Ok, Err, IfErr, refl, sym, ap, subst, ◌∙◌}
 use Rattle.std.specs.Prelude.{⊤, if◌then◌else◌, nat_lt}
 use Rattle.deb_base.specs.Devices.{read_failures_after, write_failures_after}
 use Rattle.deb_base.specs.declared.doc.Doc.{Doc}
@@ -7,13 +7,11 @@ use Rattle.deb_base.specs.declared.fault.Fault.{Fault}
 use Rattle.deb_base.specs.declared.fault.Fault.TheVariants.{Refused, Memory, Read, Write}
 use Rattle.deb_control.specs.Calls.{HasParagraphs}
 use Rattle.debctl_commands.specs.DocumentJobs.{ok_line}
-use Rattle.debctl_commands.specs.Reporting.{ReportsFault}
 use Rattle.debctl_commands.specs.Verdicts.{verdict_by, verdict_of, AnswersFile, Finds}
-use Rattle.debctl_commands.specs.WholeJob.{ChecksWhole, PutsVerdict, ReportsLack, ReportsVerdict, WritesVerdict, WritesWhole}
+use Rattle.debctl_commands.specs.WholeJob.{ChecksWhole, PutsVerdict, WritesVerdict}
 use Rattle.debctl_commands.specs.declared.verdict.Verdict.{Verdict}
 use Rattle.debctl_commands.specs.declared.verdict.Verdict.TheVariants.{Whole, NoNewline, TooFew}
 use Rattle.debctl_args.specs.declared.jobs.Demands.{Demands}
-use Rattle.debctl_commands.proofs.FaultReports.{two_is_refusal}
 
 -- a file that meets the demands has the paragraphs that are found
 counts : (ends : Bool) (least m n : ℕ) → Whole n ≡ verdict_by ends least m → n ≡ m
@@ -60,52 +58,3 @@ module _ {W : Type 0} (doc : Doc) (demands : Demands) (left left_after : Option 
   unwritten new (Whole n) fault a puts = cut new n fault puts.fault a (subst (λ f. PutsVerdict held failures old new (Whole n) (Err f)) puts.fault puts)
   unwritten new NoNewline fault a (same, none) = absurd none
   unwritten new (TooFew n least) fault a (same, none) = absurd none
-
-  module _ {E : Type 0} (held_err : E → Option (List ℕ)) (failures_err : E → ℕ) (err err_after : E) (status : ℕ) where
-    -- status 2 of an accepted file
-    pub lack_reported : (new : W) (verdict : Verdict) → ChecksWhole doc demands left count count_after held failures old new (Ok verdict) → ReportsVerdict held_err failures_err err err_after verdict status → status ≡ 2 → (new ≡ old) × ReportsLack doc demands left (held_err err) (held_err err_after)
-    lack_reported new (Whole n) checks (zero, same) two = absurd (omega (arith, zero, two))
-    lack_reported new NoNewline checks (inl whole) two = (checks.written, inr (record { verdict = NoNewline; lacks = refl; found = checks.ok; reported = whole.written }))
-    lack_reported new NoNewline checks (inr front) two = absurd (omega (arith, front.status, two))
-    lack_reported new (TooFew n least) checks (inl whole) two = (checks.written, inr (record { verdict = TooFew n least; lacks = refl; found = checks.ok; reported = whole.written }))
-    lack_reported new (TooFew n least) checks (inr front) two = absurd (omega (arith, front.status, two))
-
-    -- and of one that isn't
-    pub refusal_reported : (new : W) (fault : Fault) → ChecksWhole doc demands left count count_after held failures old new (Err fault) → ReportsFault held_err failures_err err err_after fault status → status ≡ 2 → (new ≡ old) × ReportsLack doc demands left (held_err err) (held_err err_after)
-    refusal_reported new fault checks reports is =
-        let two = two_is_refusal held_err failures_err err err_after status fault reports is in
-        let refused : ChecksWhole doc demands left count count_after held failures old new (Err (Refused two.0)) = subst (λ f. ChecksWhole doc demands left count count_after held failures old new (Err f)) two.1 checks in
-        (refused.unwritten, inl (record { refusal = two.0; is_file_refusal = refused.refusal; refused = refused.refused; reported = two.2 }))
-
-    -- status 0
-    pub whole_reported : (new : W) (verdict : Verdict) → ChecksWhole doc demands left count count_after held failures old new (Ok verdict) → ReportsVerdict held_err failures_err err err_after verdict status → status ≡ 0
-        → (err_after ≡ err) × ((text : List ℕ) → left ≡ Some text → WritesWhole doc demands text (held old) (held new))
-    whole_reported new (Whole n) checks (zero, same) is = (
-      same,
-      λ text told. (let f = checks.ok text told in record {
-        count = n;
-        paragraphs = subst (HasParagraphs doc text) (sym (counts _ demands.least f.count n f.is)) f.paragraphs;
-        whole = ap (verdict_of demands text) (counts _ demands.least f.count n f.is) ∙ sym f.is;
-        written = checks.written;
-      }),
-    )
-    whole_reported new NoNewline checks (inl whole) is = absurd (omega (arith, whole.status, is))
-    whole_reported new NoNewline checks (inr front) is = absurd (omega (arith, front.status, is))
-    whole_reported new (TooFew n least) checks (inl whole) is = absurd (omega (arith, whole.status, is))
-    whole_reported new (TooFew n least) checks (inr front) is = absurd (omega (arith, front.status, is))
-
--- an accepted file has no other status but 3, after a failed write
-module _ {E : Type 0} (held : E → Option (List ℕ)) (failures : E → ℕ) (err err_after : E) (status : ℕ) where
-  pub not_one : (verdict : Verdict) → ReportsVerdict held failures err err_after verdict status → status ≡ 1 → ⊥
-  not_one (Whole n) (zero, same) is = omega (arith, zero, is)
-  not_one NoNewline (inl whole) is = omega (arith, whole.status, is)
-  not_one NoNewline (inr front) is = omega (arith, front.status, is)
-  not_one (TooFew n least) (inl whole) is = omega (arith, whole.status, is)
-  not_one (TooFew n least) (inr front) is = omega (arith, front.status, is)
-
-  pub three_if_failed : (verdict : Verdict) → ReportsVerdict held failures err err_after verdict status → failures err < failures err_after → status ≡ 3
-  three_if_failed (Whole n) (zero, same) less = absurd (omega (arith, less, ap failures same))
-  three_if_failed NoNewline (inl whole) less = absurd (omega (arith, less, whole.counted))
-  three_if_failed NoNewline (inr front) less = front.status
-  three_if_failed (TooFew n least) (inl whole) less = absurd (omega (arith, less, whole.counted))
-  three_if_failed (TooFew n least) (inr front) less = front.status

@@ -1,4 +1,4 @@
--- From what the parts of a query answer to what the job answers and reports.
+-- From what the parts of a query answer to what the job answers.
 use Rattle.std.proofs.Common.{◌≡◌, ℕ, Bool, List, Option, Some, Result, Ok, Err, inl, inr, refl, subst}
 use Rattle.std.specs.Io.KnownBytes.{Appends}
 use Rattle.deb_base.specs.Devices.{AppendsFront, read_failures_after}
@@ -17,10 +17,8 @@ use Rattle.deb_index.specs.declared.index.Index.{Index}
 use Rattle.deb_index.specs.Asked.{Asks, relation_asked}
 use Rattle.deb_index.specs.Questions.{IsGood, Question, RefusesWords, environment_in}
 use Rattle.deb_index.specs.declared.question.Question.{Question as Asked}
-use Rattle.debctl_commands.specs.QueryJob.{AreRefused, QueriesFile, ReportsOver, ReportsQueryRefusal, options_text}
-use Rattle.debctl_commands.specs.Reporting.{ReportsFault}
+use Rattle.debctl_commands.specs.QueryJob.{AreRefused, QueriesFile, ReportsOver, options_text}
 use Rattle.debctl_commands.specs.declared.query_job.QueryOptions.{QueryOptions}
-use Rattle.debctl_commands.proofs.FaultReports.{two_is_refusal}
 
 -- the words of a question that was parsed are good
 abbrev pub good_words : (q : Question) (asked : Asked) → Asks q asked → IsGood q
@@ -94,12 +92,3 @@ queries_over options q left count count_after held failures out new (Err Write) 
       reads = reads;
       writes = over.writes;
     }
-
--- status 2
-pub query_refused : {W E : Type 0} (options : QueryOptions) (q : Question) (left : Option (List ℕ)) (count count_after : ℕ) (held : W → Option (List ℕ)) (failures : W → ℕ) (out out_after : W) (held_err : E → Option (List ℕ)) (failures_err : E → ℕ) (err err_after : E) (status : ℕ) (fault : Fault)
-    → QueriesFile options q left count count_after held failures out out_after (Err fault) → ReportsFault held_err failures_err err err_after fault status → status ≡ 2
-    → (out_after ≡ out) × ReportsQueryRefusal q left (held_err err) (held_err err_after)
-query_refused options q left count count_after held failures out out_after held_err failures_err err err_after status fault queries reports is =
-    let two = two_is_refusal held_err failures_err err err_after status fault reports is in
-    let refused : QueriesFile options q left count count_after held failures out out_after (Err (Refused two.0)) = subst (λ f. QueriesFile options q left count count_after held failures out out_after (Err f)) two.1 queries in
-    (refused.unwritten, record { refusal = two.0; is_query_refusal = refused.refusal; refused = refused.refused; reported = two.2 })

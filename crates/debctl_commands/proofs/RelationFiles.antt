@@ -1,11 +1,17 @@
 -- What was read of the file of a relation.
-use Rattle.std.proofs.Common.{◌≡◌, ◌⊎◌, ◌<◌, ◌≤◌, ◌++◌, ℕ, List, Option, Some, length, inl, inr, ap, ◌∙◌, refl, sym, subst, arith, append-nil, length-append}
+use Rattle.std.proofs.Common.{◌≡◌, ◌⊎◌, ◌<◌, ◌≤◌, ◌++◌, ℕ, Bool, List, Option, Some, Result, Ok, Err, length, inl, inr, ap, ◌∙◌, refl, sym, subst, arith, append-nil, length-append}
 use Rattle.std.proofs.Math.Dec.{lit≤}
 use Rattle.deb_base.specs.Bodies.{paragraph_limit, file_limit}
+use Rattle.deb_base.specs.Lines.{fault_line}
 use Rattle.deb_base.specs.Reading.{ReadsEnough, TakesNoMore}
-use Rattle.deb_index.specs.Questions.{Question, RefusesQuery}
-use Rattle.debctl_commands.specs.QueryFrom.{AreRefusedFrom, IsRead, RefusesLong, ReportsRefusalFrom, long_relation}
-use Rattle.debctl_commands.specs.QueryJob.{AreRefused, ReportsQueryRefusal}
+use Rattle.deb_base.specs.declared.fault.Fault.{Fault}
+use Rattle.deb_index.specs.Questions.{Question}
+use Rattle.debctl_commands.specs.JobDevices.{ReaderOfJob, WriterOfJob}
+use Rattle.debctl_commands.specs.Promises.{Ends, plain, yes_or_no}
+use Rattle.debctl_commands.specs.QueryFrom.{AreRefusedFrom, IsRead, QueriesRead, RefusesLong, at_second, from_promise, long_relation}
+use Rattle.debctl_commands.specs.QueryJob.{AreRefused, QueriesFile}
+use Rattle.debctl_commands.specs.Reporting.{ReportsBy}
+use Rattle.debctl_commands.specs.declared.query_job.QueryOptions.{QueryOptions}
 
 -- a file of a relation may have fewer bytes than any file
 pub no_more : (text : List ℕ) (left : Option (List ℕ)) → TakesNoMore text 16777216 left → TakesNoMore text file_limit left
@@ -33,16 +39,6 @@ is_long left read long enough = record {
   is = refl;
 }
 
--- the refusal of a query of the relation that was read
-pub refused_read : (ask : List ℕ → Question) (left other err err_after : Option (List ℕ)) (relation word : List ℕ) → IsRead left relation → word ≡ relation
-    → ReportsQueryRefusal (ask word) other err err_after → ReportsRefusalFrom ask left other err err_after
-refused_read ask left other err err_after relation word read is r = record {
-  refusal = r.refusal;
-  is_refusal = inr (word, r.is_query_refusal);
-  refused = λ text index known lists. inr (rw (read.all text known) read.short, subst (λ t. RefusesQuery (ask t) index r.refusal) (is ∙ sym (read.all text known)) (r.refused index lists));
-  reported = r.reported;
-}
-
 -- the words are refused with the relation that was read, if they are with that of the file
 pub words_of_read : (ask : List ℕ → Question) (left : Option (List ℕ)) (relation word : List ℕ) → IsRead left relation → word ≡ relation → AreRefusedFrom ask left → AreRefused (ask word)
 words_of_read ask left relation word read is bad = go bad.2
@@ -53,3 +49,16 @@ words_of_read ask left relation word read is bad = go bad.2
     go : (paragraph_limit < length bad.0) ⊎ AreRefused (ask bad.0) → AreRefused (ask word)
     go (inl long) = let short = read.short in let lengths : length bad.0 ≡ length relation = ap length same in absurd (omega (arith, long, short, lengths))
     go (inr refused) = subst (λ t. AreRefused (ask t)) (same ∙ sym is) refused
+
+-- the query of the relation that was read has an answer, which is that of the job
+pub read_ends : {W E : Type 0} (options : QueryOptions) (ask : List ℕ → Question) (first second : ReaderOfJob) (out : WriterOfJob W) (err : WriterOfJob E) (relation word : List ℕ) → IsRead first.text relation → word ≡ relation → first.failures_after ≡ first.failures
+    → (status : ℕ) → Ends (plain yes_or_no (λ none second out. QueriesFile options (ask word) second.text second.failures second.failures_after out.held out.failures out.old out.new)) first second out err status → Ends (from_promise options ask) first second out err status
+read_ends {W} options ask first second out err relation word read is unfailed status (answer, says, reported) = go answer (subst (λ r. QueriesFile options (ask r) second.text second.failures second.failures_after out.held out.failures out.old out.new answer) is says) reported
+  where
+    queried : (answer : Result Bool Fault) → QueriesFile options (ask relation) second.text second.failures second.failures_after out.held out.failures out.old out.new answer → QueriesRead options ask first second out (at_second answer)
+    queried answer says = record { relation = relation; read = read; unfailed = unfailed; queried = answer; is = refl; queries = says }
+
+    go : (answer : Result Bool Fault) → QueriesFile options (ask relation) second.text second.failures second.failures_after out.held out.failures out.old out.new answer
+        → ReportsBy yes_or_no (λ (fault : Fault). fault) fault_line err.held err.failures err.old err.new answer status → Ends (from_promise {W} options ask) first second out err status
+    go (Ok met) says reported = (Ok met, inl (queried (Ok met) says), reported)
+    go (Err fault) says reported = (at_second (Err fault), inl (queried (Err fault) says), reported)

@@ -1,15 +1,13 @@
--- What the job of `diff` answers and reports. Its lines are those of `deb_diff`; acceptance and
+-- What the job of `diff` answers. Its lines are those of `deb_diff`; acceptance and
 -- refusals are those of documents of a kind (Debian Policy 5.1 and 5.3 to 5.6).
-use Rattle.std.specs.Prelude.{◌≡◌, ℕ, Bool, true, false, List, [], ◌∷◌, map, Option, Some, refl}
-use Rattle.std.specs.Prelude.{Result, Ok, Err, IfOk, IfErr}
+use Rattle.std.specs.Prelude.{◌≡◌, ℕ, Bool, List, [], ◌∷◌, map, Option, Some, refl}
+use Rattle.std.specs.Prelude.{Result, IfOk, IfErr}
 use Rattle.deb_base.specs.Devices.{read_failures_after, write_failures_after}
-use Rattle.deb_base.specs.declared.fault.Fault.TheVariants as faults
 use Rattle.deb_base.specs.declared.refusal.Refusal.{Refusal}
 use Rattle.deb_control.specs.Calls.{IfRefused, IfWriteFailed}
 use Rattle.deb_control.specs.Comparing.{RefusesSecond}
 use Rattle.deb_control.specs.Documents.{refusal_of}
 use Rattle.deb_control.specs.Sides.{of_first, of_second}
-use Rattle.deb_control.specs.declared.side.Side.TheVariants.{Second}
 use Rattle.deb_control.specs.declared.side.SideFault.{SideFault}
 use Rattle.deb_base.specs.declared.version_text.VersionText.{VersionText}
 use Rattle.deb_base.specs.declared.version_text.VersionText.TheVariants.{Spelled}
@@ -25,9 +23,7 @@ use Rattle.debctl_args.specs.declared.jobs.DiffDetail.{DiffDetail}
 use Rattle.debctl_args.specs.declared.jobs.DiffDetail.TheVariants.{Fields, Values}
 use Rattle.debctl_args.specs.declared.jobs.DiffKind.{DiffKind}
 use Rattle.debctl_args.specs.declared.jobs.DiffKind.TheVariants.{Packages, Binary, Sources, Source}
-use Rattle.debctl_commands.specs.JobDevices.{ReaderOfJob, WriterOfJob, writer_of}
-use Rattle.debctl_commands.specs.SameJob.{ReportsRefusedSide, ReportsSide}
-use Rattle.debctl_commands.specs.VersionJobs.{verdict_status}
+use Rattle.debctl_commands.specs.JobDevices.{ReaderOfJob, WriterOfJob}
 
 -- ---- the arguments
 
@@ -75,42 +71,11 @@ pub record FindsChanges {W : Type 0} (kind : DiffKind) (form : Form)
   pub writes : out.failures out.new
       ≡ write_failures_after (out.failures out.old) (of_second answer)
 
--- If the texts of both readers are known, both files are accepted, exactly the lines that say what
--- changed were written, and this is whether there is none.
-abbrev pub WritesChanges : DiffKind → Form → Option (List ℕ) → Option (List ℕ)
-    → Option (List ℕ) → Option (List ℕ) → Bool → Type 0
-WritesChanges kind form left other old new is_empty =
-    (text text_too : List ℕ) → left ≡ Some text → other ≡ Some text_too
-    → WritesDiff (kind_of kind) form text text_too old new
-    is_empty
-
--- One of the files is refused: nothing was written but that line, after the side of the file.
-abbrev pub ReportsRefusalOfDiff : {W : Type 0} → DiffKind → Option (List ℕ) → Option (List ℕ)
-    → (W → Option (List ℕ)) → W → W → Option (List ℕ) → Option (List ℕ) → Type 0
-ReportsRefusalOfDiff kind left other held old new err err_after =
-    (held new ≡ held old)
-    × ReportsRefusedSide (doc_of (kind_of kind)) left other err err_after
-
 -- The old file is refused.
 abbrev pub IsRefusedOld : DiffKind → Option (List ℕ) → Type 0
 IsRefusedOld kind left =
     (text : List ℕ) × (refusal : Refusal) × (left ≡ Some text)
     × (refusal_of (doc_of (kind_of kind)) text ≡ Some refusal)
-
--- ---- reporting
-
--- An answer is reported by its status, and a fault by its line.
-abbrev pub ReportsChanges : {E : Type 0} → WriterOfJob E → Result Bool SideFault → ℕ → Type 0
-ReportsChanges err (Ok is_empty) status = (status ≡ verdict_status is_empty) × (err.new ≡ err.old)
-ReportsChanges err (Err side_fault) status =
-    ReportsSide err.held err.failures err.old err.new side_fault status
-
--- There is an answer, and it is reported.
-abbrev pub ReportsDiff : {W E : Type 0} → DiffKind → Form → ReaderOfJob → ReaderOfJob
-    → WriterOfJob W → WriterOfJob E → ℕ → Type 0
-ReportsDiff kind form first second out err status =
-    (answer : Result Bool SideFault) × FindsChanges kind form first second out answer
-    × ReportsChanges err answer status
 
 -- ---- worked cases
 
@@ -119,26 +84,6 @@ arguments_of_diff : (map kind_of (Packages ∷ Binary ∷ Sources ∷ Source ∷
     × (map detail_of (Fields ∷ Values ∷ []) ≡ details.Fields ∷ details.Values ∷ [])
     × (form_asked Values Spelled ≡ record { detail = details.Values; versions = Spelled })
 arguments_of_diff = (refl, refl, refl)
-
--- no line is the status 0, a line is 1
-statuses_of_answers : {E : Type 0} (held : E → Option (List ℕ)) (failures : E → ℕ) (old new : E)
-    (status : ℕ)
-    → (ReportsChanges (writer_of held failures old new) (Ok true) status
-    ≡ ((status ≡ 0) × (new ≡ old)))
-    × (ReportsChanges (writer_of held failures old new) (Ok false) status
-    ≡ ((status ≡ 1) × (new ≡ old)))
-    × (ReportsChanges (writer_of held failures old new)
-    (Err (record { side = Second; fault = faults.Read })) status
-    ≡ ReportsSide held failures old new (record { side = Second; fault = faults.Read }) status)
-statuses_of_answers held failures old new status = (refl, refl, refl)
-
--- nothing was written of files of which one is refused, and both are read as the same kind
-refusals_of_diff : {W : Type 0} (left other : Option (List ℕ)) (held : W → Option (List ℕ))
-    (old new : W) (err err_after : Option (List ℕ))
-    → ReportsRefusalOfDiff Source left other held old new err err_after
-    ≡ ((held new ≡ held old)
-    × ReportsRefusedSide (doc_of kinds.Source) left other err err_after)
-refusals_of_diff left other held old new err err_after = refl
 
 -- the old file is refused by its text, as a document of the kind
 old_files : (text : List ℕ) → IsRefusedOld Source (Some text)

@@ -7,7 +7,6 @@ use Rattle.std.specs.Io.KnownBytes.{Appends}
 use Rattle.deb_base.specs.Bodies.{newline}
 use Rattle.deb_base.specs.Devices.{AppendsFront, read_failures_after, write_failures_after}
 use Rattle.deb_base.specs.Faults.{MatchFault}
-use Rattle.deb_base.specs.Lines.{refusal_line}
 use Rattle.deb_base.specs.declared.fault.Fault.{Fault}
 use Rattle.deb_base.specs.declared.fault.Fault.TheVariants.{Refused, Memory, Read, Write}
 use Rattle.deb_base.specs.declared.refusal.Refusal.{Refusal}
@@ -56,13 +55,6 @@ pub record ChecksFile {T W : Type 0} (doc : Doc) (left : Option (List ℕ)) (cou
   pub reads : count_after ≡ read_failures_after count answer
   pub writes : failures new ≡ write_failures_after (failures old) answer
 
--- The file is refused, and exactly the refusal's line was written on `err`.
-pub record ReportsRefusal (doc : Doc) (left err err_after : Option (List ℕ)) : Type 0 where
-  pub refusal : Refusal
-  pub is_file_refusal : IsRefusalOfDocument refusal
-  pub refused : (text : List ℕ) → left ≡ Some text → refusal_of doc text ≡ Some refusal
-  pub reported : Appends err err_after (refusal_line refusal)
-
 -- ---- normalise
 
 -- The answer to `normalise`, and what it wrote.
@@ -80,15 +72,6 @@ pub record NormalisesFile {W : Type 0} (doc : Doc) (left : Option (List ℕ)) (c
   pub refusal : IfRefused answer IsRefusalOfDocument
   pub reads : count_after ≡ read_failures_after count answer
   pub writes : failures new ≡ write_failures_after (failures old) answer
-
--- The file is refused, exactly the canonical text of the paragraphs before the first that fails was
--- written on `out`, and exactly the refusal's line on `err`.
-pub record ReportsRefusalBehind (doc : Doc) (left out out_after err err_after : Option (List ℕ))
-    : Type 0 where
-  pub refusal : Refusal
-  pub is_file_refusal : IsRefusalOfDocument refusal
-  pub refused : (text : List ℕ) → left ≡ Some text → WritesRefused doc text refusal out out_after
-  pub reported : Appends err err_after (refusal_line refusal)
 
 line_of_nothing : ok_line 0 ≡ codes "ok 0\n"
 unfolding digits

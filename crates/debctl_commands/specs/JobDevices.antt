@@ -1,7 +1,5 @@
 -- The readers and writers of a job, before and after it.
-use Rattle.std.specs.Prelude.{◌≡◌, ℕ, List, Option, Some, None, Result, codes, refl}
-use Rattle.deb_base.specs.declared.fault.Fault.{Fault}
-use Rattle.debctl_commands.specs.Reporting.{Reports, ReportsFault}
+use Rattle.std.specs.Prelude.{◌≡◌, ℕ, List, Option, Some, None, codes, refl}
 
 -- a reader before and after a job: its text before, if it is known, and its counts of failed calls
 pub record ReaderOfJob : Type 0 where
@@ -23,15 +21,6 @@ pub record WriterOfJob (W : Type 0) : Type 0 where
 abbrev pub writer_of : {W : Type 0} → (W → Option (List ℕ)) → (W → ℕ) → W → W → WriterOfJob W
 writer_of held failures old new =
     record { held = held; failures = failures; old = old; new = new }
-
--- an answer is reported on a writer, and a fault
-abbrev pub ReportsOn : {T E : Type 0} → WriterOfJob E → (T → ℕ) → Result T Fault → ℕ → Type 0
-ReportsOn err wanted answer status =
-    Reports wanted err.held err.failures err.old err.new answer status
-
-abbrev pub ReportsFaultOn : {E : Type 0} → WriterOfJob E → Fault → ℕ → Type 0
-ReportsFaultOn err fault status =
-    ReportsFault err.held err.failures err.old err.new fault status
 
 -- a reader that has failed once before a job, and once more in it, and a writer that holds its
 -- bytes

@@ -4,7 +4,6 @@ use Rattle.std.specs.Prelude.{◌≡◌, ◌⊎◌, ℕ, List, [], ◌∷◌, �
 use Rattle.std.specs.Io.KnownBytes.{Appends}
 use Rattle.deb_base.specs.Bodies.{newline}
 use Rattle.deb_base.specs.Devices.{AppendsFront, one_more}
-use Rattle.deb_base.specs.Lines.{refusal_line}
 use Rattle.deb_base.specs.declared.fault.Fault.{Fault}
 use Rattle.deb_base.specs.declared.fault.Fault.TheVariants.{Refused, Memory, Read, Write}
 use Rattle.deb_version.specs.Grammar.{SpellsVersion}
@@ -82,11 +81,6 @@ Keys texts held failures old new (Err (Refused refusal)) =
 Keys texts held failures old new (Err Memory) = new ≡ old
 Keys texts held failures old new (Err Read) = ⊥
 Keys texts held failures old new (Err Write) = WritesFrontOfKeys texts held failures old new
-
--- Some text is no version, and exactly that line was written.
-abbrev pub ReportsNoVersion : List (List ℕ) → Option (List ℕ) → Option (List ℕ) → Type 0
-ReportsNoVersion texts err err_after =
-    HaveNoVersion texts × Appends err err_after (refusal_line bad_version)
 
 -- ---- worked cases
 

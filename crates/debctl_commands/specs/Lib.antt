@@ -8,11 +8,11 @@ pub mod JobDevices
 pub mod KeyJob
 pub mod ListedPaths
 pub mod Opening
+pub mod Promises
 pub mod QueryFrom
 pub mod QueryJob
 pub mod Running
 pub mod SameJob
-pub mod SortJob
 pub mod Taking
 pub mod Reporting
 pub mod UnmetJob

@@ -128,15 +128,6 @@ pub record ReportsOver {W : Type 0} (options : QueryOptions) (spellings : List (
       (options_text options spellings packages relation environment)))
   pub writes : failures new ≡ write_failures_after (failures old) answer
 
--- ---- reporting
-
--- The words, the index or a wildcard is refused, and exactly the refusal's line was written.
-pub record ReportsQueryRefusal (q : Question) (left err err_after : Option (List ℕ)) : Type 0 where
-  pub refusal : Refusal
-  pub is_query_refusal : IsQueryRefusal q refusal
-  pub refused : (text : List ℕ) → left ≡ Some text → RefusesQuery q text refusal
-  pub reported : Appends err err_after (refusal_line refusal)
-
 line_of_bad_relation : refusal_line bad_relation ≡ codes "line 0: 19 BadRelation\n"
 unfolding digits
 line_of_bad_relation = refl

@@ -49,12 +49,34 @@ pub record ReportsUnwritten {W E : Type 0} (held : W → Option (List ℕ)) (wri
 abbrev pub done_status : {T : Type 0} → T → ℕ
 done_status _ = 0
 
--- An answer is reported: one that is there by its status and nothing else, a fault as above.
+-- how an answer is reported: by its status alone, or by a line and status 2
+pub data Report : Type 0 where
+  by_status : ℕ → Report
+  by_line : List ℕ → Report
+
+abbrev pub ReportsAs : {E : Type 0} → (E → Option (List ℕ)) → (E → ℕ) → E → E → Report → ℕ
+    → Type 0
+ReportsAs held failures old new (by_status wanted) status = (status ≡ wanted) × (new ≡ old)
+ReportsAs held failures old new (by_line line) status =
+    ReportsWhole held failures old new line 2 status
+    ⊎ ReportsFront held failures old new line status
+
+-- An answer is reported: one that is there as `report` says, and a failure by its line and by the
+-- status of its fault, unless a write of the line fails.
+abbrev pub ReportsBy : {T X E : Type 0} → (T → Report) → (X → Fault) → (X → List ℕ)
+    → (E → Option (List ℕ)) → (E → ℕ) → E → E → Result T X → ℕ → Type 0
+ReportsBy report fault line held failures old new (Ok answer) status =
+    ReportsAs held failures old new (report answer) status
+ReportsBy report fault line held failures old new (Err failure) status =
+    ReportsWhole held failures old new (line failure) (status_of (fault failure)) status
+    ⊎ ReportsFront held failures old new (line failure) status
+
+-- The same, where each answer is reported by its status, and a fault by its own line.
 abbrev pub Reports : {T E : Type 0} → (T → ℕ) → (E → Option (List ℕ)) → (E → ℕ) → E → E →
     Result T Fault → ℕ → Type 0
-Reports wanted held failures old new (Ok answer) status = (status ≡ wanted answer) × (new ≡ old)
-Reports wanted held failures old new (Err fault) status =
-    ReportsFault held failures old new fault status
+Reports {T} wanted held failures old new answer status =
+    ReportsBy (λ (answer : T). by_status (wanted answer)) (λ (fault : Fault). fault) fault_line
+    held failures old new answer status
 
 -- the fault that is reported after the lines of a path that can't be opened
 abbrev pub fault_behind : Result ⊤ Fault → Fault

@@ -1,48 +1,39 @@
 -- What a whole command answers and writes, by its job. The jobs and their statuses are this
 -- project's own.
-use Rattle.std.specs.Prelude.{◌≡◌, ◌⊎◌, ℕ, ⊤, Bool, true, false, List, map, Option, Some, None}
-use Rattle.std.specs.Prelude.{IsFalse, IsTrue, Result, String, Vec, string_bytes, codes, refl}
-use Rattle.std.specs.Io.KnownBytes.{Appends}
+use Rattle.std.specs.Prelude.{◌≡◌, ℕ, ⊤, Bool, true, false, List, map, Option, Some}
+use Rattle.std.specs.Prelude.{IsFalse, IsTrue, Result, Err, String, Vec, string_bytes, codes, refl}
 use Rattle.std.specs.declared.alloc.Global.{Global}
-use Rattle.deb_base.specs.Lines.{refusal_line}
 use Rattle.deb_base.specs.declared.doc.Doc.{Doc}
 use Rattle.deb_base.specs.declared.fault.Fault.{Fault}
+use Rattle.deb_base.specs.declared.fault.Fault.TheVariants.{Read}
 use Rattle.deb_base.specs.declared.version_text.VersionText.{VersionText}
-use Rattle.deb_control.specs.Calls.{WritesCanonical}
-use Rattle.deb_control.specs.declared.side.SideFault.{SideFault}
-use Rattle.deb_sort.specs.Files.{SortsFile, WritesSorted}
-use Rattle.deb_control.specs.AllRefusals.{file_lines}
+use Rattle.deb_control.specs.declared.side.Side.TheVariants.{Second}
 use Rattle.deb_control.specs.declared.summary.Summary.{Summary}
-use Rattle.debctl_commands.specs.AllJobs.{ChecksAll, WritesRefusals, WritesUnrefused, summary_status}
-use Rattle.debctl_commands.specs.DiffJob.{IsRefusedOld, ReportsDiff, ReportsRefusalOfDiff}
-use Rattle.debctl_commands.specs.DiffJob.{WritesChanges, form_asked}
-use Rattle.debctl_commands.specs.DocumentJobs.{ChecksFile, NormalisesFile, ReportsRefusal}
-use Rattle.debctl_commands.specs.DocumentJobs.{ReportsRefusalBehind, WritesOk}
 use Rattle.deb_index.specs.Questions.{Question, question}
-use Rattle.debctl_commands.specs.KeyJob.{Keys, ReportsNoVersion, WritesKeys}
-use Rattle.debctl_commands.specs.QueryFrom.{AreRefusedFrom, ReportsFrom, ReportsRefusalFrom}
-use Rattle.debctl_commands.specs.QueryFrom.{WritesReportFrom}
-use Rattle.debctl_commands.specs.QueryJob.{AreRefused, QueriesFile, ReportsQueryRefusal}
-use Rattle.debctl_commands.specs.QueryJob.{WritesReport, query_options}
-use Rattle.debctl_commands.specs.SameJob.{ComparesFiles, ReportsComparison, ReportsRefusedSide}
-use Rattle.debctl_commands.specs.SameJob.{WritesSame}
-use Rattle.debctl_commands.specs.SortJob.{ReportsLineRefusal}
-use Rattle.debctl_commands.specs.UnmetJob.{AreRefusedBefore, ReportsRefusalOfUnmet, ReportsUnmet}
-use Rattle.debctl_commands.specs.UnmetJob.{Words, WritesUnmetOf, has_environment, is_index, words}
-use Rattle.debctl_commands.specs.JobDevices.{ReaderOfJob, WriterOfJob, ReportsOn}
-use Rattle.debctl_commands.specs.Reporting.{done_status}
-use Rattle.debctl_commands.specs.WholeJob.{ChecksWhole, ReportsAnswered, ReportsLack, WritesWhole}
-use Rattle.debctl_commands.specs.declared.verdict.Verdict.{Verdict}
-use Rattle.debctl_commands.specs.VersionJobs.{bad_version, verdict_status, Canonicalises, Compared}
-use Rattle.debctl_commands.specs.VersionJobs.{Compares, IsNoVersion, WritesLine}
+use Rattle.deb_sort.specs.Files.{SortsFile}
+use Rattle.debctl_commands.specs.AllJobs.{ChecksAll, summary_status}
+use Rattle.debctl_commands.specs.DiffJob.{FindsChanges, IsRefusedOld, form_asked}
+use Rattle.debctl_commands.specs.DocumentJobs.{ChecksFile, NormalisesFile}
+use Rattle.debctl_commands.specs.JobDevices.{ReaderOfJob, WriterOfJob}
+use Rattle.debctl_commands.specs.KeyJob.{Keys}
+use Rattle.debctl_commands.specs.Promises.{Answers, Ends, HasStatus, Promise, Refuses, Saying}
+use Rattle.debctl_commands.specs.Promises.{done, plain, sided, yes_or_no}
+use Rattle.debctl_commands.specs.QueryFrom.{AreRefusedFrom, from_promise}
+use Rattle.debctl_commands.specs.QueryJob.{AreRefused, QueriesFile, query_options}
+use Rattle.debctl_commands.specs.Reporting.{by_line, by_status}
+use Rattle.debctl_commands.specs.SameJob.{ComparesFiles}
+use Rattle.debctl_commands.specs.UnmetJob.{AreRefusedBefore, Words, has_environment, is_index}
+use Rattle.debctl_commands.specs.UnmetJob.{unmet_promise, words}
+use Rattle.debctl_commands.specs.Verdicts.{verdict_line}
+use Rattle.debctl_commands.specs.VersionJobs.{Canonicalises, Compares}
+use Rattle.debctl_commands.specs.WholeJob.{ChecksWhole, verdict_report}
+use Rattle.debctl_commands.specs.declared.verdict.Verdict.TheVariants.{NoNewline, Whole}
 use Rattle.debctl_args.specs.declared.jobs.Cmp.{Cmp}
-use Rattle.debctl_args.specs.declared.jobs.Job.{Job}
 use Rattle.debctl_args.specs.declared.jobs.Demands.{Demands}
-use Rattle.debctl_args.specs.declared.jobs.Job.TheVariants.{Check, CheckAll, CheckWhole, Normalise, Same, Diff}
 use Rattle.debctl_args.specs.declared.jobs.Dependents.{Dependents}
 use Rattle.debctl_args.specs.declared.jobs.Detail.{Detail}
-use Rattle.debctl_args.specs.declared.jobs.DiffDetail.{DiffDetail}
-use Rattle.debctl_args.specs.declared.jobs.DiffKind.{DiffKind}
+use Rattle.debctl_args.specs.declared.jobs.Job.{Job}
+use Rattle.debctl_args.specs.declared.jobs.Job.TheVariants.{Check, CheckAll, CheckWhole, Normalise, Same, Diff}
 use Rattle.debctl_args.specs.declared.jobs.Job.TheVariants.{Compare, CanonVersion, Sort, Query, QueryFrom}
 use Rattle.debctl_args.specs.declared.jobs.Job.TheVariants.{Unmet, VersionKey}
 
@@ -62,237 +53,106 @@ abbrev pub words_of_unmet : String Global → Vec (String Global) Global → Dep
 words_of_unmet arch profiles dependents versions =
     words (string_bytes arch) (map string_bytes profiles.items) dependents versions
 
--- Of the readers of the first file and of the second, `left` and `other` are the texts, where
--- they are known.
+-- ---- promises
 
--- Status 0: `ok N` for an accepted file, all lines of one without a refusal, its canonical text,
--- `same`, no line of `diff`, yes, a version's canonical text with a newline, the keys of versions,
--- the sorted lines of a file, a report without an unmet group, and no line of `unmet`.
-abbrev pub Done : {W : Type 0} → Job → Option (List ℕ) → Option (List ℕ) →
-    (W → Option (List ℕ)) → (W → ℕ) → W → W → Type 0
-Done (Check doc) left other held failures out new =
-    (text : List ℕ) → left ≡ Some text → WritesOk doc text (held out) (held new)
-Done (CheckAll doc) left other held failures out new =
-    (text : List ℕ) → left ≡ Some text
-    → WritesUnrefused doc text (file_lines doc text) (held out) (held new)
-Done (CheckWhole doc demands) left other held failures out new =
-    (text : List ℕ) → left ≡ Some text → WritesWhole doc demands text (held out) (held new)
-Done (Normalise doc) left other held failures out new =
-    (text : List ℕ) → left ≡ Some text → (n : ℕ) × WritesCanonical doc text n (held out) (held new)
-Done (Same doc) left other held failures out new =
-    WritesSame doc left other (held out) (held new) true
-Done (Diff kind detail versions) left other held failures out new =
-    WritesChanges kind (form_asked detail versions) left other (held out) (held new) true
-Done (Compare former operator latter) left other held failures out new =
-    (new ≡ out) × Compared (string_bytes former) operator (string_bytes latter) true
-Done (CanonVersion version) left other held failures out new =
-    WritesLine (string_bytes version) held failures out new
-Done (VersionKey versions) left other held failures out new =
-    WritesKeys (map string_bytes versions.items) held failures out new
-Done (Sort reverse) left other held failures out new =
-    (text : List ℕ) → left ≡ Some text → WritesSorted reverse text (held out) (held new)
-Done (Query arch profiles relation detail versions) left other held failures out new =
-    (text : List ℕ) → left ≡ Some text
-    → WritesReport (query_options detail versions) (asked arch profiles relation) text
-    (held out) (held new) true
-Done (QueryFrom arch profiles detail versions) left other held failures out new =
-    WritesReportFrom (query_options detail versions) (asked_of_file arch profiles) left other
-    (held out) (held new) true
-Done (Unmet arch profiles dependents versions) left other held failures out new =
-    WritesUnmetOf (words_of_unmet arch profiles dependents versions) left other (held out)
-    (held new) true
+-- what the answers of a job on one file say, and of one on words alone
+abbrev pub of_file : {W T : Type 0} → (Option (List ℕ) → ℕ → ℕ → (W → Option (List ℕ)) → (W → ℕ)
+    → W → W → Result T Fault → Type 0) → Saying W T Fault
+of_file says first second out answer =
+    says first.text first.failures first.failures_after out.held out.failures out.old out.new answer
 
--- Status 1: `different`, the lines of `diff`, no, for which nothing was written, a report with an
--- unmet group, and the lines of `unmet`.
-abbrev pub SaysNo : {W : Type 0} → Job → Option (List ℕ) → Option (List ℕ) →
-    (W → Option (List ℕ)) → W → W → Type 0
-SaysNo (Check doc) left other held out new = ⊥
-SaysNo (CheckAll doc) left other held out new = ⊥
-SaysNo (CheckWhole doc demands) left other held out new = ⊥
-SaysNo (Normalise doc) left other held out new = ⊥
-SaysNo (Same doc) left other held out new = WritesSame doc left other (held out) (held new) false
-SaysNo (Diff kind detail versions) left other held out new =
-    WritesChanges kind (form_asked detail versions) left other (held out) (held new) false
-SaysNo (Compare former operator latter) left other held out new =
-    (new ≡ out) × Compared (string_bytes former) operator (string_bytes latter) false
-SaysNo (CanonVersion version) left other held out new = ⊥
-SaysNo (VersionKey versions) left other held out new = ⊥
-SaysNo (Sort reverse) left other held out new = ⊥
-SaysNo (Query arch profiles relation detail versions) left other held out new =
-    (text : List ℕ) → left ≡ Some text
-    → WritesReport (query_options detail versions) (asked arch profiles relation) text
-    (held out) (held new) false
-SaysNo (QueryFrom arch profiles detail versions) left other held out new =
-    WritesReportFrom (query_options detail versions) (asked_of_file arch profiles) left other
-    (held out) (held new) false
-SaysNo (Unmet arch profiles dependents versions) left other held out new =
-    WritesUnmetOf (words_of_unmet arch profiles dependents versions) left other (held out)
-    (held new) false
+abbrev pub of_words : {W T : Type 0} → ((W → Option (List ℕ)) → (W → ℕ) → W → W → Result T Fault
+    → Type 0) → Saying W T Fault
+of_words says first second out answer = says out.held out.failures out.old out.new answer
 
--- Status 2: a file or a version is refused, exactly the refusal's line was written on `err`, by
--- `same`, `diff` and `unmet` after the side of the file, and nothing on `out` but the canonical
--- text or the lines of the paragraphs before the first that fails, by `normalise` and `unmet`; or,
--- by `check --all`, all lines of the file were written on `out`, and nothing on `err`; or, by
--- `check` with demands, the file doesn't meet them, and the line that says so was written on `err`.
-abbrev pub IsRefused : {W : Type 0} → Job → Option (List ℕ) → Option (List ℕ) →
-    (W → Option (List ℕ)) → W → W → Option (List ℕ) → Option (List ℕ) → Type 0
-IsRefused (Check doc) left other held out new err err_after =
-    (new ≡ out) × ReportsRefusal doc left err err_after
-IsRefused (CheckAll doc) left other held out new err err_after =
-    (err_after ≡ err) × ((text : List ℕ) → left ≡ Some text
-    → WritesRefusals doc text (file_lines doc text) (held out) (held new))
-IsRefused (CheckWhole doc demands) left other held out new err err_after =
-    (new ≡ out) × ReportsLack doc demands left err err_after
-IsRefused (Normalise doc) left other held out new err err_after =
-    ReportsRefusalBehind doc left (held out) (held new) err err_after
-IsRefused (Same doc) left other held out new err err_after =
-    (new ≡ out) × ReportsRefusedSide doc left other err err_after
-IsRefused (Diff kind detail versions) left other held out new err err_after =
-    ReportsRefusalOfDiff kind left other held out new err err_after
-IsRefused (Compare former operator latter) left other held out new err err_after =
-    (new ≡ out) × (IsNoVersion (string_bytes former) ⊎ IsNoVersion (string_bytes latter))
-    × Appends err err_after (refusal_line bad_version)
-IsRefused (CanonVersion version) left other held out new err err_after =
-    (new ≡ out) × IsNoVersion (string_bytes version)
-    × Appends err err_after (refusal_line bad_version)
-IsRefused (VersionKey versions) left other held out new err err_after =
-    (new ≡ out) × ReportsNoVersion (map string_bytes versions.items) err err_after
-IsRefused (Sort reverse) left other held out new err err_after =
-    (new ≡ out) × ReportsLineRefusal left err err_after
-IsRefused (Query arch profiles relation detail versions) left other held out new err err_after =
-    (new ≡ out) × ReportsQueryRefusal (asked arch profiles relation) left err err_after
-IsRefused (QueryFrom arch profiles detail versions) left other held out new err err_after =
-    (new ≡ out) × ReportsRefusalFrom (asked_of_file arch profiles) left other err err_after
-IsRefused (Unmet arch profiles dependents versions) left other held out new err err_after =
-    ReportsRefusalOfUnmet (words_of_unmet arch profiles dependents versions) left other held out new
-    err err_after
+-- What each job promises.
+abbrev pub promise_of : {W : Type 0} → Job → Promise W
+promise_of (Check doc) = plain {T = ⊤} done (of_file (ChecksFile doc))
+promise_of (CheckAll doc) =
+    plain (λ (summary : Summary). by_status (summary_status summary)) (of_file (ChecksAll doc))
+promise_of (CheckWhole doc demands) = plain verdict_report (of_file (ChecksWhole doc demands))
+promise_of (Normalise doc) = plain {T = ℕ} done (of_file (NormalisesFile doc))
+promise_of (Same doc) = sided yes_or_no (ComparesFiles doc)
+promise_of (Diff kind detail versions) =
+    sided yes_or_no (FindsChanges kind (form_asked detail versions))
+promise_of (Compare former operator latter) = plain yes_or_no (λ first second out answer. (
+    Compares (string_bytes former) operator (string_bytes latter) answer × (out.new ≡ out.old)
+    ))
+promise_of (CanonVersion version) =
+    plain {T = ⊤} done (of_words (Canonicalises (string_bytes version)))
+promise_of (VersionKey versions) =
+    plain {T = ⊤} done (of_words (Keys (map string_bytes versions.items)))
+promise_of (Sort reverse) = plain {T = ⊤} done (of_file (SortsFile reverse))
+promise_of (Query arch profiles relation detail versions) = plain yes_or_no
+    (of_file (QueriesFile (query_options detail versions) (asked arch profiles relation)))
+promise_of (QueryFrom arch profiles detail versions) =
+    from_promise (query_options detail versions) (asked_of_file arch profiles)
+promise_of (Unmet arch profiles dependents versions) =
+    unmet_promise (words_of_unmet arch profiles dependents versions)
+
+-- ---- what each status says
+
+-- `left` and `other` are the texts of the readers of the first file and of the second, where they
+-- are known.
+
+-- Status 0 and 1: the job has an answer of that status.
+abbrev pub Done : {W : Type 0} → Job → Option (List ℕ) → Option (List ℕ) → WriterOfJob W → Type 0
+Done {W} job left other out =
+    Answers (promise_of job) left other out (HasStatus (promise_of {W} job) 0)
+
+abbrev pub SaysNo : {W : Type 0} → Job → Option (List ℕ) → Option (List ℕ) → WriterOfJob W → Type 0
+SaysNo {W} job left other out =
+    Answers (promise_of job) left other out (HasStatus (promise_of {W} job) 1)
+
+-- Status 2: a file or an argument is refused, and exactly that line was written on `err`; or the
+-- answer is one of status 2.
+abbrev pub IsRefused : {W : Type 0} → Job → Option (List ℕ) → Option (List ℕ) → WriterOfJob W
+    → Option (List ℕ) → Option (List ℕ) → Type 0
+IsRefused {W} job left other out err err_after =
+    Answers (promise_of job) left other out (Refuses (promise_of {W} job) err err_after)
 
 -- Whatever the status: there is an answer to the job, and it is reported.
 abbrev pub Reported : {W E : Type 0} → Job → ReaderOfJob → ReaderOfJob → WriterOfJob W
     → WriterOfJob E → ℕ → Type 0
-Reported (Check doc) first second out err status =
-    (answer : Result ⊤ Fault)
-    × ChecksFile doc first.text first.failures first.failures_after
-    out.held out.failures out.old out.new answer
-    × ReportsOn err done_status answer status
-Reported (CheckAll doc) first second out err status =
-    (answer : Result Summary Fault)
-    × ChecksAll doc first.text first.failures first.failures_after
-    out.held out.failures out.old out.new answer
-    × ReportsOn err summary_status answer status
-Reported (CheckWhole doc demands) first second out err status =
-    (answer : Result Verdict Fault)
-    × ChecksWhole doc demands first.text first.failures first.failures_after
-    out.held out.failures out.old out.new answer
-    × ReportsAnswered err.held err.failures err.old err.new answer status
-Reported (Normalise doc) first second out err status =
-    (answer : Result ℕ Fault)
-    × NormalisesFile doc first.text first.failures first.failures_after
-    out.held out.failures out.old out.new answer
-    × ReportsOn err done_status answer status
-Reported (Same doc) first second out err status =
-    (answer : Result Bool SideFault)
-    × ComparesFiles doc first.text second.text
-    first.failures first.failures_after second.failures second.failures_after answer
-    × ReportsComparison out.held out.failures out.old out.new err.held err.failures err.old err.new
-    answer status
-Reported (Diff kind detail versions) first second out err status =
-    ReportsDiff kind (form_asked detail versions) first second out err status
-Reported (Compare left operator right) first second out err status =
-    (answer : Result Bool Fault)
-    × Compares (string_bytes left) operator (string_bytes right) answer × (out.new ≡ out.old)
-    × ReportsOn err verdict_status answer status
-Reported (CanonVersion version) first second out err status =
-    (answer : Result ⊤ Fault)
-    × Canonicalises (string_bytes version) out.held out.failures out.old out.new answer
-    × ReportsOn err done_status answer status
-Reported (VersionKey versions) first second out err status =
-    (answer : Result ⊤ Fault)
-    × Keys (map string_bytes versions.items) out.held out.failures out.old out.new answer
-    × ReportsOn err done_status answer status
-Reported (Sort reverse) first second out err status =
-    (answer : Result ⊤ Fault)
-    × SortsFile reverse first.text first.failures first.failures_after
-    out.held out.failures out.old out.new answer
-    × ReportsOn err done_status answer status
-Reported (Query arch profiles relation detail versions) first second out err status =
-    (answer : Result Bool Fault)
-    × QueriesFile (query_options detail versions) (asked arch profiles relation) first.text
-    first.failures
-    first.failures_after out.held out.failures out.old out.new answer
-    × ReportsOn err verdict_status answer status
-Reported (QueryFrom arch profiles detail versions) first second out err status =
-    ReportsFrom (query_options detail versions) (asked_of_file arch profiles) first second
-    out err status
-Reported (Unmet arch profiles dependents versions) first second out err status =
-    ReportsUnmet (words_of_unmet arch profiles dependents versions) first second out err status
+Reported job first second out err status = Ends (promise_of job) first second out err status
+
+-- ---- what a job leaves as it was
 
 -- A job that reads no file leaves the first reader as it was.
 abbrev pub IfUnread : Job → Type 0 → Type 0
-IfUnread (Check doc) P = Unit {0}
-IfUnread (CheckAll doc) P = Unit {0}
-IfUnread (CheckWhole doc demands) P = Unit {0}
-IfUnread (Normalise doc) P = Unit {0}
-IfUnread (Same doc) P = Unit {0}
-IfUnread (Diff kind detail versions) P = Unit {0}
 IfUnread (Compare former operator latter) P = P
 IfUnread (CanonVersion version) P = P
 IfUnread (VersionKey versions) P = P
-IfUnread (Sort reverse) P = Unit {0}
-IfUnread (Query arch profiles relation detail versions) P = Unit {0}
-IfUnread (QueryFrom arch profiles detail versions) P = Unit {0}
-IfUnread (Unmet arch profiles dependents versions) P = Unit {0}
+IfUnread _ P = Unit {0}
+
+-- The lines of the job are asked in some detail.
+abbrev pub HasDetail : Job → Type 0
+HasDetail (Diff kind detail versions) = Unit {0}
+HasDetail (Query arch profiles relation detail versions) = Unit {0}
+HasDetail (QueryFrom arch profiles detail versions) = Unit {0}
+HasDetail _ = ⊥
 
 -- Comparing two versions takes no memory.
 abbrev pub IfCompare : Job → Type 0 → Type 0
-IfCompare (Check doc) P = Unit {0}
-IfCompare (CheckAll doc) P = Unit {0}
-IfCompare (CheckWhole doc demands) P = Unit {0}
-IfCompare (Normalise doc) P = Unit {0}
-IfCompare (Same doc) P = Unit {0}
-IfCompare (Diff kind detail versions) P = Unit {0}
 IfCompare (Compare former operator latter) P = P
-IfCompare (CanonVersion version) P = Unit {0}
-IfCompare (VersionKey versions) P = Unit {0}
-IfCompare (Sort reverse) P = Unit {0}
-IfCompare (Query arch profiles relation detail versions) P = Unit {0}
-IfCompare (QueryFrom arch profiles detail versions) P = Unit {0}
-IfCompare (Unmet arch profiles dependents versions) P = Unit {0}
+IfCompare _ P = Unit {0}
 
 -- Every job but `same`, `diff`, `query --relation-from` and an `unmet` of another file than the
 -- index leaves the second reader as it was.
 abbrev pub IfSecondUnread : Job → Type 0 → Type 0
-IfSecondUnread (Check doc) P = P
-IfSecondUnread (CheckAll doc) P = P
-IfSecondUnread (CheckWhole doc demands) P = P
-IfSecondUnread (Normalise doc) P = P
 IfSecondUnread (Same doc) P = Unit {0}
 IfSecondUnread (Diff kind detail versions) P = Unit {0}
-IfSecondUnread (Compare former operator latter) P = P
-IfSecondUnread (CanonVersion version) P = P
-IfSecondUnread (VersionKey versions) P = P
-IfSecondUnread (Sort reverse) P = P
-IfSecondUnread (Query arch profiles relation detail versions) P = P
 IfSecondUnread (QueryFrom arch profiles detail versions) P = Unit {0}
 IfSecondUnread (Unmet arch profiles dependents versions) P = IsTrue (is_index dependents) → P
+IfSecondUnread _ P = P
 
 -- A query or `unmet` whose words are refused leaves the first reader as it was.
 abbrev pub IfRefusedWords : Job → Type 0 → Type 0
-IfRefusedWords (Check doc) P = Unit {0}
-IfRefusedWords (CheckAll doc) P = Unit {0}
-IfRefusedWords (CheckWhole doc demands) P = Unit {0}
-IfRefusedWords (Normalise doc) P = Unit {0}
-IfRefusedWords (Same doc) P = Unit {0}
-IfRefusedWords (Diff kind detail versions) P = Unit {0}
-IfRefusedWords (Compare former operator latter) P = Unit {0}
-IfRefusedWords (CanonVersion version) P = Unit {0}
-IfRefusedWords (VersionKey versions) P = Unit {0}
-IfRefusedWords (Sort reverse) P = Unit {0}
 IfRefusedWords (Query arch profiles relation detail versions) P =
     AreRefused (asked arch profiles relation) → P
-IfRefusedWords (QueryFrom arch profiles detail versions) P = Unit {0}
 IfRefusedWords (Unmet arch profiles dependents versions) P =
     IsFalse (has_environment (words_of_unmet arch profiles dependents versions)) → P
+IfRefusedWords _ P = Unit {0}
 
 -- A query whose relation is that of a file leaves the second reader, which is that of the index, as
 -- it was, if the words with that relation are refused; `unmet`, if its words or the index are; and
@@ -314,183 +174,55 @@ words_asked : (arch relation : String Global) (profiles : Vec (String Global) Gl
     }
 words_asked arch relation profiles = refl
 
--- status 0 of `sort`, in the order that is asked
-done_of_sort : {W : Type 0} (text : List ℕ) (other : Option (List ℕ))
-    (held : W → Option (List ℕ)) (failures : W → ℕ) (out new : W)
-    → (Done (Sort true) (Some text) other held failures out new
-    ≡ ((read : List ℕ) → Some text ≡ Some read → WritesSorted true read (held out) (held new)))
-    × (Done (Sort false) (Some text) other held failures out new
-    ≡ ((read : List ℕ) → Some text ≡ Some read → WritesSorted false read (held out) (held new)))
-done_of_sort text other held failures out new = (refl, refl)
+-- the answers that have a status of their own, of jobs on words and on files
+statuses_of_jobs : {W : Type 0} (doc : Doc) (version : String Global) (demands : Demands)
+    → ((promise_of {W} (CanonVersion version)).report tt ≡ by_status 0)
+    × ((promise_of {W} (Same doc)).report true ≡ by_status 0)
+    × ((promise_of {W} (Same doc)).report false ≡ by_status 1)
+    × ((promise_of {W} (CheckAll doc)).report (record { passed = 4; refused = 0 }) ≡ by_status 0)
+    × ((promise_of {W} (CheckAll doc)).report (record { passed = 4; refused = 3 }) ≡ by_status 2)
+    × ((promise_of {W} (CheckWhole doc demands)).report (Whole 2) ≡ by_status 0)
+    × ((promise_of {W} (CheckWhole doc demands)).report NoNewline
+    ≡ by_line (verdict_line NoNewline))
+statuses_of_jobs doc version demands = (refl, refl, refl, refl, refl, refl, refl)
 
--- what is said of `check --all`: it reads the first file alone, and writes all of its lines,
--- whether it has a refusal or not
-said_of_check_all : {W : Type 0} (doc : Doc) (text : List ℕ) (other err err_after : Option (List ℕ))
-    (held : W → Option (List ℕ)) (failures : W → ℕ) (out new : W) (P : Type 0)
-    → (Done (CheckAll doc) (Some text) other held failures out new
-    ≡ ((read : List ℕ) → Some text ≡ Some read
-    → WritesUnrefused doc read (file_lines doc read) (held out) (held new)))
-    × (SaysNo (CheckAll doc) (Some text) other held out new ≡ ⊥)
-    × (IsRefused (CheckAll doc) (Some text) other held out new err err_after
-    ≡ ((err_after ≡ err) × ((read : List ℕ) → Some text ≡ Some read
-    → WritesRefusals doc read (file_lines doc read) (held out) (held new))))
-    × (IfUnread (CheckAll doc) P ≡ Unit {0}) × (IfSecondUnread (CheckAll doc) P ≡ P)
-    × (IfCompare (CheckAll doc) P ≡ Unit {0}) × (IfRefusedWords (CheckAll doc) P ≡ Unit {0})
-    × (IfRefusedRelation (CheckAll doc) other P ≡ Unit {0})
-said_of_check_all doc text other err err_after held failures out new P =
-    (refl, refl, refl, refl, refl, refl, refl, refl)
+-- a failed read of the second file is reported without its side
+lines_of_jobs : {W : Type 0} (doc : Doc)
+    → ((promise_of {W} (Check doc)).line Read ≡ codes "fault: read\n")
+    × ((promise_of {W} (Same doc)).line (record { side = Second; fault = Read })
+    ≡ codes "fault: read\n")
+lines_of_jobs doc = (refl, refl)
 
--- what is said of a check with demands: it reads the first file alone
-said_of_check_whole : {W : Type 0} (doc : Doc) (demands : Demands) (text : List ℕ)
-    (other err err_after : Option (List ℕ)) (held : W → Option (List ℕ)) (failures : W → ℕ)
-    (out new : W) (P : Type 0)
-    → (Done (CheckWhole doc demands) (Some text) other held failures out new
-    ≡ ((read : List ℕ) → Some text ≡ Some read
-    → WritesWhole doc demands read (held out) (held new)))
-    × (SaysNo (CheckWhole doc demands) (Some text) other held out new ≡ ⊥)
-    × (IsRefused (CheckWhole doc demands) (Some text) other held out new err err_after
-    ≡ ((new ≡ out) × ReportsLack doc demands (Some text) err err_after))
-    × (IfUnread (CheckWhole doc demands) P ≡ Unit {0})
-    × (IfSecondUnread (CheckWhole doc demands) P ≡ P)
-    × (IfCompare (CheckWhole doc demands) P ≡ Unit {0})
-    × (IfRefusedWords (CheckWhole doc demands) P ≡ Unit {0})
-    × (IfRefusedRelation (CheckWhole doc demands) other P ≡ Unit {0})
-said_of_check_whole doc demands text other err err_after held failures out new P =
-    (refl, refl, refl, refl, refl, refl, refl, refl)
+-- what is said of `sort`, in the order that is asked, and of a job on two files
+said_of_sort : {W : Type 0} (first second : ReaderOfJob) (out : WriterOfJob W)
+    → (promise_of (Sort true)).Says first second out (Err Read)
+    ≡ SortsFile {T = ⊤} true first.text first.failures first.failures_after
+    out.held out.failures out.old out.new (Err Read)
+said_of_sort first second out = refl
 
--- statuses 0 and 1 of the jobs that answer a question
-answers_of_same : {W : Type 0} (doc : Doc) (left other : Option (List ℕ))
-    (held : W → Option (List ℕ)) (failures : W → ℕ) (out new : W)
-    → (Done (Same doc) left other held failures out new
-    ≡ WritesSame doc left other (held out) (held new) true)
-    × (SaysNo (Same doc) left other held out new
-    ≡ WritesSame doc left other (held out) (held new) false)
-answers_of_same doc left other held failures out new = (refl, refl)
-
-answers_of_compare : {W : Type 0} (one another : String Global) (operator : Cmp)
-    (left other : Option (List ℕ)) (held : W → Option (List ℕ)) (failures : W → ℕ) (out new : W)
-    → (Done (Compare one operator another) left other held failures out new
-    ≡ ((new ≡ out) × Compared (string_bytes one) operator (string_bytes another) true))
-    × (SaysNo (Compare one operator another) left other held out new
-    ≡ ((new ≡ out) × Compared (string_bytes one) operator (string_bytes another) false))
-answers_of_compare one another operator left other held failures out new = (refl, refl)
-
-answers_of_query : {W : Type 0} (arch relation : String Global) (detail : Detail)
-    (versions : VersionText)
-    (profiles : Vec (String Global) Global) (text : List ℕ) (other : Option (List ℕ))
-    (held : W → Option (List ℕ)) (failures : W → ℕ) (out new : W)
-    → (Done (Query arch profiles relation detail versions) (Some text) other held failures out new
-    ≡ ((read : List ℕ) → Some text ≡ Some read
-    → WritesReport (query_options detail versions) (asked arch profiles relation) read
-    (held out) (held new) true))
-    × (SaysNo (Query arch profiles relation detail versions) (Some text) other held out new
-    ≡ ((read : List ℕ) → Some text ≡ Some read
-    → WritesReport (query_options detail versions) (asked arch profiles relation) read
-    (held out) (held new) false))
-answers_of_query arch relation detail versions profiles text other held failures out new =
-    (refl, refl)
-
--- which jobs leave a reader as it was: the first, and the second
+-- which jobs leave a reader as it was
 unread : (doc : Doc) (one another : String Global) (operator : Cmp) (reverse : Bool) (P : Type 0)
-    → (IfUnread (Check doc) P ≡ Unit {0}) × (IfUnread (Normalise doc) P ≡ Unit {0})
-    × (IfUnread (Same doc) P ≡ Unit {0}) × (IfUnread (Compare one operator another) P ≡ P)
-    × (IfUnread (CanonVersion one) P ≡ P) × (IfUnread (Sort reverse) P ≡ Unit {0})
-unread doc one another operator reverse P = (refl, refl, refl, refl, refl, refl)
-
-second_unread : (doc : Doc) (one another : String Global) (operator : Cmp) (reverse : Bool)
-    (P : Type 0)
-    → (IfSecondUnread (Check doc) P ≡ P) × (IfSecondUnread (Normalise doc) P ≡ P)
+    → (IfUnread (Check doc) P ≡ Unit {0}) × (IfUnread (Same doc) P ≡ Unit {0})
+    × (IfUnread (Compare one operator another) P ≡ P) × (IfUnread (CanonVersion one) P ≡ P)
+    × (IfUnread (Sort reverse) P ≡ Unit {0}) × (IfSecondUnread (Check doc) P ≡ P)
     × (IfSecondUnread (Same doc) P ≡ Unit {0})
     × (IfSecondUnread (Compare one operator another) P ≡ P)
-    × (IfSecondUnread (CanonVersion one) P ≡ P) × (IfSecondUnread (Sort reverse) P ≡ P)
-second_unread doc one another operator reverse P = (refl, refl, refl, refl, refl, refl)
+    × (IfCompare (Compare one operator another) P ≡ P) × (IfCompare (Check doc) P ≡ Unit {0})
+unread doc one another operator reverse P =
+    (refl, refl, refl, refl, refl, refl, refl, refl, refl, refl)
 
--- what is said of a query alone, and of a comparison alone
-said_of_query : (arch relation : String Global) (detail : Detail) (versions : VersionText)
-    (profiles : Vec (String Global) Global) (P : Type 0)
-    → (IfUnread (Query arch profiles relation detail versions) P ≡ Unit {0})
-    × (IfSecondUnread (Query arch profiles relation detail versions) P ≡ P)
-    × (IfCompare (Query arch profiles relation detail versions) P ≡ Unit {0})
-    × (IfRefusedWords (Query arch profiles relation detail versions) P
+-- what a query and `unmet` leave as it was: by their words, and by the text of the first file
+said_of_words : (arch relation : String Global) (profiles : Vec (String Global) Global)
+    (detail : Detail) (dependents : Dependents) (versions : VersionText) (left : Option (List ℕ))
+    (P : Type 0)
+    → (IfRefusedWords (Query arch profiles relation detail versions) P
     ≡ (AreRefused (asked arch profiles relation) → P))
-said_of_query arch relation detail versions profiles P = (refl, refl, refl, refl)
-
-answers_of_query_from : {W : Type 0} (arch : String Global) (detail : Detail)
-    (versions : VersionText)
-    (profiles : Vec (String Global) Global) (left other : Option (List ℕ))
-    (held : W → Option (List ℕ)) (failures : W → ℕ) (out new : W)
-    → (Done (QueryFrom arch profiles detail versions) left other held failures out new
-    ≡ WritesReportFrom (query_options detail versions) (λ relation. question (string_bytes arch)
-    (map string_bytes profiles.items) relation) left other (held out) (held new) true)
-    × (SaysNo (QueryFrom arch profiles detail versions) left other held out new
-    ≡ WritesReportFrom (query_options detail versions) (λ relation. question (string_bytes arch)
-    (map string_bytes profiles.items) relation) left other (held out) (held new) false)
-answers_of_query_from arch detail versions profiles left other held failures out new = (refl, refl)
-
-said_of_query_from : (doc : Doc) (arch : String Global) (detail : Detail) (versions : VersionText)
-    (profiles : Vec (String Global) Global) (left : Option (List ℕ)) (P : Type 0)
-    → (IfUnread (QueryFrom arch profiles detail versions) P ≡ Unit {0})
-    × (IfSecondUnread (QueryFrom arch profiles detail versions) P ≡ Unit {0})
-    × (IfCompare (QueryFrom arch profiles detail versions) P ≡ Unit {0})
-    × (IfRefusedWords (QueryFrom arch profiles detail versions) P ≡ Unit {0})
     × (IfRefusedRelation (QueryFrom arch profiles detail versions) left P
     ≡ (AreRefusedFrom (asked_of_file arch profiles) left → P))
-    × (IfRefusedRelation (Same doc) left P ≡ Unit {0})
-said_of_query_from doc arch detail versions profiles left P = (refl, refl, refl, refl, refl, refl)
-
--- what is said of `unmet`: it reads both files, the second, if the index isn't tried itself, after
--- the words and the index
-said_of_unmet : (arch : String Global) (profiles : Vec (String Global) Global)
-    (dependents : Dependents) (versions : VersionText) (left : Option (List ℕ)) (P : Type 0)
-    → (IfUnread (Unmet arch profiles dependents versions) P ≡ Unit {0})
+    × (IfRefusedWords (QueryFrom arch profiles detail versions) P ≡ Unit {0})
     × (IfSecondUnread (Unmet arch profiles dependents versions) P
     ≡ (IsTrue (is_index dependents) → P))
-    × (IfCompare (Unmet arch profiles dependents versions) P ≡ Unit {0})
-    × (IfRefusedWords (Unmet arch profiles dependents versions) P
-    ≡ (IsFalse (has_environment (words_of_unmet arch profiles dependents versions)) → P))
     × (IfRefusedRelation (Unmet arch profiles dependents versions) left P
     ≡ (AreRefusedBefore (words_of_unmet arch profiles dependents versions) left → P))
-said_of_unmet arch profiles dependents versions left P = (refl, refl, refl, refl, refl)
-
-answers_of_unmet : {W : Type 0} (arch : String Global) (profiles : Vec (String Global) Global)
-    (dependents : Dependents) (versions : VersionText) (left other : Option (List ℕ))
-    (held : W → Option (List ℕ)) (failures : W → ℕ) (out new : W)
-    → (Done (Unmet arch profiles dependents versions) left other held failures out new
-    ≡ WritesUnmetOf
-    (words (string_bytes arch) (map string_bytes profiles.items) dependents versions) left other
-    (held out) (held new) true)
-    × (SaysNo (Unmet arch profiles dependents versions) left other held out new
-    ≡ WritesUnmetOf
-    (words (string_bytes arch) (map string_bytes profiles.items) dependents versions) left other
-    (held out) (held new) false)
-answers_of_unmet arch profiles dependents versions left other held failures out new = (refl, refl)
-
--- what is said of `diff`: it reads both files, and its answer is whether there is no line
-said_of_diff : {W : Type 0} (kind : DiffKind) (detail : DiffDetail) (versions : VersionText)
-    (left other : Option (List ℕ)) (held : W → Option (List ℕ)) (failures : W → ℕ) (out new : W)
-    (P : Type 0)
-    → (Done (Diff kind detail versions) left other held failures out new
-    ≡ WritesChanges kind (form_asked detail versions) left other (held out) (held new) true)
-    × (SaysNo (Diff kind detail versions) left other held out new
-    ≡ WritesChanges kind (form_asked detail versions) left other (held out) (held new) false)
-    × (IfUnread (Diff kind detail versions) P ≡ Unit {0})
-    × (IfSecondUnread (Diff kind detail versions) P ≡ Unit {0})
-    × (IfCompare (Diff kind detail versions) P ≡ Unit {0})
-    × (IfRefusedRelation (Diff kind detail versions) left P ≡ (IsRefusedOld kind left → P))
-said_of_diff kind detail versions left other held failures out new P =
-    (refl, refl, refl, refl, refl, refl)
-
--- what is said of keys: no file is read, and status 0 is the only answer
-said_of_keys : {W : Type 0} (versions : Vec (String Global) Global)
-    (left other : Option (List ℕ)) (held : W → Option (List ℕ)) (failures : W → ℕ) (out new : W)
-    (P : Type 0)
-    → (Done (VersionKey versions) left other held failures out new
-    ≡ WritesKeys (map string_bytes versions.items) held failures out new)
-    × (SaysNo (VersionKey versions) left other held out new ≡ ⊥)
-    × (IfUnread (VersionKey versions) P ≡ P) × (IfSecondUnread (VersionKey versions) P ≡ P)
-said_of_keys versions left other held failures out new P = (refl, refl, refl, refl)
-
-said_of_compare : (one another : String Global) (operator : Cmp) (P : Type 0)
-    → (IfCompare (Compare one operator another) P ≡ P)
-    × (IfRefusedWords (Compare one operator another) P ≡ Unit {0})
-said_of_compare one another operator P = (refl, refl)
+said_of_words arch relation profiles detail dependents versions left P =
+    (refl, refl, refl, refl, refl)

@@ -4,13 +4,12 @@ use Rattle.std.specs.Prelude.{◌≡◌, ◌⊎◌, ℕ, Bool, true, false, if�
 use Rattle.std.specs.Prelude.{Some, Result, Ok, Err, IfOk, IfErr, codes, refl}
 use Rattle.std.specs.Fmt.{digits}
 use Rattle.std.specs.Io.KnownBytes.{Appends}
-use Rattle.deb_base.specs.Devices.{read_failures_after}
-use Rattle.deb_base.specs.Faults.{IsReadersFault}
-use Rattle.deb_base.specs.Lines.{fault_line, refusal_line}
+use Rattle.deb_base.specs.Devices.{AppendsFront, one_more, read_failures_after, write_failures_after}
+use Rattle.deb_base.specs.Faults.{MatchFault}
+use Rattle.deb_base.specs.Lines.{fault_line}
 use Rattle.deb_base.specs.declared.code.Code.TheVariants.{BadNumber}
 use Rattle.deb_base.specs.declared.fault.Fault.{Fault}
 use Rattle.deb_base.specs.declared.fault.Fault.TheVariants.{Refused, Memory, Read, Write}
-use Rattle.deb_base.specs.declared.refusal.Refusal.{Refusal}
 use Rattle.deb_base.specs.declared.doc.Doc.{Doc}
 use Rattle.deb_control.specs.Calls.{IfRefused}
 use Rattle.deb_control.specs.Checking.{IsRefusalOfDocument}
@@ -20,8 +19,8 @@ use Rattle.deb_control.specs.Sides.{of_first, of_second}
 use Rattle.deb_control.specs.declared.side.Side.{Side}
 use Rattle.deb_control.specs.declared.side.Side.TheVariants.{First, Second}
 use Rattle.deb_control.specs.declared.side.SideFault.{SideFault}
-use Rattle.debctl_commands.specs.Reporting.{status_of, ReportsFront, ReportsUnwritten, ReportsWhole}
-use Rattle.debctl_commands.specs.VersionJobs.{verdict_status}
+use Rattle.debctl_commands.specs.JobDevices.{ReaderOfJob, WriterOfJob}
+use Rattle.debctl_commands.specs.Reporting.{status_of, ReportsFront, ReportsWhole}
 
 -- ---- lines
 
@@ -47,46 +46,44 @@ side_line side_fault = word_before side_fault.side side_fault.fault ++ fault_lin
 
 -- ---- the answer
 
--- What is answered of two files: by their readers' texts, and the counts of failed calls of the
--- first reader and of the second, before and after.
-pub record ComparesFiles (doc : Doc) (left other : Option (List ℕ)) (n n_after m m_after : ℕ)
-    (answer : Result Bool SideFault) : Type 0 where
-  pub ok : (text text_too : List ℕ) → left ≡ Some text → other ≡ Some text_too →
-      IfOk answer (AnswersSame doc text text_too)
-  pub first : (text : List ℕ) → left ≡ Some text →
-      IfRefused (of_first answer) (λ refusal. refusal_of doc text ≡ Some refusal)
-  pub second : (text text_too : List ℕ) → left ≡ Some text → other ≡ Some text_too →
-      IfRefused (of_second answer) (RefusesSecond doc text text_too)
-  pub fault : IfErr answer (λ side_fault. IsReadersFault side_fault.fault IsRefusalOfDocument)
-  pub reads_first : n_after ≡ read_failures_after n (of_first answer)
-  pub reads_second : m_after ≡ read_failures_after m (of_second answer)
-
--- Exactly the line of an answer was written, and where both readers' texts are known, both files
--- are accepted, and that is whether they mean the same.
-pub record WritesSame (doc : Doc) (left other old new : Option (List ℕ)) (same : Bool)
-    : Type 0 where
-  pub means : (text text_too : List ℕ) → left ≡ Some text → other ≡ Some text_too →
+-- A prefix of the line of the answer was written.
+pub record WritesFrontOfSame {W : Type 0} (doc : Doc) (one another : ReaderOfJob)
+    (out : WriterOfJob W) : Type 0 where
+  pub same : Bool
+  pub means : (text text_too : List ℕ) → one.text ≡ Some text → another.text ≡ Some text_too →
       AnswersSame doc text text_too same
-  pub written : Appends old new (same_line same)
+  pub written : AppendsFront (out.held out.old) (out.held out.new) (same_line same)
 
--- ---- refusals
+-- What is answered of two files, and written: by their readers and the writer. If a write of the
+-- answer's line failed, a prefix of it was written.
+pub record ComparesFiles {W : Type 0} (doc : Doc) (one another : ReaderOfJob) (out : WriterOfJob W)
+    (answer : Result Bool SideFault) : Type 0 where
+  pub ok : (text text_too : List ℕ) → one.text ≡ Some text → another.text ≡ Some text_too →
+      IfOk answer (AnswersSame doc text text_too)
+  pub written : IfOk answer
+      (λ same. Appends (out.held out.old) (out.held out.new) (same_line same))
+  pub first : (text : List ℕ) → one.text ≡ Some text →
+      IfRefused (of_first answer) (λ refusal. refusal_of doc text ≡ Some refusal)
+  pub second : (text text_too : List ℕ) → one.text ≡ Some text → another.text ≡ Some text_too →
+      IfRefused (of_second answer) (RefusesSecond doc text text_too)
+  pub fault : IfErr answer (λ told. MatchFault told.fault
+      (λ refusal. IsRefusalOfDocument refusal × (out.new ≡ out.old))
+      (out.new ≡ out.old) (out.new ≡ out.old) (WritesFrontOfSame doc one another out))
+  pub reads_first : one.failures_after ≡ read_failures_after one.failures (of_first answer)
+  pub reads_second : another.failures_after
+      ≡ read_failures_after another.failures (of_second answer)
+  pub writes : out.failures out.new
+      ≡ write_failures_after (out.failures out.old) (of_second answer)
 
--- The file of that side is refused so; where it is the second one, the first one is accepted.
-abbrev pub RefusesSide : Side → Doc → Option (List ℕ) → Option (List ℕ) → Refusal → Type 0
-RefusesSide First doc left other refusal =
-    (text : List ℕ) → left ≡ Some text → refusal_of doc text ≡ Some refusal
-RefusesSide Second doc left other refusal =
-    (text text_too : List ℕ) → left ≡ Some text → other ≡ Some text_too →
-    RefusesSecond doc text text_too refusal
-
--- One of the files is refused, and exactly its side and the refusal's line were written.
-pub record ReportsRefusedSide (doc : Doc) (left other err err_after : Option (List ℕ))
-    : Type 0 where
-  pub side : Side
-  pub refusal : Refusal
-  pub is_file_refusal : IsRefusalOfDocument refusal
-  pub refused : RefusesSide side doc left other refusal
-  pub reported : Appends err err_after (side_word side ++ refusal_line refusal)
+-- how the line of an answer is written
+abbrev pub PutsAnswer : {W : Type 0} → WriterOfJob W → Bool → Result Bool SideFault → Type 0
+PutsAnswer out same (Ok answer) =
+    (answer ≡ same) × Appends (out.held out.old) (out.held out.new) (same_line same)
+    × (out.failures out.new ≡ out.failures out.old)
+PutsAnswer out same (Err told) =
+    (told ≡ record { side = Second; fault = Write })
+    × AppendsFront (out.held out.old) (out.held out.new) (same_line same)
+    × (out.failures out.new ≡ one_more (out.failures out.old))
 
 -- ---- reporting
 
@@ -96,24 +93,6 @@ abbrev pub ReportsSide : {E : Type 0} → (E → Option (List ℕ)) → (E → �
 ReportsSide held failures old new side_fault status =
     ReportsWhole held failures old new (side_line side_fault) (status_of side_fault.fault) status
     ⊎ ReportsFront held failures old new (side_line side_fault) status
-
--- An answer is reported by its line on `out` and its status, or where a write of that fails, by
--- that fault.
-abbrev pub ReportsAnswer : {W E : Type 0} → (W → Option (List ℕ)) → (W → ℕ) → W → W →
-    (E → Option (List ℕ)) → (E → ℕ) → E → E → Bool → ℕ → Type 0
-ReportsAnswer held writes out new held_err failures_err err err_after same status =
-    (ReportsWhole held writes out new (same_line same) (verdict_status same) status
-    × (err_after ≡ err))
-    ⊎ ReportsUnwritten held writes out new held_err failures_err err err_after (same_line same)
-    status
-
--- An answer or a fault is reported so; of a fault nothing is written on `out`.
-abbrev pub ReportsComparison : {W E : Type 0} → (W → Option (List ℕ)) → (W → ℕ) → W → W →
-    (E → Option (List ℕ)) → (E → ℕ) → E → E → Result Bool SideFault → ℕ → Type 0
-ReportsComparison held writes out new held_err failures_err err err_after (Ok same) status =
-    ReportsAnswer held writes out new held_err failures_err err err_after same status
-ReportsComparison held writes out new held_err failures_err err err_after (Err side_fault) status =
-    (new ≡ out) × ReportsSide held_err failures_err err err_after side_fault status
 
 -- files that mean the same, and files that don't
 lines_of_answers : (same_line true ≡ codes "same\n") × (same_line false ≡ codes "different\n")
@@ -136,12 +115,3 @@ lines_of_faults : (side_line (record { side = Second; fault = Read }) ≡ codes 
     × (side_line (record { side = First; fault = Memory }) ≡ codes "fault: memory\n")
     × (side_line (record { side = First; fault = Write }) ≡ codes "fault: write\n")
 lines_of_faults = (refl, refl, refl)
-
--- the second file is refused where the first is accepted
-refusals_of_sides : (doc : Doc) (one another : Option (List ℕ)) (refusal : Refusal)
-    → (RefusesSide First doc one another refusal
-    ≡ ((text : List ℕ) → one ≡ Some text → refusal_of doc text ≡ Some refusal))
-    × (RefusesSide Second doc one another refusal
-    ≡ ((text text_too : List ℕ) → one ≡ Some text → another ≡ Some text_too
-    → RefusesSecond doc text text_too refusal))
-refusals_of_sides doc one another refusal = (refl, refl)

@@ -1,17 +1,18 @@
 -- What the job of `unmet` answers and reports. Its lines are those of `deb_unmet`; the order of
 -- refusals is this project's own.
-use Rattle.std.specs.Prelude.{◌≡◌, ◌⊎◌, ◌++◌, ℕ, ⊤, Bool, true, false, List, [], ◌∷◌}
+use Rattle.std.specs.Prelude.{◌≡◌, ◌⊎◌, ℕ, ⊤, Bool, true, false, List, [], ◌∷◌}
 use Rattle.std.specs.Prelude.{map, String, string_bytes}
 use Rattle.std.specs.declared.alloc.Global.{Global}
 use Rattle.std.proofs.Common.{ap}
-use Rattle.std.specs.Prelude.{Option, Some, None, Result, Ok, Err, IfOk, IfErr, IsTrue, IsFalse}
+use Rattle.std.specs.Fmt.{digits}
+use Rattle.std.specs.Prelude.{Option, Some, Result, Ok, Err, IfOk, IfErr, IsTrue, IsFalse}
 use Rattle.std.specs.Prelude.{if◌then◌else◌, codes, refl}
-use Rattle.std.specs.Io.KnownBytes.{Appends}
 use Rattle.deb_base.specs.Devices.{read_failures_after, write_failures_after}
 use Rattle.deb_base.specs.Faults.{IsReadersFault, RefusedOrMemory}
-use Rattle.deb_base.specs.Lines.{refusal_line}
+use Rattle.deb_base.specs.Lines.{fault_line}
 use Rattle.deb_base.specs.declared.doc.Doc.TheVariants as docs
 use Rattle.deb_base.specs.declared.fault.Fault.{Fault}
+use Rattle.deb_base.specs.declared.fault.Fault.TheVariants.{Refused, Read, Write}
 use Rattle.deb_base.specs.declared.refusal.Refusal.{Refusal}
 use Rattle.deb_base.specs.declared.version_text.VersionText.{VersionText}
 use Rattle.deb_base.specs.declared.version_text.VersionText.TheVariants.{Spelled}
@@ -23,6 +24,7 @@ use Rattle.deb_control.specs.Checking.{IsRefusalOfDocument}
 use Rattle.deb_control.specs.Documents.{refusal_of}
 use Rattle.deb_control.specs.declared.side.Side.{Side}
 use Rattle.deb_control.specs.declared.side.Side.TheVariants.{First, Second}
+use Rattle.deb_control.specs.declared.side.SideFault.{SideFault}
 use Rattle.deb_index.specs.Listed.{Listed}
 use Rattle.deb_index.specs.Listing.{ListsAll}
 use Rattle.deb_index.specs.Questions.{bad_environment}
@@ -42,9 +44,10 @@ use Rattle.debctl_args.specs.declared.jobs.Dependents.TheVariants.{Source}
 use Rattle.debctl_args.specs.declared.jobs.Strength.{Strength}
 use Rattle.debctl_args.specs.declared.jobs.Strength.TheVariants.{Depends, Recommends}
 use Rattle.debctl_commands.specs.declared.unmet_job.UnmetWords.{UnmetWords}
-use Rattle.debctl_commands.specs.JobDevices.{ReaderOfJob, WriterOfJob, ReportsFaultOn}
-use Rattle.debctl_commands.specs.SameJob.{ReportsSide, side_word}
-use Rattle.debctl_commands.specs.VersionJobs.{verdict_status}
+use Rattle.debctl_commands.specs.JobDevices.{ReaderOfJob, WriterOfJob}
+use Rattle.debctl_commands.specs.Promises.{Promise, Saying, yes_or_no}
+use Rattle.debctl_commands.specs.Reporting.{Report, ReportsBy, by_status}
+use Rattle.debctl_commands.specs.SameJob.{side_line}
 
 -- ---- the arguments
 
@@ -92,16 +95,9 @@ is_index (Binary strength) = false
 is_index Sources = false
 is_index Source = false
 
--- the text whose lines are written: that of the index, or of the second file
-abbrev pub text_tried : Dependents → Option (List ℕ) → Option (List ℕ) → Option (List ℕ)
-text_tried dependents left other = if is_index dependents then left else other
-
--- what the arguments ask of a file, over the packages of the index
+-- the environment that the arguments name
 abbrev pub environment_in : Words → Environment
 environment_in w = environment_with w.target w.profiles
-
-abbrev pub asks_over : Words → List Listed → Asks
-asks_over w packages = asks_of (request_of w.dependents w.versions) (environment_in w) packages
 
 -- the arguments that the code holds
 abbrev pub words_of : UnmetWords → Words
@@ -143,64 +139,7 @@ pub record AsksOwn {W : Type 0} (strength : Fields) (versions : VersionText)
   pub reads : count_after ≡ read_failures_after count answer
   pub writes : failures new ≡ write_failures_after (failures old) answer
 
--- The environment is good, the files are accepted, exactly the lines of the text were written, and
--- the answer is whether there is none.
-pub record WritesOver (w : Words) (index text : List ℕ) (old new : Option (List ℕ))
-    (is_empty : Bool) : Type 0 where
-  pub environment : IsTrue (has_environment w)
-  pub packages : List Listed
-  pub lists : ListsAll index packages
-  pub summary : Summary
-  pub written : WritesUnmet (asks_over w packages) text summary old new
-  pub is : summary.is_empty ≡ is_empty
-
--- The same, where the texts of the index and of the file that is tried are known.
-abbrev pub WritesUnmetOf : Words → Option (List ℕ) → Option (List ℕ) → Option (List ℕ)
-    → Option (List ℕ) → Bool → Type 0
-WritesUnmetOf w left other old new is_empty =
-    (index text : List ℕ) → left ≡ Some index → text_tried w.dependents left other ≡ Some text
-    → WritesOver w index text old new is_empty
-
 -- ---- refusals
-
--- The target or a profile is refused: nothing was written but that line.
-pub record ReportsRefusedEnvironment {W : Type 0} (w : Words) (old new : W)
-    (err err_after : Option (List ℕ)) : Type 0 where
-  pub bad : IsFalse (has_environment w)
-  pub unwritten : new ≡ old
-  pub reported : Appends err err_after (refusal_line bad_environment)
-
--- The environment is good, and the index is refused: nothing was written but that line, after the
--- side of the index.
-pub record ReportsRefusedIndex {W : Type 0} (w : Words) (left : Option (List ℕ)) (old new : W)
-    (err err_after : Option (List ℕ)) : Type 0 where
-  pub environment : IsTrue (has_environment w)
-  pub refusal : Refusal
-  pub is_refusal : IsRefusalOfDocument refusal
-  pub refused : (text : List ℕ) → left ≡ Some text → refusal_of docs.Packages text ≡ Some refusal
-  pub unwritten : new ≡ old
-  pub reported : Appends err err_after (side_word First ++ refusal_line refusal)
-
--- The environment is good, the index is accepted, and another file is refused: the lines of its
--- paragraphs before the first that fails were written, and that line after the side of the file.
-pub record ReportsRefusedFile (w : Words) (left other old new : Option (List ℕ))
-    (err err_after : Option (List ℕ)) : Type 0 where
-  pub environment : IsTrue (has_environment w)
-  pub is_other : IsFalse (is_index w.dependents)
-  pub packages : List Listed
-  pub lists : (index : List ℕ) → left ≡ Some index → ListsAll index packages
-  pub refusal : Refusal
-  pub is_refusal : IsRefusalOfDocument refusal
-  pub refused : (text : List ℕ) → other ≡ Some text →
-      WritesRefused (asks_over w packages) text refusal old new
-  pub reported : Appends err err_after (side_word Second ++ refusal_line refusal)
-
-abbrev pub ReportsRefusalOfUnmet : {W : Type 0} → Words → Option (List ℕ) → Option (List ℕ)
-    → (W → Option (List ℕ)) → W → W → Option (List ℕ) → Option (List ℕ) → Type 0
-ReportsRefusalOfUnmet w left other held old new err err_after =
-    ReportsRefusedEnvironment w old new err err_after
-    ⊎ ReportsRefusedIndex w left old new err err_after
-    ⊎ ReportsRefusedFile w left other (held old) (held new) err err_after
 
 -- The index is refused, and the environment or the index is.
 abbrev pub IsRefusedIndex : Option (List ℕ) → Type 0
@@ -213,95 +152,110 @@ AreRefusedBefore w left = IsFalse (has_environment w) ⊎ IsRefusedIndex left
 
 -- ---- reporting
 
--- An answer of the file of a side is reported by its status, a fault by its line with the side.
-abbrev pub ReportsTried : {E : Type 0} → WriterOfJob E → Side → Result Summary Fault → ℕ → Type 0
-ReportsTried err side (Ok summary) status =
-    (status ≡ verdict_status summary.is_empty) × (err.new ≡ err.old)
-ReportsTried err side (Err fault) status =
-    ReportsSide err.held err.failures err.old err.new (record { side = side; fault = fault }) status
+-- why the job fails: by its words, or by a file, whose side is named
+pub data Failure : Type 0 where
+  of_words : Fault → Failure
+  of_file : SideFault → Failure
+
+abbrev pub fault_of : Failure → Fault
+fault_of (of_words fault) = fault
+fault_of (of_file told) = told.fault
+
+abbrev pub line_of : Failure → List ℕ
+line_of (of_words fault) = fault_line fault
+line_of (of_file told) = side_line told
+
+abbrev pub unmet_report : Summary → Report
+unmet_report summary = yes_or_no summary.is_empty
+
+-- the answer of the file of a side
+abbrev pub at_side : Side → Result Summary Fault → Result Summary Failure
+at_side side (Ok summary) = Ok summary
+at_side side (Err fault) = Err (of_file (record { side = side; fault = fault }))
+
+abbrev pub ReportsTried : {E : Type 0} → WriterOfJob E → Result Summary Failure → ℕ → Type 0
+ReportsTried err answer status =
+    ReportsBy unmet_report fault_of line_of err.held err.failures err.old err.new answer status
+
+-- ---- the answer of the job
 
 -- The environment is refused, or out of memory: no file was read, and nothing was written to `out`.
-pub record EndsAtEnvironment {W E : Type 0} (w : Words) (first second : ReaderOfJob)
-    (out : WriterOfJob W) (err : WriterOfJob E) (ended : ℕ) : Type 0 where
+pub record FailsAtWords {W : Type 0} (w : Words) (first second : ReaderOfJob)
+    (out : WriterOfJob W) (answer : Result Summary Failure) : Type 0 where
   pub fault : Fault
+  pub is : answer ≡ Err (of_words fault)
   pub fault_is : RefusedOrMemory fault
       (λ refusal. IsFalse (has_environment w) × (refusal ≡ bad_environment))
   pub first_untouched : first.failures_after ≡ first.failures
   pub second_untouched : second.failures_after ≡ second.failures
   pub unwritten : out.new ≡ out.old
-  pub reported : ReportsFaultOn err fault ended
 
 -- The index is refused, can't be read or takes too much memory: the second file wasn't read, and
 -- nothing was written to `out`.
-pub record EndsAtIndex {W E : Type 0} (first second : ReaderOfJob) (out : WriterOfJob W)
-    (err : WriterOfJob E) (ended : ℕ) : Type 0 where
+pub record FailsAtIndex {W : Type 0} (first second : ReaderOfJob) (out : WriterOfJob W)
+    (answer : Result Summary Failure) : Type 0 where
   pub fault : Fault
+  pub is : answer ≡ at_side First (Err fault)
   pub fault_is : IsReadersFault fault IsRefusalOfDocument
   pub refused : (text : List ℕ) → first.text ≡ Some text →
       IfRefused {T = ⊤} (Err fault) (λ refusal. refusal_of docs.Packages text ≡ Some refusal)
   pub counted : first.failures_after ≡ read_failures_after {T = ⊤} first.failures (Err fault)
   pub second_untouched : second.failures_after ≡ second.failures
   pub unwritten : out.new ≡ out.old
-  pub reported : ReportsSide err.held err.failures err.old err.new
-      (record { side = First; fault = fault }) ended
-
--- The second file has an answer over these packages, which is reported.
-pub record EndsOver {W E : Type 0} (dependents : Dependents) (versions : VersionText)
-    (environment : Environment) (packages : List Listed) (second : ReaderOfJob)
-    (out : WriterOfJob W) (err : WriterOfJob E) (ended : ℕ) : Type 0 where
-  pub answer : Result Summary Fault
-  pub asks_file : AsksFile (asks_of (request_of dependents versions) environment packages)
-      second.text second.failures second.failures_after out.held out.failures out.old out.new answer
-  pub reported : ReportsTried err Second answer ended
 
 -- The index was read, and the second file has an answer over its packages.
-pub record EndsAtFile {W E : Type 0} (dependents : Dependents) (versions : VersionText)
+pub record AsksOver {W : Type 0} (dependents : Dependents) (versions : VersionText)
     (environment : Environment) (first second : ReaderOfJob) (out : WriterOfJob W)
-    (err : WriterOfJob E) (ended : ℕ) : Type 0
+    (answer : Result Summary Failure) : Type 0
   where
     pub packages : List Listed
     pub lists : (text : List ℕ) → first.text ≡ Some text → ListsAll text packages
     pub unfailed : first.failures_after ≡ first.failures
-    pub ends : EndsOver dependents versions environment packages second out err ended
+    pub tried : Result Summary Fault
+    pub is : answer ≡ at_side Second tried
+    pub asks_file : AsksFile (asks_of (request_of dependents versions) environment packages)
+        second.text second.failures second.failures_after out.held out.failures out.old out.new
+        tried
 
-abbrev pub EndsBeside : {W E : Type 0} → Dependents → VersionText → Environment → ReaderOfJob
-    → ReaderOfJob → WriterOfJob W → WriterOfJob E → ℕ → Type 0
-EndsBeside dependents versions environment first second out err status =
-    EndsAtIndex first second out err status
-    ⊎ EndsAtFile dependents versions environment first second out err status
-
--- The index in itself has an answer, which is reported.
-pub record EndsOwn {W E : Type 0} (strength : Strength) (versions : VersionText)
-    (environment : Environment) (first : ReaderOfJob) (out : WriterOfJob W) (err : WriterOfJob E)
-    (ended : ℕ) : Type 0 where
-  pub answer : Result Summary Fault
-  pub asks_own : AsksOwn (fields_tried strength) versions environment first.text first.failures
-      first.failures_after out.held out.failures out.old out.new answer
-  pub reported : ReportsTried err First answer ended
-
--- The same, where the arguments ask that: no second file was read.
-pub record EndsInItself {W E : Type 0} (dependents : Dependents) (versions : VersionText)
+-- The file is the index, which in itself has an answer: no second file was read.
+pub record AsksInItself {W : Type 0} (dependents : Dependents) (versions : VersionText)
     (environment : Environment) (first second : ReaderOfJob) (out : WriterOfJob W)
-    (err : WriterOfJob E) (ended : ℕ) : Type 0
+    (answer : Result Summary Failure) : Type 0
   where
     pub strength : Strength
-    pub is : dependents ≡ Index strength
+    pub is_index : dependents ≡ Index strength
     pub second_untouched : second.failures_after ≡ second.failures
-    pub ends : EndsOwn strength versions environment first out err ended
+    pub tried : Result Summary Fault
+    pub is : answer ≡ at_side First tried
+    pub asks_own : AsksOwn (fields_tried strength) versions environment first.text first.failures
+        first.failures_after out.held out.failures out.old out.new tried
 
-abbrev pub EndsInEnvironment : {W E : Type 0} → Dependents → VersionText → Environment
-    → ReaderOfJob → ReaderOfJob → WriterOfJob W → WriterOfJob E → ℕ → Type 0
-EndsInEnvironment dependents versions environment first second out err status =
-    EndsInItself dependents versions environment first second out err status
+abbrev pub AsksBeside : {W : Type 0} → Dependents → VersionText → Environment
+    → Saying W Summary Failure
+AsksBeside dependents versions environment first second out answer =
+    FailsAtIndex first second out answer
+    ⊎ AsksOver dependents versions environment first second out answer
+
+abbrev pub AsksIn : {W : Type 0} → Dependents → VersionText → Environment
+    → Saying W Summary Failure
+AsksIn dependents versions environment first second out answer =
+    AsksInItself dependents versions environment first second out answer
     ⊎ (IsFalse (is_index dependents)
-    × EndsBeside dependents versions environment first second out err status)
+    × AsksBeside dependents versions environment first second out answer)
 
-abbrev pub ReportsUnmet : {W E : Type 0} → Words → ReaderOfJob → ReaderOfJob → WriterOfJob W
-    → WriterOfJob E → ℕ → Type 0
-ReportsUnmet w first second out err status =
-    EndsAtEnvironment w first second out err status
-    ⊎ (IsTrue (has_environment w)
-    × EndsInEnvironment w.dependents w.versions (environment_in w) first second out err status)
+-- What the job promises of these words.
+abbrev pub unmet_promise : {W : Type 0} → Words → Promise W
+unmet_promise {W} w =
+    record {
+      Answer = Summary;
+      Failure = Failure;
+      report = unmet_report;
+      fault = fault_of;
+      line = line_of;
+      Says = λ first second out answer. FailsAtWords w first second out answer
+          ⊎ (IsTrue (has_environment w)
+          × AsksIn w.dependents w.versions (environment_in w) first second out answer);
+    }
 
 -- ---- worked cases
 
@@ -312,26 +266,6 @@ kinds_tried : (asked_of (Index Recommends) ≡ fields.Packages fields_of.Recomme
     × (asked_of Sources ≡ fields.Sources) × (asked_of Source ≡ fields.Source)
     × (request_of Sources Spelled ≡ record { asked = fields.Sources; versions = Spelled })
 kinds_tried = (refl, refl, refl, refl, refl, refl)
-
--- over these packages
-asked_over_packages : (packages : List Listed)
-    → asks_over (words (codes "amd64") [] (Index Recommends) Spelled) packages
-    ≡ record {
-      asked = fields.Packages fields_of.Recommends;
-      versions = Spelled;
-      environment = environment_with (codes "amd64") [];
-      packages = packages;
-    }
-asked_over_packages packages = refl
-
--- the lines are those of the index, whatever the second reader has, or of the second file
-texts_tried : (text_tried (Index Depends) (Some (codes "a")) None ≡ Some (codes "a"))
-    × (text_tried (Index Recommends) None (Some (codes "b")) ≡ None)
-    × (text_tried (Packages Depends) (Some (codes "a")) (Some (codes "b")) ≡ Some (codes "b"))
-    × (text_tried (Binary Depends) (Some (codes "a")) (Some (codes "b")) ≡ Some (codes "b"))
-    × (text_tried Sources (Some (codes "a")) (Some (codes "b")) ≡ Some (codes "b"))
-    × (text_tried Source (Some (codes "a")) None ≡ None)
-texts_tried = (refl, refl, refl, refl, refl, refl)
 
 words_in_order : words (codes "amd64") (codes "nocheck" ∷ []) Source Spelled
     ≡ record {
@@ -351,3 +285,19 @@ words_of_arguments : (given : UnmetWords) (one other : String Global)
 words_of_arguments given one other are =
     ap (λ named. words given.target.now (map string_bytes named) given.dependents given.versions)
     are
+
+-- a fault of the words, or of a file
+faults_of_failures :
+    (map fault_of (of_words Read ∷ of_file (record { side = Second; fault = Write }) ∷ [])
+    ≡ Read ∷ Write ∷ [])
+    × (map line_of (of_words (Refused bad_environment)
+    ∷ of_file (record { side = First; fault = Refused bad_environment }) ∷ [])
+    ≡ codes "line 0: 23 BadEnvironment\n" ∷ codes "first: line 0: 23 BadEnvironment\n" ∷ [])
+    × (at_side First (Err Read) ≡ Err (of_file (record { side = First; fault = Read })))
+unfolding digits
+faults_of_failures = (refl, refl, refl)
+
+-- no line is status 0, and a line is 1, whatever was counted
+reports_of_summaries : (summary : Summary) → (at_side Second (Ok summary) ≡ Ok summary)
+    × (unmet_report summary ≡ by_status (if summary.is_empty then 0 else 1))
+reports_of_summaries summary = (refl, refl)

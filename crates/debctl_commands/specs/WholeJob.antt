@@ -1,7 +1,7 @@
--- What the job of `check --complete` and `check --least N` answers and reports. The lines and the
+-- What the job of `check --complete` and `check --least N` answers. The lines and the
 -- statuses are this project's own; acceptance and refusals are those of documents of a kind (Debian
 -- Policy 5.1 and 5.3 to 5.6).
-use Rattle.std.specs.Prelude.{◌≡◌, ◌⊎◌, ℕ, ⊤, List, Option, Some, Result, Ok, Err, IfOk, IfErr, refl}
+use Rattle.std.specs.Prelude.{◌≡◌, ℕ, ⊤, List, Option, Some, Result, IfOk, IfErr, codes, refl}
 use Rattle.std.specs.Io.KnownBytes.{Appends}
 use Rattle.deb_base.specs.Devices.{AppendsFront, Puts, read_failures_after, write_failures_after}
 use Rattle.deb_base.specs.declared.doc.Doc.{Doc}
@@ -10,22 +10,15 @@ use Rattle.deb_base.specs.declared.fault.Fault.TheVariants.{Write}
 use Rattle.deb_control.specs.Calls.{HasParagraphs, IfRefused, IfWriteFailed}
 use Rattle.deb_control.specs.Checking.{IsRefusalOfDocument}
 use Rattle.deb_control.specs.Documents.{refusal_of}
-use Rattle.debctl_commands.specs.DocumentJobs.{ok_line, IfNotWritten, ReportsRefusal}
-use Rattle.debctl_commands.specs.Reporting.{ReportsFault, ReportsFront, ReportsWhole}
-use Rattle.debctl_commands.specs.Verdicts.{verdict_line, verdict_of, verdict_status, Finds}
+use Rattle.debctl_commands.specs.DocumentJobs.{ok_line, IfNotWritten}
+use Rattle.debctl_commands.specs.Reporting.{Report, by_line, by_status}
+use Rattle.debctl_commands.specs.Verdicts.{verdict_line, verdict_of, Finds}
 use Rattle.debctl_commands.specs.declared.verdict.Verdict.{Verdict}
 use Rattle.debctl_commands.specs.declared.verdict.Verdict.TheVariants.{Whole, NoNewline, TooFew}
 use Rattle.debctl_args.specs.declared.jobs.Demands.{Demands}
 
--- The file is accepted and meets the demands, and exactly the line that says so was written; or a
--- prefix of it was, before a write failed.
-pub record WritesWhole (doc : Doc) (demands : Demands) (text : List ℕ) (old new : Option (List ℕ))
-    : Type 0 where
-  pub count : ℕ
-  pub paragraphs : HasParagraphs doc text count
-  pub whole : verdict_of demands text count ≡ Whole count
-  pub written : Appends old new (ok_line count)
-
+-- The file is accepted and meets the demands, and a prefix of the line that says so was written,
+-- before a write failed.
 pub record WritesFrontOfWhole (doc : Doc) (demands : Demands) (text : List ℕ)
     (old new : Option (List ℕ)) : Type 0 where
   pub count : ℕ
@@ -70,44 +63,12 @@ PutsVerdict held failures old new NoNewline answer = (new ≡ old) × IfErr answ
 PutsVerdict held failures old new (TooFew n least) answer =
     (new ≡ old) × IfErr answer (λ fault. ⊥)
 
--- A line is reported with status 2, or a write of it failed.
-abbrev pub ReportsLine : {E : Type 0} → (E → Option (List ℕ)) → (E → ℕ) → E → E → List ℕ → ℕ
-    → Type 0
-ReportsLine held failures old new line status =
-    ReportsWhole held failures old new line 2 status ⊎ ReportsFront held failures old new line
-    status
-
--- What is found of an accepted file is reported: nothing of one that meets the demands, and the
--- line of another.
-abbrev pub ReportsVerdict : {E : Type 0} → (E → Option (List ℕ)) → (E → ℕ) → E → E → Verdict → ℕ
-    → Type 0
-ReportsVerdict held failures old new (Whole n) status = (status ≡ 0) × (new ≡ old)
-ReportsVerdict held failures old new NoNewline status =
-    ReportsLine held failures old new (verdict_line NoNewline) status
-ReportsVerdict held failures old new (TooFew n least) status =
-    ReportsLine held failures old new (verdict_line (TooFew n least)) status
-
-abbrev pub ReportsAnswered : {E : Type 0} → (E → Option (List ℕ)) → (E → ℕ) → E → E
-    → Result Verdict Fault → ℕ → Type 0
-ReportsAnswered held failures old new (Ok verdict) status =
-    ReportsVerdict held failures old new verdict status
-ReportsAnswered held failures old new (Err fault) status =
-    ReportsFault held failures old new fault status
-
--- The file is accepted but doesn't meet the demands, and exactly the line that says so was written
--- on `err`.
-pub record ReportsIncomplete (doc : Doc) (demands : Demands) (left err err_after : Option (List ℕ))
-    : Type 0 where
-  pub verdict : Verdict
-  pub lacks : verdict_status verdict ≡ 2
-  pub found : (text : List ℕ) → left ≡ Some text → Finds doc demands text verdict
-  pub reported : Appends err err_after (verdict_line verdict)
-
--- Status 2: the file is refused, or doesn't meet the demands.
-abbrev pub ReportsLack : Doc → Demands → Option (List ℕ) → Option (List ℕ) → Option (List ℕ)
-    → Type 0
-ReportsLack doc demands left err err_after =
-    ReportsRefusal doc left err err_after ⊎ ReportsIncomplete doc demands left err err_after
+-- how what is found of an accepted file is reported: nothing of one that meets the demands, and the
+-- line of another
+abbrev pub verdict_report : Verdict → Report
+verdict_report (Whole n) = by_status 0
+verdict_report NoNewline = by_line (verdict_line NoNewline)
+verdict_report (TooFew n least) = by_line (verdict_line (TooFew n least))
 
 -- nothing is written on standard output of a file that doesn't meet the demands
 written_of_verdicts : {W : Type 0} (held : W → Option (List ℕ)) (old new : W)
@@ -117,10 +78,6 @@ written_of_verdicts : {W : Type 0} (held : W → Option (List ℕ)) (old new : W
 written_of_verdicts held old new = (refl, refl, refl)
 
 -- and nothing on standard error of one that does
-reported_of_verdicts : {E : Type 0} (held : E → Option (List ℕ)) (failures : E → ℕ) (old new : E)
-    (status : ℕ)
-    → (ReportsVerdict held failures old new (Whole 2) status ≡ ((status ≡ 0) × (new ≡ old)))
-    × (ReportsVerdict held failures old new NoNewline status
-    ≡ (ReportsWhole held failures old new (verdict_line NoNewline) 2 status
-    ⊎ ReportsFront held failures old new (verdict_line NoNewline) status))
-reported_of_verdicts held failures old new status = (refl, refl)
+reports_of_verdicts : (verdict_report (Whole 2) ≡ by_status 0)
+    × (verdict_report NoNewline ≡ by_line (codes "incomplete: no newline at the end\n"))
+reports_of_verdicts = (refl, refl)

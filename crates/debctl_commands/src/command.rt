@@ -2,9 +2,9 @@
 
 ghost use Rattle.std.specs.Prelude.{◌≡◌, ◌<◌, string_bytes};
 ghost use Rattle.deb_base.specs.Devices.{one_more};
-ghost use Rattle.debctl_commands.specs.Running.{Done, IfCompare, IfRefusedWords, IfSecondUnread};
-ghost use Rattle.debctl_commands.specs.Running.{IfRefusedRelation, IfUnread, IsRefused, SaysNo};
-ghost use Rattle.debctl_commands.specs.Running.{Reported};
+ghost use Rattle.debctl_commands.specs.Running.{Done, HasDetail, IfCompare, IfRefusedRelation};
+ghost use Rattle.debctl_commands.specs.Running.{IfRefusedWords, IfSecondUnread, IfUnread};
+ghost use Rattle.debctl_commands.specs.Running.{IsRefused, Reported, SaysNo};
 ghost use Rattle.debctl_commands.specs.DiffJob.{form_asked};
 ghost use Rattle.debctl_commands.specs.JobDevices.{reader_of, writer_of};
 ghost use Rattle.debctl_commands.specs.QueryJob.{query_options};
@@ -60,12 +60,13 @@ pub fn run<R: Source, S: Source, W: Sink, E: Sink>(
     err: &mut E,
 ) -> u8
     ensures done { result ≡ 0 → (err.new ≡ err.old)
-        × Done job.now (R.left first.old) (S.left second.old) W.held W.failures out.old out.new }
+        × Done job.now (R.left first.old) (S.left second.old)
+        (writer_of W.held W.failures out.old out.new) }
     ensures no { result ≡ 1 → (err.new ≡ err.old)
-        × SaysNo job.now (R.left first.old) (S.left second.old) W.held out.old out.new }
-    ensures refused { result ≡ 2
-        → IsRefused job.now (R.left first.old) (S.left second.old) W.held out.old out.new
-        (E.held err.old) (E.held err.new) }
+        × SaysNo job.now (R.left first.old) (S.left second.old)
+        (writer_of W.held W.failures out.old out.new) }
+    ensures refused { result ≡ 2 → IsRefused job.now (R.left first.old) (S.left second.old)
+        (writer_of W.held W.failures out.old out.new) (E.held err.old) (E.held err.new) }
 
     // Where a call of a device failed, the status is 3.
     ensures status_3_if_read_failed { R.failures first.old < R.failures first.new → result ≡ 3 }
@@ -73,6 +74,46 @@ pub fn run<R: Source, S: Source, W: Sink, E: Sink>(
         ≡ 3 }
     ensures status_3_if_write_failed { W.failures out.old < W.failures out.new → result ≡ 3 }
     ensures status_3_if_err_failed { E.failures err.old < E.failures err.new → result ≡ 3 }
+
+    // What a job doesn't use.
+    ensures first_untouched_if_unused { IfUnread job.now (first.new ≡ first.old) }
+    ensures second_untouched_if_unused { IfSecondUnread job.now (second.new ≡ second.old) }
+    ensures first_untouched_if_refused { IfRefusedWords job.now (first.new ≡ first.old) }
+    ensures second_untouched_if_refused { IfRefusedRelation job.now (R.left first.old)
+        (second.new ≡ second.old) }
+
+    // How much is taken of the readers, whatever the status.
+    ensures reads_at_most { TakesFile (R.left first.old) (R.left first.new) }
+    ensures second_reads_at_most { TakesFile (S.left second.old) (S.left second.new) }
+
+    // Comparing takes no memory: its status is 3 only where a write failed on `err`.
+    ensures compare_takes_no_memory { IfCompare job.now
+        (result ≡ 3 → E.failures err.new ≡ one_more (E.failures err.old)) }
+
+    // Whatever the status: there is an answer to the job, and that is reported.
+    ensures reports_answer { Reported job.now
+        (reader_of (R.left first.old) (R.failures first.old) (R.failures first.new))
+        (reader_of (S.left second.old) (S.failures second.old) (S.failures second.new))
+        (writer_of W.held W.failures out.old out.new)
+        (writer_of E.held E.failures err.old err.new) result }
+{
+    run_job(alloc, job, first, second, out, err)
+}
+
+/// Runs a job over readers and writers.
+fn run_job<R: Source, S: Source, W: Sink, E: Sink>(
+    alloc: Global,
+    job: &Job,
+    first: &mut R,
+    second: &mut S,
+    out: &mut W,
+    err: &mut E,
+) -> u8
+    // Where a call of a device failed, the status is 3.
+    ensures status_3_if_read_failed { R.failures first.old < R.failures first.new → result ≡ 3 }
+    ensures status_3_if_second_read_failed { S.failures second.old < S.failures second.new → result
+        ≡ 3 }
+    ensures status_3_if_write_failed { W.failures out.old < W.failures out.new → result ≡ 3 }
 
     // What a job doesn't use.
     ensures first_untouched_if_unused { IfUnread job.now (first.new ≡ first.old) }
@@ -104,39 +145,10 @@ pub fn run<R: Source, S: Source, W: Sink, E: Sink>(
         }
         Job::Normalise(doc) => run_normalise(alloc, *doc, first, out, err),
         Job::Same(doc) => run_same(alloc, *doc, first, second, out, err),
-        Job::Diff {
-            kind,
-            detail,
-            versions,
-        } => {
-            let options = diff_options(*kind, *detail, *versions);
-            run_diff(alloc, options, first, second, out, err)
-        }
         Job::Compare(left, op, right) => run_compare(left.as_str(), *op, right.as_str(), err),
         Job::CanonVersion(version) => run_canon_version(alloc, version.as_str(), out, err),
         Job::VersionKey(versions) => run_version_key(alloc, versions, out, err),
         Job::Sort { reverse } => run_sort(alloc, *reverse, first, out, err),
-        Job::Query {
-            arch,
-            profiles,
-            relation,
-            detail,
-            versions,
-        } => {
-            let options = query_options(*detail, *versions);
-            let words = query_words(arch, profiles, options);
-            run_query(alloc, &words, relation.as_bytes(), first, out, err)
-        }
-        Job::QueryFrom {
-            arch,
-            profiles,
-            detail,
-            versions,
-        } => {
-            let options = query_options(*detail, *versions);
-            let words = query_words(arch, profiles, options);
-            run_query_from(alloc, &words, first, second, out, err)
-        }
         Job::Unmet {
             arch,
             profiles,
@@ -146,6 +158,75 @@ pub fn run<R: Source, S: Source, W: Sink, E: Sink>(
             let words = unmet_words(arch, profiles, *dependents, *versions);
             run_unmet(alloc, &words, first, second, out, err)
         }
+        Job::Diff { .. } | Job::Query { .. } | Job::QueryFrom { .. } => {
+            run_in_detail(alloc, job, first, second, out, err)
+        }
+    }
+}
+
+/// Runs a job whose lines are asked in some detail: `diff` or `query`.
+fn run_in_detail<R: Source, S: Source, W: Sink, E: Sink>(
+    alloc: Global,
+    job: &Job,
+    first: &mut R,
+    second: &mut S,
+    out: &mut W,
+    err: &mut E,
+) -> u8
+    requires has_detail { HasDetail job.now }
+
+    // Where a call of a device failed, the status is 3.
+    ensures status_3_if_read_failed { R.failures first.old < R.failures first.new → result ≡ 3 }
+    ensures status_3_if_second_read_failed { S.failures second.old < S.failures second.new → result
+        ≡ 3 }
+    ensures status_3_if_write_failed { W.failures out.old < W.failures out.new → result ≡ 3 }
+
+    // What a job doesn't use.
+    ensures second_untouched_if_unused { IfSecondUnread job.now (second.new ≡ second.old) }
+    ensures first_untouched_if_refused { IfRefusedWords job.now (first.new ≡ first.old) }
+    ensures second_untouched_if_refused { IfRefusedRelation job.now (R.left first.old)
+        (second.new ≡ second.old) }
+
+    // How much is taken of the readers, whatever the status.
+    ensures reads_at_most { TakesFile (R.left first.old) (R.left first.new) }
+    ensures second_reads_at_most { TakesFile (S.left second.old) (S.left second.new) }
+
+    // Whatever the status: there is an answer to the job, and that is reported.
+    ensures reports_answer { Reported job.now
+        (reader_of (R.left first.old) (R.failures first.old) (R.failures first.new))
+        (reader_of (S.left second.old) (S.failures second.old) (S.failures second.new))
+        (writer_of W.held W.failures out.old out.new)
+        (writer_of E.held E.failures err.old err.new) result }
+{
+    match job {
+        Job::Diff {
+            kind,
+            detail,
+            versions,
+        } => {
+            let options = diff_options(*kind, *detail, *versions);
+            run_diff(alloc, options, first, second, out, err)
+        }
+        Job::Query {
+            arch,
+            profiles,
+            relation,
+            detail,
+            versions,
+        } => {
+            let words = query_words(arch, profiles, *detail, *versions);
+            run_query(alloc, &words, relation.as_bytes(), first, out, err)
+        }
+        Job::QueryFrom {
+            arch,
+            profiles,
+            detail,
+            versions,
+        } => {
+            let words = query_words(arch, profiles, *detail, *versions);
+            run_query_from(alloc, &words, first, second, out, err)
+        }
+        _ => unreachable!(),
     }
 }
 
@@ -158,25 +239,20 @@ fn diff_options(kind: DiffKind, detail: DiffDetail, versions: VersionText) -> Di
     }
 }
 
-fn query_options(detail: Detail, versions: VersionText) -> QueryOptions
-    ensures { result ≡ query_options detail versions }
-{
-    QueryOptions { detail, versions }
-}
-
 fn query_words<'a>(
     arch: &'a String,
     profiles: &'a [String],
-    options: QueryOptions,
+    detail: Detail,
+    versions: VersionText,
 ) -> QueryWords<'a>
     ensures target { result.target.now ≡ string_bytes arch.entry.now }
     ensures profiles { result.profiles.now ≡ profiles.entry.now }
-    ensures options { result.options ≡ options }
+    ensures options { result.options ≡ query_options detail versions }
 {
     QueryWords {
         target: arch.as_str(),
         profiles,
-        options,
+        options: QueryOptions { detail, versions },
     }
 }
 

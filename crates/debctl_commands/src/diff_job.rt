@@ -1,9 +1,10 @@
 //! The job on an old file and a new one: `diff`.
 
-ghost use Rattle.std.specs.Prelude.{◌≡◌, ◌<◌, true, false};
-ghost use Rattle.debctl_commands.specs.DiffJob.{IsRefusedOld, detail_of, form_asked, kind_of};
-ghost use Rattle.debctl_commands.specs.DiffJob.{ReportsDiff, ReportsRefusalOfDiff, WritesChanges};
+ghost use Rattle.std.specs.Prelude.{◌≡◌, ◌<◌};
+ghost use Rattle.debctl_commands.specs.DiffJob.{FindsChanges, IsRefusedOld, detail_of, form_asked};
+ghost use Rattle.debctl_commands.specs.DiffJob.{kind_of};
 ghost use Rattle.debctl_commands.specs.JobDevices.{reader_of, writer_of};
+ghost use Rattle.debctl_commands.specs.Promises.{Ends, sided, yes_or_no};
 ghost use Rattle.debctl_commands.specs.Taking.{TakesFile};
 
 use crate::reporting::report_side;
@@ -36,15 +37,6 @@ pub(crate) fn run_diff<R: Source, S: Source, W: Sink, E: Sink>(
     out: &mut W,
     err: &mut E,
 ) -> u8
-    ensures yes { result ≡ 0 → (err.new ≡ err.old)
-        × WritesChanges options.kind options.form (R.left first.old) (S.left second.old)
-        (W.held out.old) (W.held out.new) true }
-    ensures no { result ≡ 1 → (err.new ≡ err.old)
-        × WritesChanges options.kind options.form (R.left first.old) (S.left second.old)
-        (W.held out.old) (W.held out.new) false }
-    ensures refused { result ≡ 2
-        → ReportsRefusalOfDiff options.kind (R.left first.old) (S.left second.old)
-        W.held out.old out.new (E.held err.old) (E.held err.new) }
     ensures reads_at_most { TakesFile (R.left first.old) (R.left first.new) }
     ensures second_reads_at_most { TakesFile (S.left second.old) (S.left second.new) }
     ensures second_untouched_if_refused { IsRefusedOld options.kind (R.left first.old)
@@ -55,10 +47,9 @@ pub(crate) fn run_diff<R: Source, S: Source, W: Sink, E: Sink>(
     ensures status_3_if_second_read_failed { S.failures second.old < S.failures second.new → result
         ≡ 3 }
     ensures status_3_if_write_failed { W.failures out.old < W.failures out.new → result ≡ 3 }
-    ensures status_3_if_err_failed { E.failures err.old < E.failures err.new → result ≡ 3 }
 
     // Whatever the status: there is an answer, and that is reported.
-    ensures reports_answer { ReportsDiff options.kind options.form
+    ensures reports_answer { Ends (sided yes_or_no (FindsChanges options.kind options.form))
         (reader_of (R.left first.old) (R.failures first.old) (R.failures first.new))
         (reader_of (S.left second.old) (S.failures second.old) (S.failures second.new))
         (writer_of W.held W.failures out.old out.new)

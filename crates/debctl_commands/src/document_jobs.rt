@@ -1,11 +1,9 @@
 //! The jobs on one file: `check` and `normalise`.
 
-ghost use Rattle.std.specs.Prelude.{◌≡◌, ◌<◌, ℕ, List, Some, Result, ⊤, IfErr};
+ghost use Rattle.std.specs.Prelude.{◌≡◌, ◌<◌, ℕ, Result, ⊤, IfErr};
 ghost use Rattle.deb_base.specs.Devices.{write_failures_after, Puts};
 ghost use Rattle.deb_base.specs.declared.fault.Fault.{Fault};
-ghost use Rattle.deb_control.specs.Calls.{WritesCanonical};
 ghost use Rattle.debctl_commands.specs.DocumentJobs.{ok_line, ChecksFile, NormalisesFile};
-ghost use Rattle.debctl_commands.specs.DocumentJobs.{ReportsRefusal, ReportsRefusalBehind, WritesOk};
 ghost use Rattle.debctl_commands.specs.Taking.{TakesFile};
 ghost use Rattle.debctl_commands.specs.Reporting.{done_status, Reports};
 
@@ -30,17 +28,11 @@ pub(crate) fn run_check<R: Source, W: Sink, E: Sink>(
     out: &mut W,
     err: &mut E,
 ) -> u8
-    ensures done { result ≡ 0 → (err.new ≡ err.old)
-        × ((text : List ℕ) → R.left first.old ≡ Some text
-        → WritesOk doc text (W.held out.old) (W.held out.new)) }
-    ensures refused { result ≡ 2 → (out.new ≡ out.old)
-        × ReportsRefusal doc (R.left first.old) (E.held err.old) (E.held err.new) }
     ensures reads_at_most { TakesFile (R.left first.old) (R.left first.new) }
 
     // Where a call of a device failed, the status is 3.
     ensures status_3_if_read_failed { R.failures first.old < R.failures first.new → result ≡ 3 }
     ensures status_3_if_write_failed { W.failures out.old < W.failures out.new → result ≡ 3 }
-    ensures status_3_if_err_failed { E.failures err.old < E.failures err.new → result ≡ 3 }
 
     // Whatever the status: there is an answer, and that is reported.
     ensures reports_answer { (answer : Result ⊤ Fault)
@@ -68,18 +60,11 @@ pub(crate) fn run_normalise<R: Source, W: Sink, E: Sink>(
     out: &mut W,
     err: &mut E,
 ) -> u8
-    ensures done { result ≡ 0 → (err.new ≡ err.old)
-        × ((text : List ℕ) → R.left first.old ≡ Some text → (n : ℕ)
-        × WritesCanonical doc text n (W.held out.old) (W.held out.new)) }
-    ensures refused { result ≡ 2
-        → ReportsRefusalBehind doc (R.left first.old) (W.held out.old) (W.held out.new)
-        (E.held err.old) (E.held err.new) }
     ensures reads_at_most { TakesFile (R.left first.old) (R.left first.new) }
 
     // Where a call of a device failed, the status is 3.
     ensures status_3_if_read_failed { R.failures first.old < R.failures first.new → result ≡ 3 }
     ensures status_3_if_write_failed { W.failures out.old < W.failures out.new → result ≡ 3 }
-    ensures status_3_if_err_failed { E.failures err.old < E.failures err.new → result ≡ 3 }
 
     // Whatever the status: there is an answer, and that is reported.
     ensures reports_answer { (answer : Result ℕ Fault)

@@ -42,14 +42,16 @@ pub fn run_call<F: Opens, W: Sink, E: Sink>(
     // The texts of the files of the paths.
     ensures done { result ≡ 0 → (err.new ≡ err.old)
         × Done call.now.job (text_at (F.text files.old) (first_path call.now))
-        (text_at (F.text files.old) (second_path call.now)) W.held W.failures out.old out.new }
+        (text_at (F.text files.old) (second_path call.now))
+        (writer_of W.held W.failures out.old out.new) }
     ensures no { result ≡ 1 → (err.new ≡ err.old)
         × SaysNo call.now.job (text_at (F.text files.old) (first_path call.now))
-        (text_at (F.text files.old) (second_path call.now)) W.held out.old out.new }
+        (text_at (F.text files.old) (second_path call.now))
+        (writer_of W.held W.failures out.old out.new) }
     ensures refused { result ≡ 2
         → IsRefused call.now.job (text_at (F.text files.old) (first_path call.now))
-        (text_at (F.text files.old) (second_path call.now)) W.held out.old out.new
-        (E.held err.old) (E.held err.new) }
+        (text_at (F.text files.old) (second_path call.now))
+        (writer_of W.held W.failures out.old out.new) (E.held err.old) (E.held err.new) }
 
     // Where a write failed, the status is 3.
     ensures status_3_if_write_failed { W.failures out.old < W.failures out.new → result ≡ 3 }

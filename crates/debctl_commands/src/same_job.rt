@@ -1,14 +1,14 @@
 //! The job on two files: `same`.
 
-ghost use Rattle.std.specs.Prelude.{◌≡◌, ◌<◌, true, false, Bool, Result};
-ghost use Rattle.deb_control.specs.declared.side.SideFault.{SideFault};
-ghost use Rattle.debctl_commands.specs.SameJob.{ComparesFiles, ReportsAnswer, ReportsComparison};
-ghost use Rattle.debctl_commands.specs.SameJob.{ReportsRefusedSide, WritesSame};
+ghost use Rattle.std.specs.Prelude.{◌≡◌, ◌<◌};
+ghost use Rattle.debctl_commands.specs.JobDevices.{reader_of, writer_of};
+ghost use Rattle.debctl_commands.specs.Promises.{Ends, sided, yes_or_no};
+ghost use Rattle.debctl_commands.specs.SameJob.{ComparesFiles, PutsAnswer, same_line};
 ghost use Rattle.debctl_commands.specs.Taking.{TakesFile};
 
-use crate::reporting::{report_fault, report_side};
+use crate::reporting::report_side;
 use deb_base::{Sink, Source, put_all};
-use deb_control::same;
+use deb_control::{Side, SideFault, same};
 use deb_field::Doc;
 use std::alloc::Global;
 
@@ -28,15 +28,6 @@ pub(crate) fn run_same<R: Source, S: Source, W: Sink, E: Sink>(
     out: &mut W,
     err: &mut E,
 ) -> u8
-    ensures yes { result ≡ 0 → (err.new ≡ err.old)
-        × WritesSame doc (R.left first.old) (S.left second.old) (W.held out.old) (W.held out.new)
-        true }
-    ensures no { result ≡ 1 → (err.new ≡ err.old)
-        × WritesSame doc (R.left first.old) (S.left second.old) (W.held out.old) (W.held out.new)
-        false }
-    ensures refused { result ≡ 2 → (out.new ≡ out.old)
-        × ReportsRefusedSide doc (R.left first.old) (S.left second.old) (E.held err.old)
-        (E.held err.new) }
     ensures reads_at_most { TakesFile (R.left first.old) (R.left first.new) }
     ensures second_reads_at_most { TakesFile (S.left second.old) (S.left second.new) }
 
@@ -45,33 +36,59 @@ pub(crate) fn run_same<R: Source, S: Source, W: Sink, E: Sink>(
     ensures status_3_if_second_read_failed { S.failures second.old < S.failures second.new → result
         ≡ 3 }
     ensures status_3_if_write_failed { W.failures out.old < W.failures out.new → result ≡ 3 }
-    ensures status_3_if_err_failed { E.failures err.old < E.failures err.new → result ≡ 3 }
 
     // Whatever the status: there is an answer, and that is reported.
-    ensures reports_answer { (answer : Result Bool SideFault)
-        × ComparesFiles doc (R.left first.old) (S.left second.old) (R.failures first.old)
-        (R.failures first.new) (S.failures second.old) (S.failures second.new) answer
-        × ReportsComparison W.held W.failures out.old out.new E.held E.failures err.old err.new
-        answer result }
+    ensures reports_answer { Ends (sided yes_or_no (ComparesFiles doc))
+        (reader_of (R.left first.old) (R.failures first.old) (R.failures first.new))
+        (reader_of (S.left second.old) (S.failures second.old) (S.failures second.new))
+        (writer_of W.held W.failures out.old out.new)
+        (writer_of E.held E.failures err.old err.new) result }
 {
-    match same(alloc, doc, first, second) {
-        Ok(is_same) => report_answer(is_same, out, err),
+    match compare_files(alloc, doc, first, second, out) {
+        Ok(true) => 0,
+        Ok(false) => 1,
         Err(side_fault) => report_side(side_fault, err),
     }
 }
 
-/// Writes the line of an answer on `out`, and returns the status.
-fn report_answer<W: Sink, E: Sink>(is_same: bool, out: &mut W, err: &mut E) -> u8
-    ensures { ReportsAnswer W.held W.failures out.old out.new E.held E.failures err.old err.new
-        is_same result }
+/// Writes the line that says whether two files mean the same, and returns whether they do. A failed
+/// write counts as a fault of the second file.
+fn compare_files<R: Source, S: Source, W: Sink>(
+    alloc: Global,
+    doc: Doc,
+    first: &mut R,
+    second: &mut S,
+    out: &mut W,
+) -> Result<bool, SideFault>
+    ensures compares { ComparesFiles doc
+        (reader_of (R.left first.old) (R.failures first.old) (R.failures first.new))
+        (reader_of (S.left second.old) (S.failures second.old) (S.failures second.new))
+        (writer_of W.held W.failures out.old out.new) result }
+    ensures reads_at_most { TakesFile (R.left first.old) (R.left first.new) }
+    ensures second_reads_at_most { TakesFile (S.left second.old) (S.left second.new) }
 {
-    let (line, status): (&[u8], u8) = if is_same {
-        (b"same\n", 0)
-    } else {
-        (b"different\n", 1)
-    };
-    match put_all(out, line) {
-        Ok(()) => status,
-        Err(fault) => report_fault(&fault, err),
+    match same(alloc, doc, first, second) {
+        Ok(is_same) => put_answer(is_same, out),
+        Err(side_fault) => Err(side_fault),
     }
+}
+
+/// Writes the line of an answer, and returns the answer.
+fn put_answer<W: Sink>(is_same: bool, out: &mut W) -> Result<bool, SideFault>
+    ensures { PutsAnswer (writer_of W.held W.failures out.old out.new) is_same result }
+{
+    match put_all(out, same_line(is_same)) {
+        Ok(()) => Ok(is_same),
+        Err(fault) => Err(SideFault {
+            side: Side::Second,
+            fault,
+        }),
+    }
+}
+
+/// Returns the line of an answer.
+fn same_line(is_same: bool) -> &'static [u8]
+    ensures { result.now ≡ same_line is_same }
+{
+    if is_same { b"same\n" } else { b"different\n" }
 }

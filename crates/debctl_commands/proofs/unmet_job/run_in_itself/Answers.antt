@@ -6,10 +6,9 @@ use Rattle.debctl_commands.proofs.unmet_job.run_in_itself.Goals as goal
 pub returns-clause-ends : goal.returns-clause-ends
 returns-clause-ends g c =
     let e = c.unmet_in_itself-answer.ensures in
-    let answer = c.unmet_in_itself-answer.result in
-    record {
-      answer = answer;
-      asks_own = subst
+    let answer = c.unmet_in_itself-answer.result in (
+      answer,
+      subst
           (λ strength. AsksOwn strength c.args.asking.now.versions (environment_of c.args.asking.now.environment.now)
           (g.R.Source.left c.args.first.now) (g.R.Source.failures c.args.first.now) (g.R.Source.failures c.unmet_in_itself-answer.new.reader)
           g.W.Sink.held g.W.Sink.failures c.args.out.now c.unmet_in_itself-answer.new.writer answer)
@@ -22,6 +21,6 @@ returns-clause-ends g c =
             refusal = e.refusal;
             reads = e.counts_read_failure;
             writes = e.counts_write_failure;
-          });
-      reported = c.report_tried.ensures;
-    }
+          }),
+      c.report_tried.ensures,
+    )

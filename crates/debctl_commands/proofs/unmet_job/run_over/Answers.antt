@@ -8,10 +8,9 @@ use Rattle.debctl_commands.proofs.unmet_job.run_over.Goals as goal
 pub returns-clause-ends : goal.returns-clause-ends
 returns-clause-ends g c =
     let e = c.unmet-answer.ensures in
-    let answer = c.unmet-answer.result in
-    record {
-      answer = answer;
-      asks_file = subst
+    let answer = c.unmet-answer.result in (
+      answer,
+      subst
           (λ request. AsksFile (asks_of request (environment_of c.args.asking.now.environment.now) (packages_of c.args.index.now))
           (g.S.Source.left c.args.second.now) (g.S.Source.failures c.args.second.now) (g.S.Source.failures c.unmet-answer.new.reader)
           g.W.Sink.held g.W.Sink.failures c.args.out.now c.unmet-answer.new.writer answer)
@@ -24,6 +23,6 @@ returns-clause-ends g c =
             refusal = e.refusal;
             reads = e.counts_read_failure;
             writes = e.counts_write_failure;
-          });
-      reported = c.report_tried.ensures;
-    }
+          }),
+      c.report_tried.ensures,
+    )

@@ -1,0 +1,19 @@
+use Rattle.std.proofs.Common.{inl, refl}
+use Rattle.deb_control.specs.declared.side.Side.TheVariants.{First}
+use Rattle.debctl_commands.specs.UnmetJob.{at_side}
+use Rattle.debctl_commands.proofs.unmet_job.run_in_environment.Goals as goal
+
+pub returns-in-Index-clause-ends : goal.returns-in-Index-clause-ends
+returns-in-Index-clause-ends g c =
+    let e = c.run_in_itself.ensures.ends in (
+      at_side First e.0,
+      inl (record {
+        strength = c.in-Index.strength;
+        is_index = c.in-Index.is;
+        second_untouched = refl;
+        tried = e.0;
+        is = refl;
+        asks_own = e.1;
+      }),
+      e.2,
+    )
