@@ -1,5 +1,5 @@
--- A file whose refusals are reported one after another, and files that are reported in turn.
-use Rattle.std.proofs.Common.{◌≡◌, ℕ, max, List, [], ◌∷◌, ◌++◌, length, Option, Some, None, Result, Ok, Err, inl, inr, refl, sym, ap, ap₂, subst, ◌∙◌, append-nil, arith}
+-- A file whose refusals are reported one after another.
+use Rattle.std.proofs.Common.{◌≡◌, ℕ, List, [], ◌∷◌, ◌++◌, length, Option, Some, None, Result, Ok, Err, refl, sym, ap, ap₂, subst, ◌∙◌, append-nil}
 use Rattle.std.proofs.KnownBytes.{Appends-nil, Appends-trans}
 use Rattle.std.proofs.lemmas.List.{map-append}
 use Rattle.std.proofs.lemmas.List.Concat.{flat_map-append}
@@ -18,7 +18,7 @@ use Rattle.deb_control.specs.GivenRefusals.{AreFirst, GivesNext, HasGiven, summa
 use Rattle.deb_control.specs.SeenRefusals.{SeenRefusal, refusals_alone}
 use Rattle.deb_control.specs.declared.refusals.Refusals.{Refusals}
 use Rattle.deb_control.specs.declared.summary.Summary.{Summary}
-use Rattle.debctl_commands.specs.AuditAllJob.{AreFirstOf, FileReport, Finds, InTurn, WritesReport, cut, end_record, end_status, refusal_record, refusals_status, whole}
+use Rattle.debctl_commands.specs.AuditAllJob.{AreFirstOf, FileReport, Finds, WritesReport, cut, end_record, end_status, refusal_record, refusals_status, whole}
 use Rattle.debctl_args.specs.declared.jobs.LineEnd.{LineEnd}
 
 -- ---- one file
@@ -162,22 +162,3 @@ module _ (doc : Doc) (end : LineEnd) (path : List ℕ) (left old : Option (List 
     ends = is;
     counted = counts_as fault is writes_new writes counts;
   }
-
--- ---- files in turn
-
-module _ {F W : Type 0} (step : List ℕ → F → W → Result ℕ Fault → F → W → Type 0) where
-  -- one more path behind those that were reported
-  pub turn_more : (paths : List (List ℕ)) (path : List ℕ) (f₀ f₁ f₂ : F) (w₀ w₁ w₂ : W) (status one : ℕ) → InTurn step paths f₀ w₀ (Ok status) f₁ w₁ → step path f₁ w₁ (Ok one) f₂ w₂ → InTurn step (paths ++ path ∷ []) f₀ w₀ (Ok (max one status)) f₂ w₂
-  turn_more [] path f₀ f₁ f₂ w₀ w₁ w₂ status one turn next =
-      (f₂, w₂, one, 0, subst (λ f. step path f w₀ (Ok one) f₂ w₂) turn.1 (subst (λ w. step path f₁ w (Ok one) f₂ w₂) turn.2 next), (refl, refl, refl), ap (max one) turn.0)
-  turn_more (first ∷ paths) path f₀ f₁ f₂ w₀ w₁ w₂ status one (f, w, n, m, done, turn, is) next =
-      (f, w, n, max one m, done, turn_more paths path f f₁ f₂ w w₁ w₂ m one turn next, worst n m is)
-    where
-      worst : (n m : ℕ) → status ≡ max n m → max one status ≡ max n (max one m)
-      worst n m is = omega (arith, is)
-
-  -- a write failed at one more path, and others follow it
-  pub turn_stopped : (paths more : List (List ℕ)) (path : List ℕ) (f₀ f₁ f₂ : F) (w₀ w₁ w₂ : W) (status : ℕ) (fault : Fault) → InTurn step paths f₀ w₀ (Ok status) f₁ w₁ → step path f₁ w₁ (Err fault) f₂ w₂ → InTurn step ((paths ++ path ∷ []) ++ more) f₀ w₀ (Err fault) f₂ w₂
-  turn_stopped [] more path f₀ f₁ f₂ w₀ w₁ w₂ status fault turn next = inl (subst (λ f. step path f w₀ (Err fault) f₂ w₂) turn.1 (subst (λ w. step path f₁ w (Err fault) f₂ w₂) turn.2 next))
-  turn_stopped (first ∷ paths) more path f₀ f₁ f₂ w₀ w₁ w₂ status fault (f, w, n, m, done, turn, is) next =
-      inr (f, w, n, done, turn_stopped paths more path f f₁ f₂ w w₁ w₂ m fault turn next)

@@ -1,6 +1,5 @@
 pub mod AllReports
 pub mod AuditAllReports
-pub mod AuditReports
 pub mod DocumentReports
 pub mod ExplainReports
 pub mod IndexJobs
@@ -10,6 +9,7 @@ pub mod PathLists
 pub mod Promised
 pub mod QueryReports
 pub mod RelationFiles
+pub mod Turning
 pub mod SameReports
 pub mod FaultReports
 pub mod UnmetReports

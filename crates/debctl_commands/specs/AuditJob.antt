@@ -1,10 +1,10 @@
--- What the job of `audit` answers and writes: a record for each file, and the worst status. The
+-- What the job of `audit` answers and writes of a file: a record, and the status. The
 -- records and statuses are this project's own; acceptance and refusals are those of documents of a
 -- kind (Debian Policy 5.1 and 5.3 to 5.6).
-use Rattle.std.specs.Prelude.{◌≡◌, ℕ, max, List, [], ◌∷◌, ◌++◌, map, Option, Some, Result, Ok, Err}
-use Rattle.std.specs.Prelude.{IfOk, IfErr, MatchResult, codes, refl}
+use Rattle.std.specs.Prelude.{◌≡◌, ℕ, List, [], ◌∷◌, ◌++◌, Option, Result, Ok, Err}
+use Rattle.std.specs.Prelude.{IfOk, MatchResult, codes, refl}
 use Rattle.std.specs.Fmt.{decimal, digits}
-use Rattle.std.specs.List.{All, concat, flat_map, fold}
+use Rattle.std.specs.List.{concat}
 use Rattle.std.specs.Str.{is_utf8, chars}
 use lib.Utf8.{encode}
 use Rattle.deb_base.specs.Bodies.{newline}
@@ -76,19 +76,7 @@ abbrev pub outcome_status : Result (Result Verdict Fault) Unopened → ℕ
 outcome_status (Ok answer) = answer_status answer
 outcome_status (Err why) = 3
 
--- the worst of some statuses, and 0 where there is none
-abbrev pub worst : List ℕ → ℕ
-worst statuses = fold max 0 statuses
-
 -- ---- files
-
--- What became of the file of a path: what opening it gave, and what was answered, or why it
--- couldn't be opened. `after` is what opening gave, once it was answered.
-pub record Audited (R : Type 0) : Type 0 where
-  pub path : List ℕ
-  pub opened : Result R Unopened
-  pub after : Result R Unopened
-  pub outcome : Result (Result Verdict Fault) Unopened
 
 -- A file that was opened is answered, and nothing more is asked of its reader. Of one that couldn't
 -- be opened the answer is why.
@@ -101,44 +89,26 @@ AnswersOpened left failures doc demands (Ok reader) (Err why_after) outcome = �
 AnswersOpened left failures doc demands (Err why) after outcome =
     (after ≡ Err why) × (outcome ≡ Err why)
 
--- The file of a path has the text that is known of it, and is answered.
-abbrev pub IsAnswered : {R : Type 0} → (R → Option (List ℕ)) → (R → ℕ) → Doc → Demands
-    → (List ℕ → Option (List ℕ)) → Audited R → Type 0
-IsAnswered left failures doc demands text file =
-    IfOk file.opened (λ reader. left reader ≡ text file.path)
-    × AnswersOpened left failures doc demands file.opened file.after file.outcome
-
--- Files were opened by their paths, one after the other and each once, and that gave this. (`opens`
--- says what opening a path may give, and what it leaves.)
-abbrev pub AreOpened : {F R : Type 0} → (F → List ℕ → Result R Unopened → F → Type 0) → F
-    → List (Audited R) → F → Type 0
-AreOpened opens before [] after = after ≡ before
-AreOpened {F} opens before (file ∷ more) after =
-    (between : F) × opens before file.path file.opened between
-    × AreOpened opens between more after
-
--- The files of some paths are answered, and reported one by one in the order of the paths, by
--- records that end so. The status is the worst of theirs; or a write failed, and no path after
--- that one was opened. (n and n_after are the counts of failed openings before and after, m and
--- m_after those of failed writes.)
-pub record Audits {F R : Type 0} (left : R → Option (List ℕ)) (failures : R → ℕ)
-    (opens : F → List ℕ → Result R Unopened → F → Type 0) (doc : Doc) (demands : Demands)
-    (end : LineEnd)
-    (text : List ℕ → Option (List ℕ)) (before after : F) (n n_after : ℕ)
-    (out out_after : Option (List ℕ)) (m m_after : ℕ) (paths : List (List ℕ))
-    (status : Result ℕ Fault) : Type 0 where
-  pub files : List (Audited R)
-  pub behind : List (List ℕ)
-  pub whole : paths ≡ map (λ file. file.path) files ++ behind
-  pub each : All (IsAnswered left failures doc demands text) files
-  pub reported : Puts out out_after status
-      (flat_map (λ file. audit_record end file.path file.outcome) files)
-  pub ends : MatchResult status
-      (λ status. (behind ≡ []) × (status ≡ worst (map (λ file. outcome_status file.outcome) files)))
-      (λ fault. fault ≡ Write)
-  pub are_opened : AreOpened opens before files after
-  pub counts_unopened : n_after ≡ fold failures_after n (map (λ file. file.opened) files)
-  pub writes : m_after ≡ write_failures_after m status
+-- The file of a path was opened once, answered and reported by its record, and the status is the
+-- file's; or a write failed, before which a prefix of the record was written. `opened` is what
+-- opening it gave, and `after` the same once it was answered; `text` and `unopened` are the texts
+-- of the files and the count of failed openings.
+pub record AuditsPath {F R W : Type 0} (left : R → Option (List ℕ)) (failures : R → ℕ)
+    (opens : F → List ℕ → Result R Unopened → F → Type 0) (text : F → List ℕ → Option (List ℕ))
+    (unopened : F → ℕ) (held : W → Option (List ℕ)) (writes : W → ℕ) (doc : Doc)
+    (demands : Demands) (end : LineEnd) (path : List ℕ) (files : F) (out : W)
+    (status : Result ℕ Fault) (files_after : F) (out_after : W) : Type 0 where
+  pub opened : Result R Unopened
+  pub after : Result R Unopened
+  pub outcome : Result (Result Verdict Fault) Unopened
+  pub opens_once : opens files path opened files_after
+  pub known : IfOk opened (λ reader. left reader ≡ text files path)
+  pub unchanged : text files_after ≡ text files
+  pub counts_unopened : unopened files_after ≡ failures_after (unopened files) opened
+  pub answers : AnswersOpened left failures doc demands opened after outcome
+  pub reported : Puts (held out) (held out_after) status (audit_record end path outcome)
+  pub ends : MatchResult status (λ n. n ≡ outcome_status outcome) (λ fault. fault ≡ Write)
+  pub counted : writes out_after ≡ write_failures_after (writes out) status
 
 line_of_accepted : audit_record Newline (codes "a/b") (Ok (Ok (Whole 2))) ≡ codes "a/b: ok 2\n"
 unfolding digits is_utf8 chars encode is_hidden path_byte escaped_byte
@@ -191,15 +161,6 @@ status_of_each : (outcome_status (Ok (Ok (Whole 1))) ≡ 0)
     × (outcome_status (Ok (Err Read)) ≡ 3) × (outcome_status (Err NotFound) ≡ 3)
 status_of_each = (refl, refl, refl, refl, refl, refl)
 
-worst_of_none : worst [] ≡ 0
-worst_of_none = refl
-
-worst_of_refused : worst (0 ∷ 2 ∷ 0 ∷ []) ≡ 2
-worst_of_refused = refl
-
-worst_of_faults : worst (0 ∷ 3 ∷ 2 ∷ 0 ∷ []) ≡ 3
-worst_of_faults = refl
-
 -- a file that can't be opened is reported with the same reason, and no file is reported otherwise
 unopened_is_reported : {R : Type 0} (left : R → Option (List ℕ)) (failures : R → ℕ) (doc : Doc)
     (demands : Demands) → AnswersOpened left failures doc demands (Err NotFound) (Err NotFound)
@@ -211,15 +172,3 @@ opened_is_answered : {R : Type 0} (left : R → Option (List ℕ)) (failures : R
     → (AnswersOpened left failures doc demands (Ok reader) (Ok after) (Err NotFound) ≡ ⊥)
     × (AnswersOpened left failures doc demands (Ok reader) (Err NotFound) (Ok answer) ≡ ⊥)
 opened_is_answered left failures doc demands reader after answer = (refl, refl)
-
--- files are opened in the order of their paths, each once
-opened_in_order : AreOpened {R = ℕ} (λ log path opened after. after ≡ log ++ path ∷ []) []
-    (record {
-      path = codes "a";
-      opened = Err NotFound;
-      after = Err NotFound;
-      outcome = Err NotFound;
-    }
-    ∷ record { path = codes "b"; opened = Ok 1; after = Ok 2; outcome = Ok (Ok (Whole 0)) } ∷ [])
-    (codes "a" ∷ codes "b" ∷ [])
-opened_in_order = (codes "a" ∷ [], refl, (codes "a" ∷ codes "b" ∷ [], refl, refl))

@@ -14,6 +14,7 @@ pub mod QueryJob
 pub mod Running
 pub mod SameJob
 pub mod Taking
+pub mod Turns
 pub mod Reporting
 pub mod UnmetJob
 pub mod Unopened

@@ -4,9 +4,10 @@ ghost use Rattle.std.specs.Prelude.{◌≡◌, ◌<◌, ℕ, map, IfErr, Ok, Err
 ghost use Rattle.deb_base.specs.Devices.{write_failures_after, Puts};
 ghost use Rattle.deb_base.specs.declared.fault.Fault.{Fault};
 ghost use Rattle.debctl_commands.specs.AuditAllJob.{total_record, FileReport, Finds};
-ghost use Rattle.debctl_commands.specs.AuditAllJob.{FindsOpened, InTurn, ReportsPath, WritesReport};
+ghost use Rattle.debctl_commands.specs.AuditAllJob.{FindsOpened, ReportsPath, WritesReport};
 ghost use Rattle.debctl_commands.specs.AuditJob.{audit_record};
 ghost use Rattle.debctl_commands.specs.Reporting.{Reports};
+ghost use Rattle.debctl_commands.specs.Turns.{InTurn};
 
 use crate::audit_job::{AuditOptions, put_audit_path, put_audit_record, record_end};
 use crate::opens::Opens;

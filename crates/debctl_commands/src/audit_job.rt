@@ -1,12 +1,13 @@
 //! The job of `audit`: checks many files.
 
-ghost use Rattle.std.specs.Prelude.{◌≡◌, ◌<◌, ℕ, [], ◌∷◌, ◌++◌, map, IfErr, IfOk, Ok, Result};
+ghost use Rattle.std.specs.Prelude.{◌≡◌, ◌<◌, ℕ, [], ◌∷◌, ◌++◌, map, Err, IfErr, IfOk, Ok, Result};
 ghost use Rattle.deb_base.specs.Devices.{failures_after, write_failures_after, Puts};
 ghost use Rattle.deb_base.specs.declared.fault.Fault.{Fault};
 ghost use Rattle.debctl_commands.specs.AuditJob.{answer_status, answer_words, audit_path};
 ghost use Rattle.debctl_commands.specs.AuditJob.{audit_record, fault_words, outcome_status};
-ghost use Rattle.debctl_commands.specs.AuditJob.{outcome_words, record_end, AnswersOpened, Audits};
+ghost use Rattle.debctl_commands.specs.AuditJob.{outcome_words, record_end, AnswersOpened, AuditsPath};
 ghost use Rattle.debctl_commands.specs.Reporting.{Reports, ReportsUnopened};
+ghost use Rattle.debctl_commands.specs.Turns.{InTurn};
 ghost use Rattle.debctl_commands.specs.declared.unopened.Unopened.{Unopened};
 
 use crate::opens::Opens;
@@ -56,11 +57,9 @@ pub fn run_audit<F: Opens, W: Sink, E: Sink>(
 ) -> u8
     // Below 3: each file was reported, and nothing on `err`.
     ensures reports_each_file { result < 3 → (err.new ≡ err.old)
-        × Audits F.Reader.left F.Reader.failures F.opens options.doc options.demands options.end
-        (F.text files.old)
-        files.old files.new (F.failures files.old) (F.failures files.new) (W.held out.old)
-        (W.held out.new) (W.failures out.old) (W.failures out.new)
-        (map (λ path. path.now) paths.now) (Ok result) }
+        × InTurn (AuditsPath F.Reader.left F.Reader.failures F.opens F.text F.failures W.held
+        W.failures options.doc options.demands options.end) (map (λ path. path.now) paths.now)
+        files.old out.old (Ok result) files.new out.new }
 
     // Where a write failed, the status is 3.
     ensures status_3_if_write_failed { W.failures out.old < W.failures out.new → result ≡ 3 }
@@ -68,11 +67,9 @@ pub fn run_audit<F: Opens, W: Sink, E: Sink>(
 
     // Whatever the status: there is an answer, and that is reported.
     ensures reports_answer { (answer : Result ℕ Fault)
-        × Audits F.Reader.left F.Reader.failures F.opens options.doc options.demands options.end
-        (F.text files.old)
-        files.old files.new (F.failures files.old) (F.failures files.new) (W.held out.old)
-        (W.held out.new) (W.failures out.old) (W.failures out.new)
-        (map (λ path. path.now) paths.now) answer
+        × InTurn (AuditsPath F.Reader.left F.Reader.failures F.opens F.text F.failures W.held
+        W.failures options.doc options.demands options.end) (map (λ path. path.now) paths.now)
+        files.old out.old answer files.new out.new
         × Reports (λ status. status) E.held E.failures err.old err.new answer result }
 {
     match audit(alloc, options, paths, files, out) {
@@ -108,10 +105,11 @@ fn audit<F: Opens, W: Sink>(
     files: &mut F,
     out: &mut W,
 ) -> Result<u8, Fault>
-    ensures { Audits F.Reader.left F.Reader.failures F.opens options.doc options.demands options.end
-        (F.text files.old) files.old files.new (F.failures files.old) (F.failures files.new)
-        (W.held out.old) (W.held out.new) (W.failures out.old) (W.failures out.new)
-        (map (λ path. path.now) paths.now) result }
+    ensures in_turn { InTurn (AuditsPath F.Reader.left F.Reader.failures F.opens F.text F.failures
+        W.held W.failures options.doc options.demands options.end) (map (λ path. path.now)
+        paths.now) files.old out.old result files.new out.new }
+    ensures fault { IfErr result (λ fault. fault ≡ Fault.Write) }
+    ensures counts_failure { W.failures out.new ≡ write_failures_after (W.failures out.old) result }
 {
     let mut status = 0;
     for path in paths {
@@ -128,12 +126,11 @@ fn audit_file<F: Opens, W: Sink>(
     files: &mut F,
     out: &mut W,
 ) -> Result<u8, Fault>
-    ensures audits { Audits F.Reader.left F.Reader.failures F.opens options.doc options.demands
-        options.end
-        (F.text files.old) files.old files.new (F.failures files.old) (F.failures files.new)
-        (W.held out.old) (W.held out.new) (W.failures out.old) (W.failures out.new)
-        (path.now ∷ []) result }
-    ensures unchanged { F.text files.new ≡ F.text files.old }
+    ensures audits { AuditsPath F.Reader.left F.Reader.failures F.opens F.text F.failures W.held
+        W.failures options.doc options.demands options.end path.now files.old out.old result
+        files.new out.new }
+    ensures fault { IfErr result (λ fault. fault ≡ Fault.Write) }
+    ensures counts_failure { W.failures out.new ≡ write_failures_after (W.failures out.old) result }
 {
     let outcome = check_path(alloc, options, path, files);
     put_audit_record(options.end, path, &outcome, out)?;

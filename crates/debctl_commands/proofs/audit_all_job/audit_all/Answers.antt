@@ -1,7 +1,7 @@
 use Rattle.std.proofs.Common.{take, drop, ◌+◌, refl, ◌∙◌}
 use Rattle.std.proofs.lemmas.Result.{err_from_is_err_and}
 use Rattle.debctl_commands.specs.AuditAllJob.{ReportsPath}
-use Rattle.debctl_commands.proofs.AuditAllReports.{turn_more, turn_stopped}
+use Rattle.debctl_commands.proofs.Turning.{turn_more, turn_stopped}
 use Rattle.debctl_commands.proofs.PathLists.{texts, texts_more, texts_split}
 use Rattle.debctl_commands.proofs.audit_all_job.audit_all.Goals as goal
 

@@ -1,5 +1,6 @@
 use Rattle.std.proofs.Common.{◌≡◌, map, take, Ok}
-use Rattle.debctl_commands.specs.AuditAllJob.{InTurn, ReportsPath}
+use Rattle.debctl_commands.specs.AuditAllJob.{ReportsPath}
+use Rattle.debctl_commands.specs.Turns.{InTurn}
 use Rattle.debctl_commands.proofs.audit_all_job.audit_all.Given as goal
 
 abbrev pub invariant-loop-path : goal.invariant-loop-path

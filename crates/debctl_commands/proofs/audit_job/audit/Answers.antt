@@ -1,29 +1,27 @@
-use Rattle.std.proofs.Common.{refl, ◌∙◌}
+use Rattle.std.proofs.Common.{take, drop, ◌+◌, refl, ◌∙◌}
 use Rattle.std.proofs.lemmas.Result.{err_from_is_err_and}
-use Rattle.debctl_commands.proofs.AuditReports.{audits_none, audits_more, audits_stopped}
-use Rattle.debctl_commands.proofs.PathLists.{texts_more, texts_split}
+use Rattle.debctl_commands.specs.AuditJob.{AuditsPath}
+use Rattle.debctl_commands.proofs.Turning.{turn_more, turn_stopped}
+use Rattle.debctl_commands.proofs.PathLists.{texts, texts_more, texts_split}
 use Rattle.debctl_commands.proofs.audit_job.audit.Goals as goal
 
 pub loop-path-init : goal.loop-path-init
-loop-path-init g c = record {
-  reported = audits_none g.F.Reader.Source.left g.F.Reader.Source.failures g.F.Opens.opens c.args.options.doc c.args.options.demands c.args.options.end (g.F.Opens.text c.args.files.now) _ _ _ _;
-  stays = refl;
-}
+loop-path-init g c = record { reported = (refl, refl, refl); writes = refl }
 
 pub loop-path-preserved : goal.loop-path-preserved
 loop-path-preserved g c =
     let i = c.loop-path.path-index in
-    let next = rw c.loop-path.invariant.stays at c.in_ok-audit_file.ensures.audits in
     record {
       reported = rw (texts_more c.args.paths.now i c.loop-path-test.true, c.max-status.ensures)
-          (audits_more g.F.Reader.Source.left g.F.Reader.Source.failures g.F.Opens.opens c.args.options.doc c.args.options.demands c.args.options.end (g.F.Opens.text c.args.files.now) _ _ _ _ _ _ _ _ _ _ _ _ _ _ _ c.loop-path.invariant.reported _ next);
-      stays = c.audit_file.ensures.unchanged ∙ c.loop-path.invariant.stays;
+          (turn_more (AuditsPath g.F.Reader.Source.left g.F.Reader.Source.failures g.F.Opens.opens g.F.Opens.text g.F.Opens.failures g.W.Sink.held g.W.Sink.failures c.args.options.doc c.args.options.demands c.args.options.end) (texts (take i c.args.paths.now)) _
+          c.args.files.now c.loop-path.files c.audit_file.new.files c.args.out.now c.loop-path.out c.audit_file.new.out c.loop-path.status _ c.loop-path.invariant.reported c.in_ok-audit_file.ensures.audits);
+      writes = c.in_ok-audit_file.ensures.counts_failure ∙ c.loop-path.invariant.writes;
     }
 
-pub returns-in_err-audit_file : goal.returns-in_err-audit_file
-returns-in_err-audit_file g c =
+pub returns-in_err-audit_file-clause-in_turn : goal.returns-in_err-audit_file-clause-in_turn
+returns-in_err-audit_file-clause-in_turn g c =
     let p = err_from_is_err_and c.from_residual.result c.from_residual.ensures.1 in
     let i = c.loop-path.path-index in
-    let next = rw c.loop-path.invariant.stays at c.in_err-audit_file.ensures.audits in
     rw (p.1, p.2, texts_split c.args.paths.now i c.loop-path-test.true)
-    (audits_stopped g.F.Reader.Source.left g.F.Reader.Source.failures g.F.Opens.opens c.args.options.doc c.args.options.demands c.args.options.end (g.F.Opens.text c.args.files.now) _ _ _ _ _ _ _ _ _ _ _ _ _ _ _ c.loop-path.invariant.reported _ _ next)
+    (turn_stopped (AuditsPath g.F.Reader.Source.left g.F.Reader.Source.failures g.F.Opens.opens g.F.Opens.text g.F.Opens.failures g.W.Sink.held g.W.Sink.failures c.args.options.doc c.args.options.demands c.args.options.end) (texts (take i c.args.paths.now)) (texts (drop (i + 1) c.args.paths.now)) _
+    c.args.files.now c.loop-path.files c.audit_file.new.files c.args.out.now c.loop-path.out c.audit_file.new.out c.loop-path.status _ c.loop-path.invariant.reported c.in_err-audit_file.ensures.audits)
