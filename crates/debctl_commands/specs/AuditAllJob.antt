@@ -11,6 +11,7 @@ use Rattle.deb_base.specs.Devices.{failures_after, read_failures_after, write_fa
 use Rattle.deb_base.specs.Reading.{IsMemoryOrRead}
 use Rattle.deb_base.specs.declared.code.Code.TheVariants.{NoColon}
 use Rattle.deb_base.specs.declared.doc.Doc.{Doc}
+use Rattle.deb_base.specs.declared.doc.Doc.TheVariants.{Source}
 use Rattle.deb_base.specs.declared.fault.Fault.{Fault}
 use Rattle.deb_base.specs.declared.fault.Fault.TheVariants.{Refused, Memory, Read, Write}
 use Rattle.deb_base.specs.declared.refusal.Refusal.{Refusal}
@@ -174,35 +175,17 @@ records_of_files :
 unfolding digits is_utf8 chars encode is_hidden path_byte escaped_byte
 records_of_files = (refl, refl, refl, refl, refl)
 
-statuses_of_files : (n : ℕ) (summary : Summary)
-    → (HasStatus (unopened NotFound) n ≡ (n ≡ 3))
-    × (HasStatus (whole [] (Ok summary)) n ≡ (n ≡ 0))
-    × (HasStatus (whole (bad 1 ∷ []) (Ok summary)) n ≡ (n ≡ 2))
-    × (HasStatus (whole (bad 1 ∷ []) (Err Memory)) n ≡ (n ≡ 3))
-    × (HasStatus (cut (bad 1 ∷ [])) n ≡ ⊥)
-statuses_of_files n summary = (refl, refl, refl, refl, refl)
-
 -- the status of a file that was read: by its refusals, or 3 after a fault
-statuses_of_ends : (summary : Summary)
-    → (refusals_status [] ≡ 0) × (refusals_status (bad 1 ∷ bad 5 ∷ []) ≡ 2)
-    × (end_status [] (Ok summary) ≡ 0) × (end_status (bad 1 ∷ []) (Ok summary) ≡ 2)
-    × (end_status [] (Err Read) ≡ 3) × (end_status (bad 1 ∷ []) (Err Read) ≡ 3)
-statuses_of_ends summary = (refl, refl, refl, refl, refl, refl)
+statuses_of_files : (end_status [] (Ok (record { passed = 2; refused = 0 })) ≡ 0)
+    × (end_status (bad 1 ∷ bad 5 ∷ []) (Ok (record { passed = 2; refused = 2 })) ≡ 2)
+    × (end_status [] (Err Read) ≡ 3) × (end_status (bad 1 ∷ []) (Err Memory) ≡ 3)
+    × HasStatus (unopened NotFound) 3 × HasStatus (whole (bad 1 ∷ []) (Err Read)) 3
+    × (HasStatus (cut (bad 1 ∷ [])) 2 ≡ ⊥)
+statuses_of_files = (refl, refl, refl, refl, refl, refl, refl)
 
 -- a file that can't be opened is reported with the same reason, and no file that was opened is
-unopened_is_found : {R : Type 0} (left : R → Option (List ℕ)) (failures : R → ℕ) (doc : Doc)
-    (reader after : R)
-    → FindsOpened left failures doc (Err NotFound) (Err NotFound) (unopened NotFound)
-    × (FindsOpened left failures doc (Ok reader) (Ok after) (unopened NotFound) ≡ ⊥)
-    × (FindsOpened left failures doc (Ok reader) (Err NotFound) (unopened NotFound) ≡ ⊥)
-unopened_is_found left failures doc reader after = ((refl, refl), refl, refl)
-
--- what a report says of a file is of the refusals that it has
-reports_of_files : (doc : Doc) (left left_after : Option (List ℕ)) (count count_after : ℕ)
-    (refusals : List Refusal) (last : Result Summary Fault)
-    → (Finds doc left left_after count count_after (unopened NotFound) ≡ ⊥)
-    × (Finds doc left left_after count count_after (whole refusals last)
-    ≡ FindsAll doc left left_after count count_after refusals last)
-    × (Finds doc left left_after count count_after (cut refusals)
-    ≡ FindsFirst doc left left_after count count_after refusals)
-reports_of_files doc left left_after count count_after refusals last = (refl, refl, refl)
+unopened_is_found :
+    FindsOpened Some length Source (Err NotFound) (Err NotFound) (unopened NotFound)
+    × (FindsOpened Some length Source (Ok []) (Ok []) (unopened NotFound) ≡ ⊥)
+    × (FindsOpened Some length Source (Ok []) (Err NotFound) (unopened NotFound) ≡ ⊥)
+unopened_is_found = ((refl, refl), refl, refl)

@@ -1,8 +1,8 @@
 -- What the job of `audit` answers and writes of a file: a record, and the status. The
 -- records and statuses are this project's own; acceptance and refusals are those of documents of a
 -- kind (Debian Policy 5.1 and 5.3 to 5.6).
-use Rattle.std.specs.Prelude.{◌≡◌, ℕ, List, [], ◌∷◌, ◌++◌, Option, Result, Ok, Err}
-use Rattle.std.specs.Prelude.{IfOk, MatchResult, codes, refl}
+use Rattle.std.specs.Prelude.{◌≡◌, ℕ, true, List, [], ◌∷◌, ◌++◌, length, Option, Some, Result, Ok}
+use Rattle.std.specs.Prelude.{Err, IfOk, MatchResult, codes, refl}
 use Rattle.std.specs.Fmt.{decimal, digits}
 use Rattle.std.specs.List.{concat}
 use Rattle.std.specs.Str.{is_utf8, chars}
@@ -15,10 +15,11 @@ use Rattle.deb_base.specs.declared.code.Code.TheVariants.{NoColon}
 use Rattle.deb_base.specs.declared.fault.Fault.{Fault}
 use Rattle.deb_base.specs.declared.fault.Fault.TheVariants.{Refused, Memory, Read, Write}
 use Rattle.deb_base.specs.declared.doc.Doc.{Doc}
+use Rattle.deb_base.specs.declared.doc.Doc.TheVariants.{Source}
 use Rattle.deb_explain.specs.Escapes.{escaped_byte}
 use Rattle.deb_explain.specs.Paths.{is_hidden, path_byte, shown_path}
 use Rattle.debctl_commands.specs.DocumentJobs.{ok_line}
-use Rattle.debctl_commands.specs.Verdicts.{verdict_status, verdict_words, AnswersFile}
+use Rattle.debctl_commands.specs.Verdicts.{demand, verdict_status, verdict_words, AnswersFile}
 use Rattle.debctl_commands.specs.declared.verdict.Verdict.{Verdict}
 use Rattle.debctl_commands.specs.declared.verdict.Verdict.TheVariants.{Whole, NoNewline, TooFew}
 use Rattle.debctl_args.specs.declared.jobs.Demands.{Demands}
@@ -162,13 +163,8 @@ status_of_each : (outcome_status (Ok (Ok (Whole 1))) ≡ 0)
 status_of_each = (refl, refl, refl, refl, refl, refl)
 
 -- a file that can't be opened is reported with the same reason, and no file is reported otherwise
-unopened_is_reported : {R : Type 0} (left : R → Option (List ℕ)) (failures : R → ℕ) (doc : Doc)
-    (demands : Demands) → AnswersOpened left failures doc demands (Err NotFound) (Err NotFound)
-    (Err NotFound)
-unopened_is_reported left failures doc demands = (refl, refl)
-
-opened_is_answered : {R : Type 0} (left : R → Option (List ℕ)) (failures : R → ℕ) (doc : Doc)
-    (demands : Demands) (reader after : R) (answer : Result Verdict Fault)
-    → (AnswersOpened left failures doc demands (Ok reader) (Ok after) (Err NotFound) ≡ ⊥)
-    × (AnswersOpened left failures doc demands (Ok reader) (Err NotFound) (Ok answer) ≡ ⊥)
-opened_is_answered left failures doc demands reader after answer = (refl, refl)
+unopened_is_reported :
+    AnswersOpened Some length Source (demand true 2) (Err NotFound) (Err NotFound) (Err NotFound)
+    × (AnswersOpened Some length Source (demand true 2) (Ok []) (Ok []) (Err NotFound) ≡ ⊥)
+    × (AnswersOpened Some length Source (demand true 2) (Ok []) (Err NotFound) (Ok (Err Read)) ≡ ⊥)
+unopened_is_reported = ((refl, refl), refl, refl)

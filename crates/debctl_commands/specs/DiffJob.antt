@@ -84,9 +84,3 @@ arguments_of_diff : (map kind_of (Packages ∷ Binary ∷ Sources ∷ Source ∷
     × (map detail_of (Fields ∷ Values ∷ []) ≡ details.Fields ∷ details.Values ∷ [])
     × (form_asked Values Spelled ≡ record { detail = details.Values; versions = Spelled })
 arguments_of_diff = (refl, refl, refl)
-
--- the old file is refused by its text, as a document of the kind
-old_files : (text : List ℕ) → IsRefusedOld Source (Some text)
-    ≡ ((read : List ℕ) × (refusal : Refusal) × (Some text ≡ Some read)
-    × (refusal_of (doc_of kinds.Source) read ≡ Some refusal))
-old_files text = refl

@@ -7,9 +7,9 @@ use Rattle.std.specs.Io.KnownBytes.{Appends}
 use Rattle.deb_base.specs.Bodies.{newline}
 use Rattle.deb_base.specs.Devices.{AppendsFront, read_failures_after, write_failures_after}
 use Rattle.deb_base.specs.Faults.{MatchFault}
+use Rattle.deb_base.specs.declared.code.Code.TheVariants.{NoColon}
 use Rattle.deb_base.specs.declared.fault.Fault.{Fault}
 use Rattle.deb_base.specs.declared.fault.Fault.TheVariants.{Refused, Memory, Read, Write}
-use Rattle.deb_base.specs.declared.refusal.Refusal.{Refusal}
 use Rattle.deb_base.specs.declared.doc.Doc.{Doc}
 use Rattle.deb_control.specs.Calls.{HasParagraphs, IfCutOff, IfRefused, IfWriteFailed}
 use Rattle.deb_control.specs.Calls.{WritesCanonical, WritesRead, WritesRefused}
@@ -82,8 +82,8 @@ unfolding digits
 line_of_many = refl
 
 -- a fact is asked of each fault but that of a write
-facts_of_faults : (refusal : Refusal) (P : Type 0) → (IfNotWritten {T = ℕ} (Ok 2) P ≡ Unit {0})
-    × (IfNotWritten {T = ℕ} (Err (Refused refusal)) P ≡ P)
-    × (IfNotWritten {T = ℕ} (Err Memory) P ≡ P)
-    × (IfNotWritten {T = ℕ} (Err Read) P ≡ P) × (IfNotWritten {T = ℕ} (Err Write) P ≡ Unit {0})
-facts_of_faults refusal P = (refl, refl, refl, refl, refl)
+facts_of_faults : (IfNotWritten {T = ℕ} (Ok 2) ℕ ≡ Unit {0})
+    × (IfNotWritten {T = ℕ} (Err (Refused (record { code = NoColon; line = 1 }))) ℕ ≡ ℕ)
+    × (IfNotWritten {T = ℕ} (Err Memory) ℕ ≡ ℕ) × (IfNotWritten {T = ℕ} (Err Read) ℕ ≡ ℕ)
+    × (IfNotWritten {T = ℕ} (Err Write) ℕ ≡ Unit {0})
+facts_of_faults = (refl, refl, refl, refl, refl)

@@ -12,7 +12,6 @@ use Rattle.deb_base.specs.declared.code.Code.{Code}
 use Rattle.deb_base.specs.declared.code.Code.TheVariants.{BadVersion}
 use Rattle.deb_base.specs.declared.fault.Fault.{Fault}
 use Rattle.deb_base.specs.declared.fault.Fault.TheVariants.{Refused, Memory, Read, Write}
-use Rattle.deb_base.specs.declared.refusal.Refusal.{Refusal}
 use Rattle.deb_version.specs.declared.fault.BadVersion.TheVariants.{Empty, UpstreamByte}
 use Rattle.deb_explain.specs.Explanations.{WhyRefused, explanation_of}
 use Rattle.deb_explain.specs.Causes.{word_cause}
@@ -134,7 +133,8 @@ unfolding path_line is_utf8 chars encode is_hidden path_byte escaped_byte
 text_of_unopened = refl
 
 -- other faults than two are none of these answers
-faults_of_explain : (refusal : Refusal) (P Q : Type 0)
-    → (IsMemoryOrWrite P Q (Refused refusal) ≡ ⊥) × (IsMemoryOrWrite P Q Memory ≡ P)
-    × (IsMemoryOrWrite P Q Read ≡ ⊥) × (IsMemoryOrWrite P Q Write ≡ Q)
-faults_of_explain refusal P Q = (refl, refl, refl, refl)
+faults_of_explain :
+    (IsMemoryOrWrite ℕ Bool (Refused (record { code = BadVersion; line = 1 })) ≡ ⊥)
+    × (IsMemoryOrWrite ℕ Bool Memory ≡ ℕ) × (IsMemoryOrWrite ℕ Bool Read ≡ ⊥)
+    × (IsMemoryOrWrite ℕ Bool Write ≡ Bool)
+faults_of_explain = (refl, refl, refl, refl)

@@ -101,9 +101,8 @@ no_lines : key_lines [] ≡ []
 no_lines = refl
 
 -- as many versions as texts
-versions_of_texts : (one other : List ℕ) (a b : Meaning)
-    → (SpellVersions (one ∷ other ∷ []) (a ∷ b ∷ [])
-    ≡ (SpellsVersion one a × (SpellsVersion other b × Unit {0})))
-    × (SpellVersions (one ∷ other ∷ []) (a ∷ []) ≡ (SpellsVersion one a × ⊥))
-    × (HaveNoVersion (one ∷ other ∷ []) ≡ (IsNoVersion one ⊎ (IsNoVersion other ⊎ ⊥)))
-versions_of_texts one other a b = (refl, refl, refl)
+versions_of_texts : (SpellVersions (codes "0" ∷ codes "1~" ∷ []) (zero ∷ before_one ∷ [])
+    ≡ (SpellsVersion (codes "0") zero × (SpellsVersion (codes "1~") before_one × Unit {0})))
+    × (SpellVersions (codes "0" ∷ [] ∷ []) (zero ∷ []) ≡ (SpellsVersion (codes "0") zero × ⊥))
+    × (HaveNoVersion (codes "0" ∷ []) ≡ (IsNoVersion (codes "0") ⊎ ⊥))
+versions_of_texts = (refl, refl, refl)

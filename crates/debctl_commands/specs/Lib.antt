@@ -4,6 +4,7 @@ pub mod AuditJob
 pub mod DiffJob
 pub mod DocumentJobs
 pub mod ExplainJob
+pub mod JobCases
 pub mod JobDevices
 pub mod KeyJob
 pub mod ListedPaths

@@ -1,13 +1,10 @@
 -- Which files a call opens, in which order, and what becomes of them. The order, and the path of
 -- standard input, are this project's own.
 use Rattle.std.proofs.Common.{inl}
-use Rattle.std.specs.Prelude.{◌≡◌, ◌⊎◌, ℕ, true, List, [], ◌∷◌, ◌++◌, Option, Some, None, Result}
-use Rattle.std.specs.Prelude.{Ok, Err, String, Vec, string_bytes, codes, option_map, unwrap_or}
+use Rattle.std.specs.Prelude.{◌≡◌, ◌⊎◌, ℕ, List, [], ◌∷◌, ◌++◌, Option, Some, None, Result}
+use Rattle.std.specs.Prelude.{Ok, Err, string_bytes, codes, option_map, unwrap_or}
 use Rattle.std.specs.Prelude.{refl}
-use Rattle.std.specs.declared.alloc.Global.{Global}
-use Rattle.deb_base.specs.declared.doc.Doc.TheVariants.{Source}
 use Rattle.deb_base.specs.declared.fault.Fault.TheVariants.{Read}
-use Rattle.deb_base.specs.declared.version_text.VersionText.{VersionText}
 use Rattle.debctl_commands.specs.JobDevices.{ReaderOfJob, WriterOfJob, reader_of}
 use Rattle.debctl_commands.specs.Running.{Reported}
 use Rattle.debctl_commands.specs.Reporting.{ReportsFault}
@@ -18,14 +15,8 @@ use Rattle.debctl_commands.specs.declared.opening.Both.{Both}
 use Rattle.debctl_commands.specs.declared.unopened.Unopened.{Unopened}
 use Rattle.debctl_commands.specs.declared.unopened.Unopened.TheVariants.{NotFound}
 use Rattle.debctl_args.specs.declared.jobs.Call.{Call}
-use Rattle.debctl_args.specs.declared.jobs.Cmp.TheVariants.{Less}
 use Rattle.debctl_args.specs.declared.jobs.Job.{Job}
 use Rattle.debctl_args.specs.declared.jobs.Job.TheVariants.{Check, CheckAll, CheckWhole, Normalise, Same, Diff}
-use Rattle.debctl_args.specs.declared.jobs.Demands.{Demands}
-use Rattle.debctl_args.specs.declared.jobs.Dependents.{Dependents}
-use Rattle.debctl_args.specs.declared.jobs.Detail.{Detail}
-use Rattle.debctl_args.specs.declared.jobs.DiffDetail.{DiffDetail}
-use Rattle.debctl_args.specs.declared.jobs.DiffKind.{DiffKind}
 use Rattle.debctl_args.specs.declared.jobs.Job.TheVariants.{Compare, CanonVersion, Sort, Query, QueryFrom}
 use Rattle.debctl_args.specs.declared.jobs.Job.TheVariants.{Unmet, VersionKey}
 
@@ -126,90 +117,6 @@ EndsCall left failures job (Err why) out err status =
     (out.new ≡ out.old) × ReportsFault err.held err.failures err.old err.new Read status
 
 -- ---- worked cases
-
--- standard input is read without a path, and two versions are compared without a file
-first_of_jobs : (first_of_job (Check Source) None ≡ Some (codes "-"))
-    × (first_of_job (Normalise Source) None ≡ Some (codes "-"))
-    × (first_of_job (Sort true) None ≡ Some (codes "-"))
-    × (first_of_job (Check Source) (Some (codes "a")) ≡ Some (codes "a"))
-    × (first_of_job (Same Source) (Some (codes "a")) ≡ Some (codes "a"))
-first_of_jobs = (refl, refl, refl, refl, refl)
-
-first_of_check_whole : (demands : Demands)
-    → (first_of_job (CheckWhole Source demands) None ≡ Some (codes "-"))
-    × (first_of_job (CheckWhole Source demands) (Some (codes "a")) ≡ Some (codes "a"))
-first_of_check_whole demands = (refl, refl)
-
-first_of_check_all : (first_of_job (CheckAll Source) None ≡ Some (codes "-"))
-    × (first_of_job (CheckAll Source) (Some (codes "a")) ≡ Some (codes "a"))
-first_of_check_all = (refl, refl)
-
-first_of_versions : (version : String Global) (versions : Vec (String Global) Global)
-    (path : List ℕ)
-    → (first_of_job (CanonVersion version) (Some path) ≡ None)
-    × (first_of_job (Compare version Less version) (Some path) ≡ None)
-    × (first_of_job (VersionKey versions) (Some path) ≡ None)
-first_of_versions version versions path = (refl, refl, refl)
-
-first_of_query : (arch relation : String Global) (profiles : Vec (String Global) Global)
-    (detail : Detail) (versions : VersionText)
-    → (first_of_job (Query arch profiles relation detail versions) None ≡ Some (codes "-"))
-    × (first_of_job (Query arch profiles relation detail versions) (Some (codes "a"))
-    ≡ Some (codes "a"))
-first_of_query arch relation profiles detail versions = (refl, refl)
-
--- the first file of a query with a relation from a file is that file
-first_of_query_from : (arch : String Global) (profiles : Vec (String Global) Global)
-    (detail : Detail) (versions : VersionText)
-    → first_of_job (QueryFrom arch profiles detail versions) (Some (codes "a")) ≡ Some (codes "a")
-first_of_query_from arch profiles detail versions = refl
-
--- the first file of `unmet` is the index
-first_of_unmet : (arch : String Global) (profiles : Vec (String Global) Global)
-    (dependents : Dependents) (versions : VersionText)
-    → first_of_job (Unmet arch profiles dependents versions) (Some (codes "a")) ≡ Some (codes "a")
-first_of_unmet arch profiles dependents versions = refl
-
--- the first file of `diff` is the old one
-first_of_diff : (kind : DiffKind) (detail : DiffDetail) (versions : VersionText)
-    → first_of_job (Diff kind detail versions) (Some (codes "a")) ≡ Some (codes "a")
-first_of_diff kind detail versions = refl
-
--- a job over two files reads no standard input in place of a path that it hasn't
-no_first_of_two_files : (arch : String Global) (profiles : Vec (String Global) Global)
-    (kind : DiffKind) (detail : DiffDetail) (shown : Detail) (dependents : Dependents)
-    (versions : VersionText)
-    → (first_of_job (Same Source) None ≡ None)
-    × (first_of_job (Diff kind detail versions) None ≡ None)
-    × (first_of_job (QueryFrom arch profiles shown versions) None ≡ None)
-    × (first_of_job (Unmet arch profiles dependents versions) None ≡ None)
-no_first_of_two_files arch profiles kind detail shown dependents versions =
-    (refl, refl, refl, refl)
-
--- the second file is that of the second path, for a job over two files as for another
-second_of_unmet : (arch path path_too : String Global) (profiles : Vec (String Global) Global)
-    (dependents : Dependents) (versions : VersionText)
-    → (second_path (record {
-      job = Unmet arch profiles dependents versions;
-      first = Some path;
-      second = Some path_too;
-    })
-    ≡ Some (string_bytes path_too))
-    × (second_path (record {
-      job = Unmet arch profiles dependents versions;
-      first = Some path;
-      second = None;
-    })
-    ≡ None)
-second_of_unmet arch path path_too profiles dependents versions = (refl, refl)
-
--- the paths of a call are those of its words, in their order
-paths_of_same : (path path_too : String Global)
-    → (first_path (record { job = Same Source; first = Some path; second = Some path_too })
-    ≡ Some (string_bytes path))
-    × (second_path (record { job = Same Source; first = Some path; second = Some path_too })
-    ≡ Some (string_bytes path_too))
-paths_of_same path path_too = (refl, refl)
 
 -- where there is no file, there is nothing to read and nothing fails
 texts_of_files : (left_of {R = List ℕ} Some (File (codes "a")) ≡ Some (codes "a"))

@@ -1,6 +1,6 @@
 -- What a job promises, said once: its answers, how each is reported, and what each says of the
 -- readers and of the writer. What each status says follows from that.
-use Rattle.std.specs.Prelude.{◌≡◌, ℕ, Bool, true, false, List, Option, Result, Ok, Err, refl}
+use Rattle.std.specs.Prelude.{◌≡◌, ℕ, Bool, List, Option, Result, Ok, Err}
 use Rattle.std.specs.Io.KnownBytes.{Appends}
 use Rattle.deb_base.specs.Lines.{fault_line}
 use Rattle.deb_base.specs.declared.fault.Fault.{Fault}
@@ -97,18 +97,3 @@ Refuses promise err err_after (Ok answer) = RefusesBy (promise.report answer) er
 Refuses promise err err_after (Err failure) =
     (refusal : Refusal) × (promise.fault failure ≡ Refused refusal)
     × Appends err err_after (promise.line failure)
-
--- ---- worked cases
-
--- a fault is reported with its side or without it
-lines_of_failures : {W : Type 0} (says : Saying W Bool Fault) (says_too : Saying W Bool SideFault)
-    (fault : Fault) (told : SideFault)
-    → ((plain yes_or_no says).line fault ≡ fault_line fault)
-    × ((sided yes_or_no says_too).line told ≡ side_line told)
-lines_of_failures says says_too fault told = (refl, refl)
-
-statuses_of_answers : {W : Type 0} (says : Saying W Bool Fault) (says_too : Saying W ℕ Fault)
-    → ((plain yes_or_no says).report true ≡ by_status 0)
-    × ((plain yes_or_no says).report false ≡ by_status 1)
-    × ((plain done says_too).report 7 ≡ by_status 0)
-statuses_of_answers says says_too = (refl, refl, refl)

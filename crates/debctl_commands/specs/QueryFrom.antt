@@ -10,7 +10,7 @@ use Rattle.deb_base.specs.Faults.{IsReadersFault}
 use Rattle.deb_base.specs.Lines.{fault_line, refusal_line}
 use Rattle.deb_base.specs.declared.code.Code.TheVariants.{ParagraphTooLong}
 use Rattle.deb_base.specs.declared.fault.Fault.{Fault}
-use Rattle.deb_base.specs.declared.fault.Fault.TheVariants.{Refused, Read}
+use Rattle.deb_base.specs.declared.fault.Fault.TheVariants.{Read}
 use Rattle.deb_base.specs.declared.refusal.Refusal.{Refusal}
 use Rattle.deb_control.specs.declared.side.Side.TheVariants.{First, Second}
 use Rattle.deb_control.specs.declared.side.SideFault.{SideFault}
@@ -94,10 +94,6 @@ line_of_long_relation : refusal_line long_relation ≡ codes "line 0: 8 Paragrap
 unfolding digits
 line_of_long_relation = refl
 
--- the length of a text is that of all its bytes, a last newline included
-long_texts : (text : List ℕ) → IsLong text ≡ (paragraph_limit < length text)
-long_texts text = refl
-
 -- a file of as many bytes as a paragraph may have isn't long, and one of one byte more is
 limit_of_relations : (text : List ℕ) → length text ≡ paragraph_limit → IsLong text → ⊥
 limit_of_relations text is long = omega (arith, is, long)
@@ -110,13 +106,6 @@ read_is_short : (left : Option (List ℕ)) (relation : List ℕ) → IsRead left
     → length relation ≤ paragraph_limit
 read_is_short left relation read = read.short
 
--- a refusal of either file has no side, and other faults are those of the second
-lines_of_sides : {W : Type 0} (options : QueryOptions) (ask : List ℕ → Question)
-    → ((from_promise {W} options ask).line (record { side = First; fault = Refused long_relation })
-    ≡ codes "line 0: 8 ParagraphTooLong\n")
-    × ((from_promise {W} options ask).line (record { side = Second; fault = Read })
-    ≡ codes "fault: read\n")
-    × (at_second {T = ℕ} (Ok 7) ≡ Ok 7)
+sides_of_answers : (at_second {T = ℕ} (Ok 7) ≡ Ok 7)
     × (at_second {T = ℕ} (Err Read) ≡ Err (record { side = Second; fault = Read }))
-unfolding digits
-lines_of_sides options ask = (refl, refl, refl, refl)
+sides_of_answers = (refl, refl)

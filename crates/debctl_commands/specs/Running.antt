@@ -1,13 +1,10 @@
 -- What a whole command answers and writes, by its job. The jobs and their statuses are this
 -- project's own.
-use Rattle.std.specs.Prelude.{◌≡◌, ℕ, ⊤, Bool, true, false, List, map, Option, Some}
-use Rattle.std.specs.Prelude.{IsFalse, IsTrue, Result, Err, String, Vec, string_bytes, codes, refl}
+use Rattle.std.specs.Prelude.{◌≡◌, ℕ, ⊤, List, map, Option}
+use Rattle.std.specs.Prelude.{IsFalse, IsTrue, Result, String, Vec, string_bytes}
 use Rattle.std.specs.declared.alloc.Global.{Global}
-use Rattle.deb_base.specs.declared.doc.Doc.{Doc}
 use Rattle.deb_base.specs.declared.fault.Fault.{Fault}
-use Rattle.deb_base.specs.declared.fault.Fault.TheVariants.{Read}
 use Rattle.deb_base.specs.declared.version_text.VersionText.{VersionText}
-use Rattle.deb_control.specs.declared.side.Side.TheVariants.{Second}
 use Rattle.deb_control.specs.declared.summary.Summary.{Summary}
 use Rattle.deb_index.specs.Questions.{Question, question}
 use Rattle.deb_sort.specs.Files.{SortsFile}
@@ -20,18 +17,13 @@ use Rattle.debctl_commands.specs.Promises.{Answers, Ends, HasStatus, Promise, Re
 use Rattle.debctl_commands.specs.Promises.{done, plain, sided, yes_or_no}
 use Rattle.debctl_commands.specs.QueryFrom.{AreRefusedFrom, from_promise}
 use Rattle.debctl_commands.specs.QueryJob.{AreRefused, QueriesFile, query_options}
-use Rattle.debctl_commands.specs.Reporting.{by_line, by_status}
+use Rattle.debctl_commands.specs.Reporting.{by_status}
 use Rattle.debctl_commands.specs.SameJob.{ComparesFiles}
 use Rattle.debctl_commands.specs.UnmetJob.{AreRefusedBefore, Words, has_environment, is_index}
 use Rattle.debctl_commands.specs.UnmetJob.{unmet_promise, words}
-use Rattle.debctl_commands.specs.Verdicts.{verdict_line}
 use Rattle.debctl_commands.specs.VersionJobs.{Canonicalises, Compares}
 use Rattle.debctl_commands.specs.WholeJob.{ChecksWhole, verdict_report}
-use Rattle.debctl_commands.specs.declared.verdict.Verdict.TheVariants.{NoNewline, Whole}
-use Rattle.debctl_args.specs.declared.jobs.Cmp.{Cmp}
-use Rattle.debctl_args.specs.declared.jobs.Demands.{Demands}
 use Rattle.debctl_args.specs.declared.jobs.Dependents.{Dependents}
-use Rattle.debctl_args.specs.declared.jobs.Detail.{Detail}
 use Rattle.debctl_args.specs.declared.jobs.Job.{Job}
 use Rattle.debctl_args.specs.declared.jobs.Job.TheVariants.{Check, CheckAll, CheckWhole, Normalise, Same, Diff}
 use Rattle.debctl_args.specs.declared.jobs.Job.TheVariants.{Compare, CanonVersion, Sort, Query, QueryFrom}
@@ -164,65 +156,3 @@ IfRefusedRelation (Unmet arch profiles dependents versions) left P =
     AreRefusedBefore (words_of_unmet arch profiles dependents versions) left → P
 IfRefusedRelation (Diff kind detail versions) left P = IsRefusedOld kind left → P
 IfRefusedRelation _ left P = Unit {0}
-
--- the words of a query are asked in their places
-words_asked : (arch relation : String Global) (profiles : Vec (String Global) Global)
-    → asked arch profiles relation ≡ record {
-      target = string_bytes arch;
-      profiles = map string_bytes profiles.items;
-      relation = string_bytes relation;
-    }
-words_asked arch relation profiles = refl
-
--- the answers that have a status of their own, of jobs on words and on files
-statuses_of_jobs : {W : Type 0} (doc : Doc) (version : String Global) (demands : Demands)
-    → ((promise_of {W} (CanonVersion version)).report tt ≡ by_status 0)
-    × ((promise_of {W} (Same doc)).report true ≡ by_status 0)
-    × ((promise_of {W} (Same doc)).report false ≡ by_status 1)
-    × ((promise_of {W} (CheckAll doc)).report (record { passed = 4; refused = 0 }) ≡ by_status 0)
-    × ((promise_of {W} (CheckAll doc)).report (record { passed = 4; refused = 3 }) ≡ by_status 2)
-    × ((promise_of {W} (CheckWhole doc demands)).report (Whole 2) ≡ by_status 0)
-    × ((promise_of {W} (CheckWhole doc demands)).report NoNewline
-    ≡ by_line (verdict_line NoNewline))
-statuses_of_jobs doc version demands = (refl, refl, refl, refl, refl, refl, refl)
-
--- a failed read of the second file is reported without its side
-lines_of_jobs : {W : Type 0} (doc : Doc)
-    → ((promise_of {W} (Check doc)).line Read ≡ codes "fault: read\n")
-    × ((promise_of {W} (Same doc)).line (record { side = Second; fault = Read })
-    ≡ codes "fault: read\n")
-lines_of_jobs doc = (refl, refl)
-
--- what is said of `sort`, in the order that is asked, and of a job on two files
-said_of_sort : {W : Type 0} (first second : ReaderOfJob) (out : WriterOfJob W)
-    → (promise_of (Sort true)).Says first second out (Err Read)
-    ≡ SortsFile {T = ⊤} true first.text first.failures first.failures_after
-    out.held out.failures out.old out.new (Err Read)
-said_of_sort first second out = refl
-
--- which jobs leave a reader as it was
-unread : (doc : Doc) (one another : String Global) (operator : Cmp) (reverse : Bool) (P : Type 0)
-    → (IfUnread (Check doc) P ≡ Unit {0}) × (IfUnread (Same doc) P ≡ Unit {0})
-    × (IfUnread (Compare one operator another) P ≡ P) × (IfUnread (CanonVersion one) P ≡ P)
-    × (IfUnread (Sort reverse) P ≡ Unit {0}) × (IfSecondUnread (Check doc) P ≡ P)
-    × (IfSecondUnread (Same doc) P ≡ Unit {0})
-    × (IfSecondUnread (Compare one operator another) P ≡ P)
-    × (IfCompare (Compare one operator another) P ≡ P) × (IfCompare (Check doc) P ≡ Unit {0})
-unread doc one another operator reverse P =
-    (refl, refl, refl, refl, refl, refl, refl, refl, refl, refl)
-
--- what a query and `unmet` leave as it was: by their words, and by the text of the first file
-said_of_words : (arch relation : String Global) (profiles : Vec (String Global) Global)
-    (detail : Detail) (dependents : Dependents) (versions : VersionText) (left : Option (List ℕ))
-    (P : Type 0)
-    → (IfRefusedWords (Query arch profiles relation detail versions) P
-    ≡ (AreRefused (asked arch profiles relation) → P))
-    × (IfRefusedRelation (QueryFrom arch profiles detail versions) left P
-    ≡ (AreRefusedFrom (asked_of_file arch profiles) left → P))
-    × (IfRefusedWords (QueryFrom arch profiles detail versions) P ≡ Unit {0})
-    × (IfSecondUnread (Unmet arch profiles dependents versions) P
-    ≡ (IsTrue (is_index dependents) → P))
-    × (IfRefusedRelation (Unmet arch profiles dependents versions) left P
-    ≡ (AreRefusedBefore (words_of_unmet arch profiles dependents versions) left → P))
-said_of_words arch relation profiles detail dependents versions left P =
-    (refl, refl, refl, refl, refl)

@@ -6,7 +6,7 @@ use Rattle.std.specs.declared.alloc.Global.{Global}
 use Rattle.std.proofs.Common.{ap}
 use Rattle.std.specs.Fmt.{digits}
 use Rattle.std.specs.Prelude.{Option, Some, Result, Ok, Err, IfOk, IfErr, IsTrue, IsFalse}
-use Rattle.std.specs.Prelude.{if◌then◌else◌, codes, refl}
+use Rattle.std.specs.Prelude.{codes, refl}
 use Rattle.deb_base.specs.Devices.{read_failures_after, write_failures_after}
 use Rattle.deb_base.specs.Faults.{IsReadersFault, RefusedOrMemory}
 use Rattle.deb_base.specs.Lines.{fault_line}
@@ -265,16 +265,16 @@ kinds_tried : (asked_of (Index Recommends) ≡ fields.Packages fields_of.Recomme
     × (asked_of (Binary Depends) ≡ fields.Binary fields_of.Depends)
     × (asked_of Sources ≡ fields.Sources) × (asked_of Source ≡ fields.Source)
     × (request_of Sources Spelled ≡ record { asked = fields.Sources; versions = Spelled })
-kinds_tried = (refl, refl, refl, refl, refl, refl)
+    × (map is_index (Index Depends ∷ Packages Depends ∷ Binary Depends ∷ Sources ∷ Source ∷ [])
+    ≡ true ∷ false ∷ false ∷ false ∷ false ∷ [])
+kinds_tried = (refl, refl, refl, refl, refl, refl, refl)
 
-words_in_order : words (codes "amd64") (codes "nocheck" ∷ []) Source Spelled
-    ≡ record {
-      target = codes "amd64";
-      profiles = codes "nocheck" ∷ [];
-      dependents = Source;
-      versions = Spelled;
-    }
-words_in_order = refl
+-- the environment has the target and the profiles, if that is one
+words_in_order : (environment_in (words (codes "amd64") (codes "nocheck" ∷ []) Source Spelled)
+    ≡ record { target = codes "amd64"; profiles = codes "nocheck" ∷ [] })
+    × (has_environment (words (codes "amd64") (codes "nocheck" ∷ []) Source Spelled) ≡ true)
+    × (has_environment (words (codes "any") [] Source Spelled) ≡ false)
+words_in_order = (refl, refl, refl)
 
 -- the arguments that the code holds are those words
 words_of_arguments : (given : UnmetWords) (one other : String Global)
@@ -298,6 +298,8 @@ unfolding digits
 faults_of_failures = (refl, refl, refl)
 
 -- no line is status 0, and a line is 1, whatever was counted
-reports_of_summaries : (summary : Summary) → (at_side Second (Ok summary) ≡ Ok summary)
-    × (unmet_report summary ≡ by_status (if summary.is_empty then 0 else 1))
-reports_of_summaries summary = (refl, refl)
+reports_of_summaries : (at_side Second (Ok (record { paragraphs = 2; is_empty = true }))
+    ≡ Ok (record { paragraphs = 2; is_empty = true }))
+    × (unmet_report (record { paragraphs = 2; is_empty = true }) ≡ by_status 0)
+    × (unmet_report (record { paragraphs = 0; is_empty = false }) ≡ by_status 1)
+reports_of_summaries = (refl, refl, refl)

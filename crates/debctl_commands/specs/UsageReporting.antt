@@ -1,8 +1,12 @@
 -- What is reported of words that ask for no job. The texts and the statuses are this project's own.
-use Rattle.std.specs.Prelude.{◌≡◌, ◌⊎◌, ℕ, List, [], ◌∷◌, ◌++◌, Option, String, string_bytes}
-use Rattle.std.specs.Prelude.{codes, refl}
+use Rattle.std.proofs.Common.{inl}
+use Rattle.std.specs.Prelude.{◌≡◌, ◌⊎◌, ℕ, List, [], ◌∷◌, ◌++◌, length, Option, Some, String}
+use Rattle.std.specs.Prelude.{string_bytes, codes, refl}
+use Rattle.std.specs.Str.{is_utf8, chars}
+use lib.Utf8.{encode}
 use Rattle.std.specs.declared.alloc.Global.{Global}
 use Rattle.deb_base.specs.Bodies.{newline}
+use Rattle.deb_base.specs.Literals.{string}
 use Rattle.deb_base.specs.declared.fault.Fault.TheVariants as fault
 use Rattle.debctl_commands.specs.Reporting.{ReportsFault, ReportsFront, ReportsUnwritten}
 use Rattle.debctl_commands.specs.Reporting.{ReportsWhole}
@@ -32,22 +36,16 @@ line_of_usage : (line_of (codes "usage: unknown code") ≡ codes "usage: unknown
     × (line_of [] ≡ codes "\n")
 line_of_usage = (refl, refl)
 
--- a mistake has the status 3 whatever is written, and help that was written has the status 0
-told_of_usage : {W E : Type 0} (held : W → Option (List ℕ)) (writes : W → ℕ) (out new : W)
-    (held_err : E → Option (List ℕ)) (failures_err : E → ℕ) (err err_after : E)
-    (text : String Global) (status : ℕ)
-    → ReportsUsage held writes out new held_err failures_err err err_after (Usage text) status
-    ≡ ((new ≡ out)
-    × (ReportsWhole held_err failures_err err err_after (string_bytes text ++ newline ∷ []) 3 status
-    ⊎ ReportsFront held_err failures_err err err_after (string_bytes text ++ newline ∷ []) status))
-told_of_usage held writes out new held_err failures_err err err_after text status = refl
+-- for the worked cases: the text of a mistake, or of the help
+abbrev usage : String Global
+unfolding is_utf8 chars encode
+usage = string (codes "no") refl refl
 
-told_of_help : {W E : Type 0} (held : W → Option (List ℕ)) (writes : W → ℕ) (out new : W)
-    (held_err : E → Option (List ℕ)) (failures_err : E → ℕ) (err err_after : E)
-    (text : String Global) (status : ℕ)
-    → ReportsUsage held writes out new held_err failures_err err err_after (Help text) status
-    ≡ ((ReportsWhole held writes out new (string_bytes text ++ newline ∷ []) 0 status
-    × (err_after ≡ err))
-    ⊎ ReportsUnwritten held writes out new held_err failures_err err err_after
-    (string_bytes text ++ newline ∷ []) status)
-told_of_help held writes out new held_err failures_err err err_after text status = refl
+-- a mistake has the status 3, and help that was written has the status 0
+told_of_usage : ReportsUsage Some length [] [] Some (λ held. 7) [] (codes "no\n") (Usage usage) 3
+    × ReportsUsage Some (λ held. 7) [] (codes "no\n") Some length [] [] (Help usage) 0
+unfolding usage
+told_of_usage = (
+  (refl, inl (record { written = refl; counted = refl; status = refl })),
+  inl (record { written = refl; counted = refl; status = refl }, refl),
+)

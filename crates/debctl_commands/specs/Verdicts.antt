@@ -70,7 +70,7 @@ pub record AnswersFile (doc : Doc) (demands : Demands) (left left_after : Option
 -- ---- worked cases
 
 -- for the worked cases: what is demanded
-abbrev demand : Bool → ℕ → Demands
+abbrev pub demand : Bool → ℕ → Demands
 demand complete least = record { complete = complete; least = least }
 
 -- a last newline that is there, missing, or not asked for; an empty file has none to miss

@@ -2,6 +2,7 @@
 -- statuses are this project's own; acceptance and refusals are those of documents of a kind (Debian
 -- Policy 5.1 and 5.3 to 5.6).
 use Rattle.std.specs.Prelude.{◌≡◌, ℕ, ⊤, List, Option, Some, Result, IfOk, IfErr, codes, refl}
+use Rattle.std.specs.Fmt.{digits}
 use Rattle.std.specs.Io.KnownBytes.{Appends}
 use Rattle.deb_base.specs.Devices.{AppendsFront, Puts, read_failures_after, write_failures_after}
 use Rattle.deb_base.specs.declared.doc.Doc.{Doc}
@@ -71,11 +72,11 @@ verdict_report NoNewline = by_line (verdict_line NoNewline)
 verdict_report (TooFew n least) = by_line (verdict_line (TooFew n least))
 
 -- nothing is written on standard output of a file that doesn't meet the demands
-written_of_verdicts : {W : Type 0} (held : W → Option (List ℕ)) (old new : W)
-    → (WritesVerdict held old new (Whole 2) ≡ Appends (held old) (held new) (ok_line 2))
-    × (WritesVerdict held old new NoNewline ≡ (new ≡ old))
-    × (WritesVerdict held old new (TooFew 1 2) ≡ (new ≡ old))
-written_of_verdicts held old new = (refl, refl, refl)
+written_of_verdicts : WritesVerdict Some (codes "a") (codes "aok 2\n") (Whole 2)
+    × WritesVerdict Some (codes "a") (codes "a") NoNewline
+    × WritesVerdict Some (codes "a") (codes "a") (TooFew 1 2)
+unfolding digits
+written_of_verdicts = (refl, refl, refl)
 
 -- and nothing on standard error of one that does
 reports_of_verdicts : (verdict_report (Whole 2) ≡ by_status 0)
