@@ -1,7 +1,6 @@
 //! The job that checks a file and what is demanded of it: `check --complete` and `check --least N`.
 
 ghost use Rattle.std.specs.Prelude.{◌≡◌, ◌<◌, Some, Result, true, IfErr, IfOk};
-ghost use Rattle.deb_base.specs.Devices.{read_failures_after};
 ghost use Rattle.deb_base.specs.Faults.{RefusedOrMemory};
 ghost use Rattle.deb_base.specs.declared.fault.Fault.{Fault};
 ghost use Rattle.deb_control.specs.Calls.{HasParagraphs, IfRefused};
