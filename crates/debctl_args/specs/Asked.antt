@@ -6,11 +6,11 @@ use Rattle.std.specs.Str.Parse.{digits_value}
 use Rattle.std.specs.List.{list_any, slice_split}
 use Rattle.std.specs.Option.{option_map_or}
 use Rattle.clap.specs.Kinds.{Kinds}
-use Rattle.clap.specs.Simple.{subcommand_of}
-use Rattle.clap.specs.Walk.{Row, Text, all_of, first_of}
+use Rattle.clap.specs.Simple.{App, subcommand_of}
+use Rattle.clap.specs.Walk.{Row, Rule, Text, all_of, first_of}
 use Rattle.clap.specs.declared.error.kind.ErrorKind.{ErrorKind}
 use Rattle.clap.specs.declared.error.kind.ErrorKind.TheVariants.{DisplayHelp, DisplayVersion, OutOfMemory}
-use Rattle.debctl_args.specs.Commands.{debctl_app, audit_word, check_word, explain_word, normalise_word, same_word, diff_word, compare_word, canon_version_word, version_key_word, sort_word, query_word, unmet_word, help_word, kinds_word}
+use Rattle.debctl_args.specs.Commands.{CommandRow, all_rule, arch_rule, code_rule, complete_rule, has_row, kind_rule, least_rule, list_rule, null_rule, optional_rule, paths_rule, profiles_rule, program_of, recommends_rule, relation_file_rule, relation_rule, required_rule, reverse_rule, spelled_rule, values_rule, version_rule, versions_rule, why_rule}
 use Rattle.deb_base.specs.Codes.{name_of, number_of}
 use Rattle.deb_base.specs.declared.code.Code.{Code}
 use Rattle.deb_base.specs.declared.code.Code.TheVariants as code
@@ -39,12 +39,68 @@ use Rattle.debctl_args.specs.declared.jobs.Job.{Job}
 use Rattle.debctl_args.specs.declared.jobs.Job.TheVariants as job
 use Rattle.debctl_args.specs.declared.jobs.LineEnd.{LineEnd}
 use Rattle.debctl_args.specs.declared.jobs.LineEnd.TheVariants.{Newline, Nul}
+use Rattle.debctl_args.specs.declared.jobs.Reads.{Reads}
+use Rattle.debctl_args.specs.declared.jobs.Reads.TheVariants.{Nothing, OneFile, Paths}
 use Rattle.debctl_args.specs.declared.jobs.Strength.{Strength}
 use Rattle.debctl_args.specs.declared.jobs.Strength.TheVariants.{Depends, Recommends}
 use Rattle.debctl_args.specs.declared.jobs.Task.{Task}
 use Rattle.debctl_args.specs.declared.jobs.Task.TheVariants as task
 use Rattle.debctl_args.specs.declared.arguments.UsageFault.{UsageFault}
 use Rattle.debctl_args.specs.declared.arguments.UsageFault.TheVariants.{Usage, Help, Memory}
+
+-- ---- commands
+
+abbrev pub row : Text → List Rule → CommandRow
+row name rules = record { name = name; rules = rules }
+
+-- The commands: each has a name, and these options and arguments.
+abbrev pub commands : List CommandRow
+commands =
+    -- `check [--kind K] [--all] [--complete] [--least N] [PATH]`
+    row (codes "check") (kind_rule ∷ all_rule ∷ complete_rule ∷ least_rule
+    ∷ optional_rule (codes "path") ∷ [])
+    -- `explain [--kind K] [--all] [PATH]`, `explain --code N`, `explain --relation TEXT` and
+    -- `explain --version-text TEXT`
+    ∷ row (codes "explain") (kind_rule ∷ all_rule ∷ code_rule ∷ relation_rule ∷ version_rule
+    ∷ optional_rule (codes "path") ∷ [])
+    -- `audit [--kind K] [--all] [--complete] [--least N] [--null] PATH ..` and
+    -- `audit [--kind K] [--all] [--complete] [--least N] [--null] --files0-from PATH`
+    ∷ row (codes "audit") (kind_rule ∷ all_rule ∷ complete_rule ∷ least_rule ∷ list_rule
+    ∷ null_rule ∷ paths_rule ∷ [])
+    -- `normalise [--kind K] [PATH]`
+    ∷ row (codes "normalise") (kind_rule ∷ optional_rule (codes "path") ∷ [])
+    -- `same [--kind K] PATH PATH`
+    ∷ row (codes "same") (kind_rule ∷ required_rule (codes "first")
+    ∷ required_rule (codes "second") ∷ [])
+    -- `diff [--kind K] [--values] [--spelled] OLD NEW`
+    ∷ row (codes "diff") (kind_rule ∷ values_rule ∷ spelled_rule ∷ required_rule (codes "old")
+    ∷ required_rule (codes "new") ∷ [])
+    -- `compare V OP V`
+    ∷ row (codes "compare") (required_rule (codes "left") ∷ required_rule (codes "operator")
+    ∷ required_rule (codes "right") ∷ [])
+    -- `canon-version V`
+    ∷ row (codes "canon-version") (required_rule (codes "version") ∷ [])
+    -- `version-key V ..`
+    ∷ row (codes "version-key") (versions_rule ∷ [])
+    -- `sort [--reverse] [PATH]`
+    ∷ row (codes "sort") (reverse_rule ∷ optional_rule (codes "path") ∷ [])
+    -- `query --arch A [--profiles P,P] [--why] [--spelled] RELATION [PATH]` and
+    -- `query --arch A [--profiles P,P] [--why] [--spelled] --relation-from PATH [PATH]`
+    ∷ row (codes "query") (arch_rule ∷ profiles_rule ∷ why_rule ∷ spelled_rule
+    ∷ relation_file_rule ∷ optional_rule (codes "relation") ∷ optional_rule (codes "path") ∷ [])
+    -- `unmet --arch A [--profiles P,P] [--kind K] [--recommends] [--spelled] INDEX [PATH]`
+    ∷ row (codes "unmet") (arch_rule ∷ profiles_rule ∷ kind_rule ∷ recommends_rule
+    ∷ spelled_rule ∷ required_rule (codes "index") ∷ optional_rule (codes "path") ∷ [])
+    -- `help [COMMAND]`
+    ∷ row (codes "help") (optional_rule (codes "command") ∷ []) ∷ []
+
+-- the program with its commands
+abbrev pub debctl_app : App
+debctl_app = program_of commands
+
+-- the word names a command, or the kinds of files, so that there is help on it
+abbrev pub has_help : Text → Bool
+has_help word = bytes_eq word (codes "kinds") || has_row word commands
 
 -- ---- words
 
@@ -148,24 +204,6 @@ strength_asked true = Recommends
 abbrev pub texts_asked : Option (List Text) → List Text
 texts_asked given = unwrap_or given []
 
--- the word names a command, or the kinds of files, so that there is help on it
-abbrev pub has_help : Text → Bool
-has_help word =
-    if bytes_eq word check_word then true
-    else if bytes_eq word explain_word then true
-    else if bytes_eq word audit_word then true
-    else if bytes_eq word normalise_word then true
-    else if bytes_eq word same_word then true
-    else if bytes_eq word diff_word then true
-    else if bytes_eq word compare_word then true
-    else if bytes_eq word canon_version_word then true
-    else if bytes_eq word version_key_word then true
-    else if bytes_eq word sort_word then true
-    else if bytes_eq word query_word then true
-    else if bytes_eq word unmet_word then true
-    else if bytes_eq word help_word then true
-    else bytes_eq word kinds_word
-
 -- ---- requests
 
 -- the files of `audit`: those of these paths, or those that a file lists
@@ -220,6 +258,30 @@ wanted_of (job.QueryFrom arch profiles detail versions) =
     queries_from (string_bytes arch) (map string_bytes profiles.items) detail versions
 wanted_of (job.Unmet arch profiles dependents versions) =
     finds_unmet (string_bytes arch) (map string_bytes profiles.items) dependents versions
+
+-- the files that a job reads
+abbrev pub reads_of : Job → Reads
+reads_of (job.Check kind) = OneFile
+reads_of (job.CheckAll kind) = OneFile
+reads_of (job.CheckWhole kind demands) = OneFile
+reads_of (job.Normalise kind) = OneFile
+reads_of (job.Same kind) = Paths
+reads_of (job.Diff kind detail versions) = Paths
+reads_of (job.Compare left operator right) = Nothing
+reads_of (job.CanonVersion version) = Nothing
+reads_of (job.VersionKey versions) = Nothing
+reads_of (job.Sort reverse) = OneFile
+reads_of (job.Query arch profiles relation detail versions) = OneFile
+reads_of (job.QueryFrom arch profiles detail versions) = Paths
+reads_of (job.Unmet arch profiles dependents versions) = Paths
+
+-- the kind that is named for the files of a job whose refusals are lines on standard error
+abbrev pub document_of : Job → Option Doc
+document_of (job.Check kind) = Some kind
+document_of (job.CheckWhole kind demands) = Some kind
+document_of (job.Normalise kind) = Some kind
+document_of (job.Same kind) = Some kind
+document_of _ = None
 
 abbrev pub audited_of : Files → Audited
 audited_of (files.Paths given) = paths (map string_bytes given.items)
@@ -576,18 +638,18 @@ help_asked (Some word) = if has_help word then asks_help else unknown_command
 -- what a command asks with its words
 abbrev pub asked_by : Text → List Row → Asked
 asked_by name rows =
-    if bytes_eq name check_word then check_asked rows
-    else if bytes_eq name explain_word then explain_asked rows
-    else if bytes_eq name audit_word then audit_asked rows
-    else if bytes_eq name normalise_word then document_asked normalises rows
-    else if bytes_eq name same_word then same_asked rows
-    else if bytes_eq name diff_word then diff_asked rows
-    else if bytes_eq name compare_word then compare_asked rows
-    else if bytes_eq name canon_version_word then canon_version_asked rows
-    else if bytes_eq name version_key_word then version_key_asked rows
-    else if bytes_eq name sort_word then sort_asked rows
-    else if bytes_eq name query_word then query_asked rows
-    else if bytes_eq name unmet_word then unmet_asked rows
+    if bytes_eq name (codes "check") then check_asked rows
+    else if bytes_eq name (codes "explain") then explain_asked rows
+    else if bytes_eq name (codes "audit") then audit_asked rows
+    else if bytes_eq name (codes "normalise") then document_asked normalises rows
+    else if bytes_eq name (codes "same") then same_asked rows
+    else if bytes_eq name (codes "diff") then diff_asked rows
+    else if bytes_eq name (codes "compare") then compare_asked rows
+    else if bytes_eq name (codes "canon-version") then canon_version_asked rows
+    else if bytes_eq name (codes "version-key") then version_key_asked rows
+    else if bytes_eq name (codes "sort") then sort_asked rows
+    else if bytes_eq name (codes "query") then query_asked rows
+    else if bytes_eq name (codes "unmet") then unmet_asked rows
     else help_asked (first_of (codes "command") rows)
 
 -- what the command that `clap` met asks

@@ -1,9 +1,16 @@
--- The commands, as what `clap` reads of them: their names, their options and the words that they
--- take. (This project's own.)
-use Rattle.std.specs.Prelude.{◌≡◌, true, false, Some, codes}
+-- The options and arguments of commands, as what `clap` reads of them, and how a row says which a
+-- command has. `Asked.antt` has the rows. (This project's own.)
+use Rattle.std.specs.Prelude.{◌≡◌, ℕ, Bool, true, false, List, [], ◌∷◌, Option, Some, None, codes, map, bytes_eq, refl}
+use Rattle.std.specs.List.{list_any}
 use Rattle.clap.specs.Lexer.{usize_max}
-use Rattle.clap.specs.Simple.{App, app_of, new_app, new_rule, on_top, with_rule, with_subcommand}
-use Rattle.clap.specs.Walk.{Rule, Text}
+use Rattle.clap.specs.Simple.{App, Shape, app_of, new_app, new_rule, new_shape, on_top}
+use Rattle.clap.specs.Walk.{Rule, Text, is_empty}
+use Rattle.clap.specs.declared.builder.range.ValueRange.{ValueRange}
+use Rattle.deb_base.specs.Literals.{lent}
+use Rattle.debctl_args.specs.declared.options.Argument.{Argument}
+use Rattle.debctl_args.specs.declared.options.Form.{Form}
+use Rattle.debctl_args.specs.declared.options.Form.TheVariants.{Flag, Value, RequiredValue, Word, RequiredWord, Words, RequiredWords}
+use Rattle.debctl_args.specs.declared.rows.Row.{Row}
 use Rattle.clap.specs.declared.builder.action.ArgAction.TheVariants.{SetTrue}
 use Rattle.clap.specs.declared.builder.command.Command.{Command}
 use Rattle.clap.specs.declared.builder.command.Command.TheViews.{out-Command}
@@ -93,19 +100,16 @@ null_rule =
     { short = Some 48; long = Some (codes "null"); action = Some SetTrue }
 
 -- paths, of which there may be any number
+abbrev pub at_least_one : ValueRange
+at_least_one = record { start_inclusive = 1; end_inclusive = usize_max }
+
 abbrev pub paths_rule : Rule
-paths_rule = record (new_rule (codes "path")) {
-  range = Some (record { start_inclusive = 1; end_inclusive = usize_max });
-  value_names = 1;
-}
+paths_rule = record (new_rule (codes "path")) { range = Some at_least_one; value_names = 1 }
 
 -- versions, of which there is at least one
 abbrev pub versions_rule : Rule
-versions_rule = record (new_rule (codes "version")) {
-  range = Some (record { start_inclusive = 1; end_inclusive = usize_max });
-  value_names = 1;
-  required = true;
-}
+versions_rule = record (new_rule (codes "version"))
+    { range = Some at_least_one; value_names = 1; required = true }
 
 -- `--reverse`, or `-r` (r is 114), which takes no value
 abbrev pub reverse_rule : Rule
@@ -120,142 +124,89 @@ optional_rule id = record (new_rule id) { value_names = 1 }
 abbrev pub required_rule : Text → Rule
 required_rule id = record (new_rule id) { value_names = 1; required = true }
 
-abbrev pub check_word : Text
-check_word = codes "check"
+-- ---- rows
 
-abbrev pub explain_word : Text
-explain_word = codes "explain"
+-- what is given for an option or an argument, by its form, its name and its short name
+abbrev pub rule_by : Form → Text → Option ℕ → Rule
+rule_by Flag id short =
+    record (new_rule id) { short = short; long = Some id; action = Some SetTrue }
+rule_by Value id short = record (new_rule id) { short = short; long = Some id; value_names = 1 }
+rule_by RequiredValue id short =
+    record (new_rule id) { short = short; long = Some id; value_names = 1; required = true }
+rule_by Word id short = optional_rule id
+rule_by RequiredWord id short = required_rule id
+rule_by Words id short = record (optional_rule id) { range = Some at_least_one }
+rule_by RequiredWords id short = record (required_rule id) { range = Some at_least_one }
 
-abbrev pub audit_word : Text
-audit_word = codes "audit"
+abbrev pub rule_in : Argument → Rule
+rule_in argument = rule_by argument.form argument.id.now argument.short
 
-abbrev pub normalise_word : Text
-normalise_word = codes "normalise"
+-- a command: its name, and what is given for its options and then for its arguments
+pub record CommandRow : Type 0 where
+  pub name : Text
+  pub rules : List Rule
 
-abbrev pub same_word : Text
-same_word = codes "same"
+-- the row of the code
+abbrev pub row_in : Row → CommandRow
+row_in row = record { name = row.name.now; rules = map rule_in row.takes.now }
 
-abbrev pub diff_word : Text
-diff_word = codes "diff"
+-- one of the commands has this name
+abbrev pub has_row : Text → List CommandRow → Bool
+has_row name = list_any (λ row. bytes_eq row.name name)
 
-abbrev pub compare_word : Text
-compare_word = codes "compare"
+-- the command of a row
+abbrev pub app_with : Text → List Rule → App
+app_with name rules = on_top (λ s. record s { rules = rules }) (new_app name)
 
-abbrev pub canon_version_word : Text
-canon_version_word = codes "canon-version"
+abbrev pub app_of_row : CommandRow → App
+app_of_row row = app_with row.name row.rules
 
-abbrev pub version_key_word : Text
-version_key_word = codes "version-key"
+-- the program with these commands: it has a version and asks for a command, and `help` is one of
+-- its own
+abbrev pub program_with : List Shape → App
+program_with commands = record {
+  top = record (new_shape (codes "debctl")) {
+    is_leaf = is_empty commands;
+    has_version = true;
+    subcommand_required = true;
+    disable_help_subcommand = true;
+  };
+  subs = commands;
+}
 
-abbrev pub sort_word : Text
-sort_word = codes "sort"
-
-abbrev pub query_word : Text
-query_word = codes "query"
-
-abbrev pub unmet_word : Text
-unmet_word = codes "unmet"
-
-abbrev pub help_word : Text
-help_word = codes "help"
-
--- what `help` also knows, besides the commands
-abbrev pub kinds_word : Text
-kinds_word = codes "kinds"
-
--- `check [--kind K] [--all] [--complete] [--least N] [PATH]`
-abbrev pub check_app : App
-check_app =
-    with_rule (with_rule (with_rule (with_rule (with_rule (new_app check_word) kind_rule) all_rule)
-    complete_rule) least_rule) (optional_rule (codes "path"))
-
--- `normalise [--kind K] [PATH]`
-abbrev pub normalise_app : App
-normalise_app =
-    with_rule (with_rule (new_app normalise_word) kind_rule) (optional_rule (codes "path"))
-
--- `explain [--kind K] [--all] [PATH]`, `explain --code N`, `explain --relation TEXT` and
--- `explain --version-text TEXT`
-abbrev pub explain_app : App
-explain_app =
-    with_rule (with_rule (with_rule (with_rule (with_rule (with_rule (new_app explain_word)
-    kind_rule) all_rule) code_rule) relation_rule) version_rule) (optional_rule (codes "path"))
-
--- `audit [--kind K] [--all] [--complete] [--least N] [--null] PATH ..` and
--- `audit [--kind K] [--all] [--complete] [--least N] [--null] --files0-from PATH`
-abbrev pub audit_app : App
-audit_app =
-    with_rule (with_rule (with_rule (with_rule (with_rule (with_rule (with_rule
-    (new_app audit_word) kind_rule) all_rule) complete_rule) least_rule) list_rule) null_rule)
-    paths_rule
-
--- `same [--kind K] PATH PATH`
-abbrev pub same_app : App
-same_app =
-    with_rule (with_rule (with_rule (new_app same_word) kind_rule)
-    (required_rule (codes "first"))) (required_rule (codes "second"))
-
--- `diff [--kind K] [--values] [--spelled] OLD NEW`
-abbrev pub diff_app : App
-diff_app =
-    with_rule (with_rule (with_rule (with_rule (with_rule (new_app diff_word) kind_rule)
-    values_rule) spelled_rule) (required_rule (codes "old"))) (required_rule (codes "new"))
-
--- `compare V OP V`
-abbrev pub compare_app : App
-compare_app =
-    with_rule (with_rule (with_rule (new_app compare_word) (required_rule (codes "left")))
-    (required_rule (codes "operator"))) (required_rule (codes "right"))
-
--- `canon-version V`
-abbrev pub canon_version_app : App
-canon_version_app = with_rule (new_app canon_version_word) (required_rule (codes "version"))
-
--- `version-key V ..`
-abbrev pub version_key_app : App
-version_key_app = with_rule (new_app version_key_word) versions_rule
-
--- `sort [--reverse] [PATH]`
-abbrev pub sort_app : App
-sort_app = with_rule (with_rule (new_app sort_word) reverse_rule) (optional_rule (codes "path"))
-
--- `query --arch A [--profiles P,P] [--why] [--spelled] RELATION [PATH]` and
--- `query --arch A [--profiles P,P] [--why] [--spelled] --relation-from PATH [PATH]`
-abbrev pub query_app : App
-query_app =
-    with_rule (with_rule (with_rule (with_rule (with_rule (with_rule (with_rule (new_app query_word)
-    arch_rule) profiles_rule) why_rule) spelled_rule) relation_file_rule)
-    (optional_rule (codes "relation"))) (optional_rule (codes "path"))
-
--- `unmet --arch A [--profiles P,P] [--kind K] [--recommends] [--spelled] INDEX [PATH]`
-abbrev pub unmet_app : App
-unmet_app =
-    with_rule (with_rule (with_rule (with_rule (with_rule (with_rule (with_rule (new_app unmet_word)
-    arch_rule) profiles_rule) kind_rule) recommends_rule) spelled_rule)
-    (required_rule (codes "index"))) (optional_rule (codes "path"))
-
--- `help [COMMAND]`
-abbrev pub help_app : App
-help_app = with_rule (new_app help_word) (optional_rule (codes "command"))
-
--- the program alone: it has a version, asks for a command, and has a command `help` of its own
-abbrev pub bare_app : App
-bare_app =
-    on_top (λ s. record s
-    { has_version = true; subcommand_required = true; disable_help_subcommand = true })
-    (new_app (codes "debctl"))
-
--- the program with its commands
-abbrev pub debctl_app : App
-debctl_app =
-    with_subcommand (with_subcommand (with_subcommand (with_subcommand (with_subcommand
-    (with_subcommand (with_subcommand (with_subcommand (with_subcommand (with_subcommand
-    (with_subcommand (with_subcommand (with_subcommand bare_app
-    check_app.top) explain_app.top) audit_app.top) normalise_app.top) same_app.top) diff_app.top)
-    compare_app.top) canon_version_app.top)
-    version_key_app.top) sort_app.top) query_app.top) unmet_app.top) help_app.top
+abbrev pub program_of : List CommandRow → App
+program_of rows = program_with (map (λ row. (app_of_row row).top) rows)
 
 -- the command is what `clap` reads so, and none of its arguments is global
 pub record IsShaped (app : App) (command : Command) : Type 0 where
   pub is : app_of command ≡ app
   pub local : (out-Command command).has_globals ≡ false
+
+-- ---- worked cases
+
+abbrev argument : Text → Option ℕ → Form → Argument
+argument id short form = record {
+  id = lent id;
+  short = short;
+  form = form;
+  shown = lent (codes "X");
+  help = None;
+}
+
+rules_of_arguments : map rule_in
+    (argument (codes "kind") (Some 107) Value ∷ argument (codes "all") (Some 97) Flag
+    ∷ argument (codes "why") None Flag ∷ argument (codes "arch") None RequiredValue
+    ∷ argument (codes "path") None Word ∷ argument (codes "index") None RequiredWord
+    ∷ argument (codes "path") None Words ∷ argument (codes "version") None RequiredWords ∷ [])
+    ≡ kind_rule ∷ all_rule ∷ why_rule ∷ arch_rule ∷ optional_rule (codes "path")
+    ∷ required_rule (codes "index") ∷ paths_rule ∷ versions_rule ∷ []
+rules_of_arguments = refl
+
+row_of_sort : row_in (record {
+  name = lent (codes "sort");
+  about = lent (codes "Sorts");
+  takes = lent
+      (argument (codes "reverse") (Some 114) Flag ∷ argument (codes "path") None Word ∷ []);
+})
+    ≡ record { name = codes "sort"; rules = reverse_rule ∷ optional_rule (codes "path") ∷ [] }
+row_of_sort = refl

@@ -4,12 +4,14 @@ use Rattle.std.specs.Prelude.{◌≡◌, ℕ, [], ◌∷◌, map, Option, Some, 
 use Rattle.std.specs.declared.alloc.Global.{Global}
 use Rattle.clap.specs.declared.error.kind.ErrorKind.TheVariants as kind
 use Rattle.deb_base.specs.declared.code.Code.TheVariants as code
-use Rattle.debctl_args.specs.Asked.{audits, canonicalises, checks, checks_all, checks_whole, compares, explain_takes_one, explains, explains_all, explains_relation, explains_version, finds_changes, finds_unmet, first_or_whole, has_mistake, has_request, is_request_kind, keys, kind_of_path, listed, no_names, no_number, no_recommends, no_relations, normalises, paths, paths_or_list, queries, queries_from, relation_or_file, request_of, sorts, standard_input_twice, explains_rule, compares_files, unknown_code, unknown_command, unknown_kind, unknown_operator, wanted_of, IsUsage, Request, FitsKind, Wanted}
+use Rattle.debctl_args.specs.Asked.{audits, canonicalises, checks, checks_all, checks_whole, compares, document_of, explain_takes_one, explains, explains_all, explains_relation, explains_version, finds_changes, finds_unmet, first_or_whole, has_mistake, has_request, is_request_kind, keys, kind_of_path, listed, no_names, no_number, no_recommends, no_relations, normalises, paths, paths_or_list, queries, queries_from, reads_of, relation_or_file, request_of, sorts, standard_input_twice, explains_rule, compares_files, unknown_code, unknown_command, unknown_kind, unknown_operator, wanted_of, IsUsage, Request, FitsKind, Wanted}
 use Rattle.debctl_args.specs.declared.jobs.Demands.{Demands}
 use Rattle.debctl_args.specs.declared.jobs.Explain.TheVariants as explain
 use Rattle.debctl_args.specs.declared.jobs.Files.{Files}
 use Rattle.debctl_args.specs.declared.jobs.Files.TheVariants as files
+use Rattle.debctl_args.specs.declared.jobs.Job.{Job}
 use Rattle.debctl_args.specs.declared.jobs.Job.TheVariants as job
+use Rattle.debctl_args.specs.declared.jobs.Reads.TheVariants.{Nothing, OneFile, Paths}
 use Rattle.debctl_args.specs.declared.jobs.Task.{Task}
 use Rattle.debctl_args.specs.declared.jobs.Task.TheVariants as task
 use Rattle.debctl_args.specs.declared.arguments.UsageFault.TheVariants.{Usage, Help}
@@ -62,6 +64,29 @@ jobs_on_words : map wanted_of
     ∷ finds_unmet (codes "amd64") (codes "b-" ∷ []) dependents.Sources Spelled ∷ []
 unfolding one other
 jobs_on_words = refl
+
+-- ---- files
+
+-- the jobs of one kind of document, and others
+abbrev jobs : List Job
+jobs =
+    job.Check docs.Binary ∷ job.CheckWhole docs.Source demands ∷ job.Normalise docs.Any
+    ∷ job.Same docs.Sources ∷ job.CheckAll docs.Packages
+    ∷ job.Diff diff_kinds.Sources diff_details.Values Spelled ∷ job.Compare one cmps.Less other
+    ∷ job.CanonVersion one ∷ job.VersionKey (vector (one ∷ []) refl) ∷ job.Sort true
+    ∷ job.Query one (vector [] refl) other Reasons Canonical
+    ∷ job.QueryFrom one (vector [] refl) Verdicts Spelled
+    ∷ job.Unmet one (vector [] refl) dependents.Sources Spelled ∷ []
+
+files_of_jobs : map reads_of jobs
+    ≡ OneFile ∷ OneFile ∷ OneFile ∷ Paths ∷ OneFile ∷ Paths ∷ Nothing ∷ Nothing ∷ Nothing
+    ∷ OneFile ∷ OneFile ∷ Paths ∷ Paths ∷ []
+files_of_jobs = refl
+
+documents_of_jobs : map document_of jobs
+    ≡ Some docs.Binary ∷ Some docs.Source ∷ Some docs.Any ∷ Some docs.Sources ∷ None ∷ None
+    ∷ None ∷ None ∷ None ∷ None ∷ None ∷ None ∷ None ∷ []
+documents_of_jobs = refl
 
 -- ---- requests
 

@@ -2,15 +2,10 @@
 
 ghost use Rattle.std.specs.Prelude.{◌≡◌, [], Some, None, map, true, string_bytes, IfOk, IfErr, option_copied, option_map};
 ghost use Rattle.clap.specs.Words.{fault_of, found_of, has_subcommand, kind_of, rows_of, subcommand_rows_of, takes};
-ghost use Rattle.debctl_args.specs.Asked.{asked_by, asked_in, asked_of, asks, audit_asked, canon_version_asked, check_asked, checks_to, demands_asked, compare_asked, diff_asked, diff_of_files, document_asked, explain_asked, file_explained, help_asked, is_demanding, normalises, query_asked, query_of_file, query_of_word, relation_asked, request_of, rule_asked, same_asked, sort_asked, text_asked, unmet_asked, unmet_of_files, unmet_of_path, unmet_of_sources, version_asked, version_key_asked, wanted_of, word_in, Answers, AnswersError, AnswersMet, IsHelp, MeansError, Request, FitsKind, UsesText};
-ghost use Rattle.debctl_args.specs.Commands.{debctl_app};
+ghost use Rattle.debctl_args.specs.Asked.{asked_in, asked_of, asks, audit_asked, canon_version_asked, check_asked, checks_to, debctl_app, demands_asked, compare_asked, diff_asked, diff_of_files, explain_asked, file_explained, help_asked, is_demanding, query_asked, query_of_file, query_of_word, relation_asked, request_of, rule_asked, same_asked, sort_asked, text_asked, unmet_asked, unmet_of_files, unmet_of_path, unmet_of_sources, version_asked, version_key_asked, wanted_of, word_in, Answers, AnswersError, AnswersMet, IsHelp, MeansError, Request, FitsKind, UsesText};
 
 use crate::code_argument::code_named;
-use crate::commands::{
-    audit_command, canon_version_command, check_command, compare_command, debctl_command,
-    diff_command, explain_command, help_command, kinds_help, normalise_command, query_command,
-    same_command, sort_command, unmet_command, version_key_command,
-};
+use crate::commands::{command_of, debctl_command, kinds_help, row_named};
 use crate::found_arguments::{
     all_given, detail_in, diff_detail_in, end_in, extent_in, flag_in, given, has_input_beside,
     index_in, is_standard_input_twice, kind_in, least_in, names_file, owned_texts, packages_in,
@@ -18,6 +13,7 @@ use crate::found_arguments::{
 };
 use crate::jobs::{Audit, Call, Demands, Dependents, DiffKind, Explain, Extent, Files, Job, Task};
 use crate::operator_argument::operator_named;
+use crate::rows::{Row, task_by};
 use clap::error::{Error, ErrorKind};
 use clap::{ArgMatches, Command};
 use deb_base::Doc;
@@ -73,20 +69,13 @@ impl From<AllocError> for UsageFault {
 
 /// Returns the task that the arguments ask for; the first of `words` is the program's name.
 ///
-/// `check [--kind K] [--all] [--complete] [--least N] [PATH]`, `explain [--kind K] [--all] [PATH]`,
-/// `explain --code N`, `explain --relation TEXT`, `explain --version-text TEXT`, `normalise [--kind
-/// K] [PATH]`, `same [--kind K] PATH PATH`, `diff [--kind K] [--values] [--spelled] OLD NEW`,
-/// `compare V OP V`, `canon-version V`, `version-key V ..`, `sort [--reverse] [PATH]`, `query
-/// --arch A [--profiles P,P] [--why] [--spelled] RELATION [PATH]`, `query --arch A [--profiles P,P]
-/// [--why] [--spelled] --relation-from PATH [PATH]`, `unmet --arch A [--profiles P,P] [--kind K]
-/// [--recommends] [--spelled] INDEX [PATH]`, `audit [--kind K] [--all] [--complete] [--least N]
-/// [--null] PATH ..` and `audit [--kind K] [--all] [--complete] [--least N] [--null] --files0-from
-/// PATH` ask for a task. `help [COMMAND]`, `help kinds`, `--help` and `--version` ask for help.
+/// `rows.rt` has the commands, with the options and arguments that each takes, and `options.rt` the
+/// names of these. `help [COMMAND]`, `help kinds`, `--help` and `--version` ask for help, and every
+/// other command for a task.
 ///
 /// The profiles of `query` and `unmet` are the texts between the commas of P,P; without the option
 /// there are none. A version, an architecture, a profile or a relation may be any text here: the
-/// job checks it. `-k` is short for `--kind`, `-a` for `--all`, `-0` for `--null` and `-r` for
-/// `--reverse`. The path `-` is returned as it is; the program reads standard input for it. After
+/// job checks it. The path `-` is returned as it is; the program reads standard input for it. After
 /// `--code` N is the number of an error code, from 1 to 23, in decimal, or its name. After
 /// `--least` it is a number below 2^64, in decimal and without zeros before it.
 ///
@@ -167,28 +156,7 @@ fn task_of(alloc: Global, matches: &ArgMatches<'_>) -> Result<Task, UsageFault>
     task_by(alloc, name, found)
 }
 
-/// The task that a command asks for with its words.
-fn task_by(alloc: Global, name: &str, found: &ArgMatches<'_>) -> Result<Task, UsageFault>
-    ensures { Answers (asked_by name.now (rows_of (found_of found.now))) result }
-{
-    match name {
-        "check" => check_task(alloc, found),
-        "explain" => explain_task(alloc, found),
-        "audit" => audit_task(alloc, found),
-        "normalise" => normalise_task(alloc, found),
-        "same" => same_task(alloc, found),
-        "diff" => diff_task(alloc, found),
-        "compare" => compare_task(alloc, found),
-        "canon-version" => canon_version_task(alloc, found),
-        "version-key" => version_key_task(alloc, found),
-        "sort" => sort_task(alloc, found),
-        "query" => query_task(alloc, found),
-        "unmet" => unmet_task(alloc, found),
-        _ => Err(help_on(alloc, given(found, "command"))),
-    }
-}
-
-fn check_task(alloc: Global, found: &ArgMatches<'_>) -> Result<Task, UsageFault>
+pub(crate) fn check_task(alloc: Global, found: &ArgMatches<'_>) -> Result<Task, UsageFault>
     ensures { Answers (check_asked (rows_of (found_of found.now))) result }
 {
     let doc = kind_in(alloc, found)?;
@@ -232,7 +200,7 @@ fn demands_in(found: &ArgMatches<'_>, least: u64) -> Demands
     }
 }
 
-fn explain_task(alloc: Global, found: &ArgMatches<'_>) -> Result<Task, UsageFault>
+pub(crate) fn explain_task(alloc: Global, found: &ArgMatches<'_>) -> Result<Task, UsageFault>
     ensures { Answers (explain_asked (rows_of (found_of found.now))) result }
 {
     if let Some(word) = given(found, "code") {
@@ -302,7 +270,7 @@ fn rule_task(alloc: Global, found: &ArgMatches<'_>, word: &str) -> Result<Task, 
     }
 }
 
-fn audit_task(alloc: Global, found: &ArgMatches<'_>) -> Result<Task, UsageFault>
+pub(crate) fn audit_task(alloc: Global, found: &ArgMatches<'_>) -> Result<Task, UsageFault>
     ensures { Answers (audit_asked (rows_of (found_of found.now))) result }
 {
     let doc = kind_in(alloc, found)?;
@@ -328,18 +296,7 @@ fn audit_task(alloc: Global, found: &ArgMatches<'_>) -> Result<Task, UsageFault>
     }))
 }
 
-fn normalise_task(alloc: Global, found: &ArgMatches<'_>) -> Result<Task, UsageFault>
-    ensures { Answers (document_asked normalises (rows_of (found_of found.now))) result }
-{
-    let kind = kind_in(alloc, found)?;
-    Ok(Task::Run(Call {
-        job: Job::Normalise(kind),
-        first: path_in(alloc, found)?,
-        second: None,
-    }))
-}
-
-fn same_task(alloc: Global, found: &ArgMatches<'_>) -> Result<Task, UsageFault>
+pub(crate) fn same_task(alloc: Global, found: &ArgMatches<'_>) -> Result<Task, UsageFault>
     ensures { Answers (same_asked (rows_of (found_of found.now))) result }
 {
     let kind = kind_in(alloc, found)?;
@@ -356,7 +313,7 @@ fn same_task(alloc: Global, found: &ArgMatches<'_>) -> Result<Task, UsageFault>
     }))
 }
 
-fn diff_task(alloc: Global, found: &ArgMatches<'_>) -> Result<Task, UsageFault>
+pub(crate) fn diff_task(alloc: Global, found: &ArgMatches<'_>) -> Result<Task, UsageFault>
     ensures { Answers (diff_asked (rows_of (found_of found.now))) result }
 {
     match kind_in(alloc, found)? {
@@ -389,7 +346,7 @@ fn diff_of_files(alloc: Global, found: &ArgMatches<'_>, kind: DiffKind) -> Resul
     }))
 }
 
-fn compare_task(alloc: Global, found: &ArgMatches<'_>) -> Result<Task, UsageFault>
+pub(crate) fn compare_task(alloc: Global, found: &ArgMatches<'_>) -> Result<Task, UsageFault>
     ensures { Answers (compare_asked (rows_of (found_of found.now))) result }
 {
     let Some(operator) = operator_named(word_in(found, "operator")) else {
@@ -404,7 +361,7 @@ fn compare_task(alloc: Global, found: &ArgMatches<'_>) -> Result<Task, UsageFaul
     }))
 }
 
-fn canon_version_task(alloc: Global, found: &ArgMatches<'_>) -> Result<Task, UsageFault>
+pub(crate) fn canon_version_task(alloc: Global, found: &ArgMatches<'_>) -> Result<Task, UsageFault>
     ensures { Answers (canon_version_asked (rows_of (found_of found.now))) result }
 {
     let version = String::from_str(alloc, word_in(found, "version"))?;
@@ -415,7 +372,7 @@ fn canon_version_task(alloc: Global, found: &ArgMatches<'_>) -> Result<Task, Usa
     }))
 }
 
-fn version_key_task(alloc: Global, found: &ArgMatches<'_>) -> Result<Task, UsageFault>
+pub(crate) fn version_key_task(alloc: Global, found: &ArgMatches<'_>) -> Result<Task, UsageFault>
     ensures { Answers (version_key_asked (rows_of (found_of found.now))) result }
 {
     let versions = versions_in(alloc, found)?;
@@ -426,7 +383,7 @@ fn version_key_task(alloc: Global, found: &ArgMatches<'_>) -> Result<Task, Usage
     }))
 }
 
-fn sort_task(alloc: Global, found: &ArgMatches<'_>) -> Result<Task, UsageFault>
+pub(crate) fn sort_task(alloc: Global, found: &ArgMatches<'_>) -> Result<Task, UsageFault>
     ensures { Answers (sort_asked (rows_of (found_of found.now))) result }
 {
     let reverse = flag_in(found, "reverse");
@@ -437,7 +394,7 @@ fn sort_task(alloc: Global, found: &ArgMatches<'_>) -> Result<Task, UsageFault>
     }))
 }
 
-fn query_task(alloc: Global, found: &ArgMatches<'_>) -> Result<Task, UsageFault>
+pub(crate) fn query_task(alloc: Global, found: &ArgMatches<'_>) -> Result<Task, UsageFault>
     ensures { Answers (query_asked (rows_of (found_of found.now))) result }
 {
     if let Some(path) = given(found, "relation-from") {
@@ -496,7 +453,7 @@ fn query_of_file(alloc: Global, found: &ArgMatches<'_>, path: &str) -> Result<Ta
     }))
 }
 
-fn unmet_task(alloc: Global, found: &ArgMatches<'_>) -> Result<Task, UsageFault>
+pub(crate) fn unmet_task(alloc: Global, found: &ArgMatches<'_>) -> Result<Task, UsageFault>
     ensures { Answers (unmet_asked (rows_of (found_of found.now))) result }
 {
     match kind_in(alloc, found)? {
@@ -565,7 +522,7 @@ fn unmet_of_files(
 }
 
 /// The help of the program, or of the command that a word names.
-fn help_on(alloc: Global, word: Option<&str>) -> UsageFault
+pub(crate) fn help_on(alloc: Global, word: Option<&str>) -> UsageFault
     ensures { AnswersError (help_asked (option_copied word.entry)) result }
 {
     match kinds_help(alloc) {
@@ -580,25 +537,21 @@ fn help_with(alloc: Global, word: Option<&str>, kinds: &str) -> UsageFault
 {
     match word {
         None => help_of(alloc, debctl_command(alloc, kinds), "debctl"),
-        Some("check") => help_of(alloc, check_command(alloc, kinds), "debctl check"),
-        Some("explain") => help_of(alloc, explain_command(alloc, kinds), "debctl explain"),
-        Some("audit") => help_of(alloc, audit_command(alloc, kinds), "debctl audit"),
-        Some("normalise") => help_of(alloc, normalise_command(alloc, kinds), "debctl normalise"),
-        Some("same") => help_of(alloc, same_command(alloc, kinds), "debctl same"),
-        Some("diff") => help_of(alloc, diff_command(alloc), "debctl diff"),
-        Some("compare") => help_of(alloc, compare_command(alloc), "debctl compare"),
-        Some("canon-version") => help_of(
-            alloc,
-            canon_version_command(alloc),
-            "debctl canon-version",
-        ),
-        Some("version-key") => help_of(alloc, version_key_command(alloc), "debctl version-key"),
-        Some("sort") => help_of(alloc, sort_command(alloc), "debctl sort"),
-        Some("query") => help_of(alloc, query_command(alloc), "debctl query"),
-        Some("unmet") => help_of(alloc, unmet_command(alloc), "debctl unmet"),
-        Some("help") => help_of(alloc, help_command(alloc), "debctl help"),
         Some("kinds") => kinds_table(alloc, kinds),
-        Some(_) => usage(alloc, "usage: unknown command"),
+        Some(name) => match row_named(name) {
+            Some(row) => help_of_row(alloc, row, kinds),
+            None => usage(alloc, "usage: unknown command"),
+        },
+    }
+}
+
+/// The help of the command of a row.
+fn help_of_row(alloc: Global, row: &'static Row, kinds: &str) -> UsageFault
+    ensures { IsHelp result }
+{
+    match format!(in alloc; "debctl {}", row.name) {
+        Ok(name) => help_of(alloc, command_of(alloc, row, kinds), &name),
+        Err(_) => UsageFault::Memory,
     }
 }
 

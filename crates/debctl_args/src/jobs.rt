@@ -1,4 +1,7 @@
-//! The types of a task: what the arguments ask the program to do.
+//! The types of a task: what the arguments ask the program to do, and which files a job reads.
+
+ghost use Rattle.std.specs.Prelude.{◌≡◌};
+ghost use Rattle.debctl_args.specs.Asked.{document_of, reads_of};
 
 use deb_base::{Code, Doc, VersionText};
 
@@ -88,6 +91,44 @@ pub enum Job {
         dependents: Dependents,
         versions: VersionText,
     },
+}
+
+/// The files that a job reads.
+#[derive(Clone, Copy, Debug, PartialEq, Eq)]
+pub enum Reads {
+    /// None.
+    Nothing,
+    /// That of its first path, or standard input if there is no path.
+    OneFile,
+    /// Those of its paths.
+    Paths,
+}
+
+impl Job {
+    /// Returns which files the job reads.
+    pub fn reads(&self) -> Reads
+        ensures { result ≡ reads_of self.now }
+    {
+        match self {
+            Job::Check(_) | Job::CheckAll(_) | Job::Normalise(_) => Reads::OneFile,
+            Job::CheckWhole { .. } | Job::Sort { .. } | Job::Query { .. } => Reads::OneFile,
+            Job::Same(_) | Job::Diff { .. } => Reads::Paths,
+            Job::QueryFrom { .. } | Job::Unmet { .. } => Reads::Paths,
+            Job::Compare(..) | Job::CanonVersion(_) | Job::VersionKey(_) => Reads::Nothing,
+        }
+    }
+
+    /// Returns the kind of the documents that the arguments name for the job, if it reports that
+    /// one is refused by the line of the refusal.
+    pub fn document(&self) -> Option<Doc>
+        ensures { result ≡ document_of self.now }
+    {
+        match self {
+            Job::Check(doc) | Job::Normalise(doc) | Job::Same(doc) => Some(*doc),
+            Job::CheckWhole { doc, .. } => Some(*doc),
+            _ => None,
+        }
+    }
 }
 
 /// What `check` and `audit` demand of a file that is accepted.

@@ -16,13 +16,14 @@ mod arguments;
 mod code_argument;
 mod commands;
 mod found_arguments;
-mod helps;
 mod jobs;
 mod number_argument;
 mod operator_argument;
+mod options;
+mod rows;
 
 pub use arguments::{UsageFault, job_of};
 pub use jobs::{
     Audit, Call, Cmp, Demands, Dependents, Detail, DiffDetail, DiffKind, Explain, Extent, Files,
-    Job, LineEnd, Strength, Task,
+    Job, LineEnd, Reads, Strength, Task,
 };

@@ -1,33 +1,172 @@
-//! The texts of the help: the description of each command, which follows its options, and the
-//! longer descriptions of options.
+//! The commands: a row for each, with its help, and the task that it asks for.
 
-pub(crate) const DEBCTL_HELP: &str = "\
-Exit statuses:
-  0  success, or the answer is yes
-  1  the answer is no; for `diff`: the files differ; for `query`: a group is unmet;
-     for `unmet`: a group is `unmet` or `unsure`
-  2  a file, a version, a relation, an architecture or a profile is refused:
-     standard error has `line N: CODE NAME`. Line 0 means a command-line
-     argument. `same`, `diff` and `unmet` write `first: ` or `second: ` before
-     the line of a file. `explain`, `audit` and `check --all` report errors on
-     standard output. A file without what `--complete` or `--least` demands is
-     refused with a line `incomplete: `
-  3  wrong arguments, out of memory, or a failed read or write
+ghost use Rattle.std.specs.Prelude.{◌≡◌, map};
+ghost use Rattle.clap.specs.Words.{found_of, rows_of};
+ghost use Rattle.debctl_args.specs.Asked.{asked_by, commands, document_asked, normalises, Answers};
+ghost use Rattle.debctl_args.specs.Commands.{row_in};
 
-Put `--` before a version or a path that begins with a hyphen:
-  $ debctl canon-version -- -1-1
-  -1-1
+use crate::arguments::{
+    UsageFault, audit_task, canon_version_task, check_task, compare_task, diff_task, explain_task,
+    help_on, query_task, same_task, sort_task, unmet_task, version_key_task,
+};
+use crate::found_arguments::{given, kind_in, path_in};
+use crate::jobs::{Call, Job, Task};
+use crate::options::{
+    ALL, ARCH, Argument, CODE, COMMAND, COMPLETE, DEPENDENTS, DIFF_KIND, FIRST, INDEX, KIND, LEAST,
+    LEFT, LIST, NEW, NULL, OLD, OPERATOR, PATH, PATHS, PROFILES, QUERIED, RECOMMENDS, RELATION,
+    RELATION_FILE, RELATION_TEXT, REVERSE, RIGHT, SECOND, SPELLED, UNMET_KIND, VALUES, VERSION,
+    VERSION_TEXT, VERSIONS, WHY,
+};
+use clap::ArgMatches;
+use std::alloc::Global;
 
-`debctl help COMMAND` describes a command and has an example, and `debctl help kinds`
-lists the kinds of files.";
+/// A command, by which it is parsed and its help is printed; `help_after` has the rest of its help.
+pub(crate) struct Row {
+    pub(crate) name: &'static str,
+    /// What it does, in one line.
+    pub(crate) about: &'static str,
+    /// Its options, and then its arguments in their order.
+    pub(crate) takes: &'static [Argument],
+}
 
-pub(crate) const ALL_HELP: &str = "Report every error, not only the first one";
+/// The commands, in the order of the program's help.
+static COMMANDS: [Row; 13] = [
+    Row {
+        name: "check",
+        about: "Checks whether a file is well formed",
+        takes: &[KIND, ALL, COMPLETE, LEAST, PATH],
+    },
+    Row {
+        name: "explain",
+        about: "Explains why a file is refused",
+        takes: &[KIND, ALL, CODE, RELATION_TEXT, VERSION_TEXT, PATH],
+    },
+    Row {
+        name: "audit",
+        about: "Checks many files and prints one line for each",
+        takes: &[KIND, ALL, COMPLETE, LEAST, LIST, NULL, PATHS],
+    },
+    Row {
+        name: "normalise",
+        about: "Writes the canonical text of a file",
+        takes: &[KIND, PATH],
+    },
+    Row {
+        name: "same",
+        about: "Checks whether two files mean the same",
+        takes: &[KIND, FIRST, SECOND],
+    },
+    Row {
+        name: "diff",
+        about: "Lists the paragraphs that changed between two files",
+        takes: &[DIFF_KIND, VALUES, SPELLED, OLD, NEW],
+    },
+    Row {
+        name: "compare",
+        about: "Compares two versions in Debian's order",
+        takes: &[LEFT, OPERATOR, RIGHT],
+    },
+    Row {
+        name: "canon-version",
+        about: "Prints the canonical text of a version",
+        takes: &[VERSION],
+    },
+    Row {
+        name: "version-key",
+        about: "Prints keys whose byte order is the order of their versions",
+        takes: &[VERSIONS],
+    },
+    Row {
+        name: "sort",
+        about: "Sorts the lines of a file, each a version, in Debian's order",
+        takes: &[REVERSE, PATH],
+    },
+    Row {
+        name: "query",
+        about: "Finds the packages of an index that meet a relation",
+        takes: &[
+            ARCH,
+            PROFILES,
+            WHY,
+            SPELLED,
+            RELATION_FILE,
+            RELATION,
+            QUERIED,
+        ],
+    },
+    Row {
+        name: "unmet",
+        about: "Finds the dependencies of a whole file that no package of an index meets",
+        takes: &[
+            ARCH, PROFILES, UNMET_KIND, RECOMMENDS, SPELLED, INDEX, DEPENDENTS,
+        ],
+    },
+    Row {
+        name: "help",
+        about: "Prints the help of the program or of a command",
+        takes: &[COMMAND],
+    },
+];
 
-pub(crate) const COMPLETE_HELP: &str = "Refuse a file that doesn't end with a newline";
+/// Returns the rows of the commands.
+pub(crate) fn commands() -> &'static [Row]
+    ensures { map row_in result.now ≡ commands }
+{
+    &COMMANDS
+}
 
-pub(crate) const LEAST_HELP: &str = "Refuse a file of fewer than N paragraphs";
+/// Returns what the help of a command prints after its options.
+pub(crate) fn help_after(name: &str) -> Option<&'static str> {
+    match name {
+        "check" => Some(CHECK_HELP),
+        "explain" => Some(EXPLAIN_HELP),
+        "audit" => Some(AUDIT_HELP),
+        "normalise" => Some(NORMALISE_HELP),
+        "same" => Some(SAME_HELP),
+        "diff" => Some(DIFF_HELP),
+        "compare" => Some(COMPARE_HELP),
+        "canon-version" => Some(CANON_VERSION_HELP),
+        "version-key" => Some(VERSION_KEY_HELP),
+        "sort" => Some(SORT_HELP),
+        "query" => Some(QUERY_HELP),
+        "unmet" => Some(UNMET_HELP),
+        _ => None,
+    }
+}
 
-pub(crate) const CHECK_HELP: &str = "\
+/// Returns the task that a command asks for with its words.
+pub(crate) fn task_by(alloc: Global, name: &str, found: &ArgMatches<'_>) -> Result<Task, UsageFault>
+    ensures { Answers (asked_by name.now (rows_of (found_of found.now))) result }
+{
+    match name {
+        "check" => check_task(alloc, found),
+        "explain" => explain_task(alloc, found),
+        "audit" => audit_task(alloc, found),
+        "normalise" => normalise_task(alloc, found),
+        "same" => same_task(alloc, found),
+        "diff" => diff_task(alloc, found),
+        "compare" => compare_task(alloc, found),
+        "canon-version" => canon_version_task(alloc, found),
+        "version-key" => version_key_task(alloc, found),
+        "sort" => sort_task(alloc, found),
+        "query" => query_task(alloc, found),
+        "unmet" => unmet_task(alloc, found),
+        _ => Err(help_on(alloc, given(found, "command"))),
+    }
+}
+
+fn normalise_task(alloc: Global, found: &ArgMatches<'_>) -> Result<Task, UsageFault>
+    ensures { Answers (document_asked normalises (rows_of (found_of found.now))) result }
+{
+    let kind = kind_in(alloc, found)?;
+    Ok(Task::Run(Call {
+        job: Job::Normalise(kind),
+        first: path_in(alloc, found)?,
+        second: None,
+    }))
+}
+
+const CHECK_HELP: &str = "\
 Prints `ok N` for a file of N paragraphs, or reports the first error.
 
 With `--all` it continues after an error. It prints `line N: CODE NAME` for the first
@@ -65,7 +204,7 @@ Example:
   incomplete: no newline at the end
   2";
 
-pub(crate) const EXPLAIN_HELP: &str = "\
+const EXPLAIN_HELP: &str = "\
 Checks a file as `check` does. For an accepted file of N paragraphs it prints
 `ok N`. For a refused file it explains the first error on standard output, in
 lines `KEY: VALUE`; keys that don't apply are left out:
@@ -108,7 +247,7 @@ Example:
   usually: a substitution variable, a version without an operator, or upper case in a name
   2";
 
-pub(crate) const AUDIT_HELP: &str = "\
+const AUDIT_HELP: &str = "\
 Checks each file as `check` does, and prints one line for each, in the order given:
   PATH: ok N               accepted, with N paragraphs
   PATH: line N: CODE NAME  refused, with the first error
@@ -147,7 +286,7 @@ To check every file that `find` lists:
   $ find . -name good -print0 | debctl audit --files0-from -
   ./good: ok 1";
 
-pub(crate) const NORMALISE_HELP: &str = "\
+const NORMALISE_HELP: &str = "\
 Two accepted files of one kind have the same canonical text if and only if they mean
 the same. Each paragraph is written once it has been checked.
 
@@ -163,7 +302,7 @@ Example:
   Package: aa
   Version: 1.0";
 
-pub(crate) const SAME_HELP: &str = "\
+const SAME_HELP: &str = "\
 Two files mean the same if they have the same paragraphs in the same order. The
 order of the fields, the case of their names and the spelling of versions and
 relations don't matter.
@@ -183,7 +322,7 @@ Example:
   same
   0";
 
-pub(crate) const DIFF_HELP: &str = "\
+const DIFF_HELP: &str = "\
 Prints one line for each paragraph that changed in meaning:
   removed NUMBER PACKAGE VERSION ARCHITECTURE
   changed NUMBER PACKAGE VERSION ARCHITECTURE FIELD ..
@@ -227,10 +366,7 @@ Example:
    +Version: 2
   1";
 
-pub(crate) const DIFF_KIND_HELP: &str = "\
-The kind of both files: packages (the default), binary, sources or source";
-
-pub(crate) const COMPARE_HELP: &str = "\
+const COMPARE_HELP: &str = "\
 Prints nothing: the exit status is the answer.
 
 Exit statuses:
@@ -247,11 +383,7 @@ Put `--` before the arguments if a version begins with a hyphen:
   $ debctl compare -- -1-1 gt 2; echo $?
   0";
 
-pub(crate) const OPERATORS_HELP: &str =
-    "lt or << (earlier), le or <= (earlier or equal), eq or = (equal), ne (not equal), \
-    ge or >= (later or equal), gt or >> (later)";
-
-pub(crate) const CANON_VERSION_HELP: &str = "\
+const CANON_VERSION_HELP: &str = "\
 Two versions are equal in Debian's order if and only if their canonical texts are the
 same.
 
@@ -268,7 +400,7 @@ Put `--` before a version that begins with a hyphen:
   $ debctl canon-version -- -1-1
   -1-1";
 
-pub(crate) const VERSION_KEY_HELP: &str = "\
+const VERSION_KEY_HELP: &str = "\
 Prints a line for each version, in the order given: its key in hexadecimal. The byte
 order of keys, and of these lines, is Debian's order of versions. Two versions are
 equal in Debian's order if and only if their keys are the same. So a database can
@@ -290,7 +422,7 @@ Put `--` before the arguments if a version begins with a hyphen:
   $ debctl version-key -- -1-1
   0100ad0201310202013102";
 
-pub(crate) const SORT_HELP: &str = "\
+const SORT_HELP: &str = "\
 Each line of the file is a version. The lines keep their spelling, and lines of
 equal versions keep their order. The whole file is held in memory, and nothing is
 printed before all of it has been checked.
@@ -307,7 +439,7 @@ Example:
   1.10~rc1
   1.10";
 
-pub(crate) const QUERY_HELP: &str = "\
+const QUERY_HELP: &str = "\
 A relation is a list of groups, separated by commas. For each group, in the byte
 order of their canonical texts, one line is printed:
   met GROUP      a package of the index meets the group
@@ -371,7 +503,7 @@ Why does no package meet this group?
    make: no package has this name
   1";
 
-pub(crate) const UNMET_HELP: &str = "\
+const UNMET_HELP: &str = "\
 Finds each group of dependencies in a file that no package of INDEX meets. It tries
 Pre-Depends and Depends of binary packages; Build-Depends, Build-Depends-Arch and
 Build-Depends-Indep of source packages. It prints one line for each such group, in
@@ -409,34 +541,3 @@ Example: which dependencies of this index does no package of it meet?
   $ debctl unmet --arch amd64 index; echo $?
   unmet 1 aa 1 all Depends dd
   1";
-
-pub(crate) const UNMET_KIND_HELP: &str = "\
-The kind of PATH: packages (the default), binary, sources or source.
-INDEX is always an index of binary packages";
-
-pub(crate) const UNMET_INDEX_HELP: &str =
-    "The index, of kind `packages`; standard input if it is `-`";
-
-pub(crate) const UNMET_PATH_HELP: &str =
-    "The file with the dependencies; INDEX if it is missing, standard input if it is `-`";
-
-pub(crate) const SPELLED_HELP: &str = "Print each version as its file spells it";
-
-pub(crate) const WHY_HELP: &str = "Say below each unmet or ignored group why it is";
-
-pub(crate) const ARCH_HELP: &str = "The target architecture, such as amd64";
-
-pub(crate) const PROFILES_HELP: &str =
-    "The active build profiles, separated by commas; none if the option is missing";
-
-pub(crate) const RELATION_HELP: &str =
-    "The relation, such as the value of Depends or Build-Depends; with `--relation-from` the index";
-
-pub(crate) const RELATION_FILE_HELP: &str =
-    "A file that contains the relation; `-` is standard input";
-
-pub(crate) const FILES_HELP: &str =
-    "A file that lists the paths, each followed by a byte 0; `-` is standard input";
-
-pub(crate) const CODE_HELP: &str =
-    "Explain an error code, from 1 to 23 or by its name, instead of a file";

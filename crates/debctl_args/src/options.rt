@@ -1,0 +1,360 @@
+//! The options and arguments of the commands: their names, forms and help.
+
+/// An option or an argument of a command.
+pub(crate) struct Argument {
+    /// Its name, which is the long name of an option.
+    pub(crate) id: &'static str,
+    /// The short name of an option.
+    pub(crate) short: Option<char>,
+    pub(crate) form: Form,
+    /// What the help calls its value.
+    pub(crate) shown: &'static str,
+    /// What it is for; `None` for the table of kinds.
+    pub(crate) help: Option<&'static str>,
+}
+
+/// What is given for an option or an argument.
+pub(crate) enum Form {
+    /// An option without a value.
+    Flag,
+    /// An option with a value.
+    Value,
+    /// An option with a value that has to be there.
+    RequiredValue,
+    /// An argument that may be missing.
+    Word,
+    /// An argument that has to be there.
+    RequiredWord,
+    /// Any number of arguments.
+    Words,
+    /// Any number of arguments, but at least one.
+    RequiredWords,
+}
+
+/// `--kind K` or `-k K`, whose help is the table of kinds
+pub(crate) const KIND: Argument = Argument {
+    id: "kind",
+    short: Some('k'),
+    form: Form::Value,
+    shown: "K",
+    help: None,
+};
+
+/// `--kind K` of `diff`
+pub(crate) const DIFF_KIND: Argument = Argument {
+    id: "kind",
+    short: Some('k'),
+    form: Form::Value,
+    shown: "K",
+    help: Some("The kind of both files: packages (the default), binary, sources or source"),
+};
+
+/// `--kind K` of `unmet`
+pub(crate) const UNMET_KIND: Argument = Argument {
+    id: "kind",
+    short: Some('k'),
+    form: Form::Value,
+    shown: "K",
+    help: Some(UNMET_KIND_HELP),
+};
+
+/// `--all` or `-a`
+pub(crate) const ALL: Argument = Argument {
+    id: "all",
+    short: Some('a'),
+    form: Form::Flag,
+    shown: "",
+    help: Some("Report every error, not only the first one"),
+};
+
+/// `--complete`
+pub(crate) const COMPLETE: Argument = Argument {
+    id: "complete",
+    short: None,
+    form: Form::Flag,
+    shown: "",
+    help: Some("Refuse a file that doesn't end with a newline"),
+};
+
+/// `--least N`
+pub(crate) const LEAST: Argument = Argument {
+    id: "least",
+    short: None,
+    form: Form::Value,
+    shown: "N",
+    help: Some("Refuse a file of fewer than N paragraphs"),
+};
+
+/// `--code N`
+pub(crate) const CODE: Argument = Argument {
+    id: "code",
+    short: None,
+    form: Form::Value,
+    shown: "N",
+    help: Some("Explain an error code, from 1 to 23 or by its name, instead of a file"),
+};
+
+/// `--relation TEXT`
+pub(crate) const RELATION_TEXT: Argument = Argument {
+    id: "relation",
+    short: None,
+    form: Form::Value,
+    shown: "TEXT",
+    help: Some("Explain a relation instead of a file"),
+};
+
+/// `--version-text TEXT`
+pub(crate) const VERSION_TEXT: Argument = Argument {
+    id: "version-text",
+    short: None,
+    form: Form::Value,
+    shown: "TEXT",
+    help: Some("Explain a version instead of a file"),
+};
+
+/// `--files0-from PATH`
+pub(crate) const LIST: Argument = Argument {
+    id: "files0-from",
+    short: None,
+    form: Form::Value,
+    shown: "PATH",
+    help: Some("A file that lists the paths, each followed by a byte 0; `-` is standard input"),
+};
+
+/// `--null` or `-0`
+pub(crate) const NULL: Argument = Argument {
+    id: "null",
+    short: Some('0'),
+    form: Form::Flag,
+    shown: "",
+    help: Some("End each line with a byte 0, and print paths unchanged"),
+};
+
+/// `--reverse` or `-r`
+pub(crate) const REVERSE: Argument = Argument {
+    id: "reverse",
+    short: Some('r'),
+    form: Form::Flag,
+    shown: "",
+    help: Some("Sort the latest version first; lines of equal versions keep their order"),
+};
+
+/// `--arch A`
+pub(crate) const ARCH: Argument = Argument {
+    id: "arch",
+    short: None,
+    form: Form::RequiredValue,
+    shown: "A",
+    help: Some("The target architecture, such as amd64"),
+};
+
+/// `--profiles P,P`
+pub(crate) const PROFILES: Argument = Argument {
+    id: "profiles",
+    short: None,
+    form: Form::Value,
+    shown: "P,P",
+    help: Some("The active build profiles, separated by commas; none if the option is missing"),
+};
+
+/// `--why`
+pub(crate) const WHY: Argument = Argument {
+    id: "why",
+    short: None,
+    form: Form::Flag,
+    shown: "",
+    help: Some("Say below each unmet or ignored group why it is"),
+};
+
+/// `--spelled`
+pub(crate) const SPELLED: Argument = Argument {
+    id: "spelled",
+    short: None,
+    form: Form::Flag,
+    shown: "",
+    help: Some("Print each version as its file spells it"),
+};
+
+/// `--values`
+pub(crate) const VALUES: Argument = Argument {
+    id: "values",
+    short: None,
+    form: Form::Flag,
+    shown: "",
+    help: Some("Print the lines of the fields that differ"),
+};
+
+/// `--recommends`
+pub(crate) const RECOMMENDS: Argument = Argument {
+    id: "recommends",
+    short: None,
+    form: Form::Flag,
+    shown: "",
+    help: Some("Try the groups of Recommends too"),
+};
+
+/// `--relation-from PATH`
+pub(crate) const RELATION_FILE: Argument = Argument {
+    id: "relation-from",
+    short: None,
+    form: Form::Value,
+    shown: "PATH",
+    help: Some("A file that contains the relation; `-` is standard input"),
+};
+
+/// `[PATH]`
+pub(crate) const PATH: Argument = Argument {
+    id: "path",
+    short: None,
+    form: Form::Word,
+    shown: "PATH",
+    help: Some("The file; standard input if it is `-` or missing"),
+};
+
+/// `[PATH ..]`
+pub(crate) const PATHS: Argument = Argument {
+    id: "path",
+    short: None,
+    form: Form::Words,
+    shown: "PATH",
+    help: Some("A file; `-` is standard input and may be given once"),
+};
+
+/// `PATH`, the first of two
+pub(crate) const FIRST: Argument = Argument {
+    id: "first",
+    short: None,
+    form: Form::RequiredWord,
+    shown: "PATH",
+    help: Some("The first file; `-` is standard input"),
+};
+
+/// `PATH`, the second of two
+pub(crate) const SECOND: Argument = Argument {
+    id: "second",
+    short: None,
+    form: Form::RequiredWord,
+    shown: "PATH",
+    help: Some("The second file; `-` is standard input"),
+};
+
+/// `OLD`
+pub(crate) const OLD: Argument = Argument {
+    id: "old",
+    short: None,
+    form: Form::RequiredWord,
+    shown: "OLD",
+    help: Some("The old file; `-` is standard input"),
+};
+
+/// `NEW`
+pub(crate) const NEW: Argument = Argument {
+    id: "new",
+    short: None,
+    form: Form::RequiredWord,
+    shown: "NEW",
+    help: Some("The new file; `-` is standard input"),
+};
+
+/// `V`, the first of two
+pub(crate) const LEFT: Argument = Argument {
+    id: "left",
+    short: None,
+    form: Form::RequiredWord,
+    shown: "V",
+    help: Some("A version"),
+};
+
+/// `OP`
+pub(crate) const OPERATOR: Argument = Argument {
+    id: "operator",
+    short: None,
+    form: Form::RequiredWord,
+    shown: "OP",
+    help: Some(OPERATORS_HELP),
+};
+
+/// `V`, the second of two
+pub(crate) const RIGHT: Argument = Argument {
+    id: "right",
+    short: None,
+    form: Form::RequiredWord,
+    shown: "V",
+    help: Some("A version"),
+};
+
+/// `V`
+pub(crate) const VERSION: Argument = Argument {
+    id: "version",
+    short: None,
+    form: Form::RequiredWord,
+    shown: "V",
+    help: Some("A version"),
+};
+
+/// `V ..`
+pub(crate) const VERSIONS: Argument = Argument {
+    id: "version",
+    short: None,
+    form: Form::RequiredWords,
+    shown: "V",
+    help: Some("A version"),
+};
+
+/// `[RELATION]`
+pub(crate) const RELATION: Argument = Argument {
+    id: "relation",
+    short: None,
+    form: Form::Word,
+    shown: "RELATION",
+    help: Some(RELATION_HELP),
+};
+
+/// `[PATH]`, the index of `query`
+pub(crate) const QUERIED: Argument = Argument {
+    id: "path",
+    short: None,
+    form: Form::Word,
+    shown: "PATH",
+    help: Some("The index, of kind `packages`; standard input if it is `-` or missing"),
+};
+
+/// `INDEX`
+pub(crate) const INDEX: Argument = Argument {
+    id: "index",
+    short: None,
+    form: Form::RequiredWord,
+    shown: "INDEX",
+    help: Some("The index, of kind `packages`; standard input if it is `-`"),
+};
+
+/// `[PATH]`, the second file of `unmet`
+pub(crate) const DEPENDENTS: Argument = Argument {
+    id: "path",
+    short: None,
+    form: Form::Word,
+    shown: "PATH",
+    help: Some(
+        "The file with the dependencies; INDEX if it is missing, standard input if it is `-`",
+    ),
+};
+
+/// `[COMMAND]`
+pub(crate) const COMMAND: Argument = Argument {
+    id: "command",
+    short: None,
+    form: Form::Word,
+    shown: "COMMAND",
+    help: Some("The command; if it is missing, the help of the program is printed"),
+};
+
+const OPERATORS_HELP: &str =
+    "lt or << (earlier), le or <= (earlier or equal), eq or = (equal), ne (not equal), \
+    ge or >= (later or equal), gt or >> (later)";
+
+const RELATION_HELP: &str =
+    "The relation, such as the value of Depends or Build-Depends; with `--relation-from` the index";
+
+const UNMET_KIND_HELP: &str = "\
+The kind of PATH: packages (the default), binary, sources or source.
+INDEX is always an index of binary packages";
