@@ -14,9 +14,9 @@ use Rattle.deb_base.specs.declared.refusal.Refusal.{Refusal}
 use Rattle.deb_control.specs.Calls.{HasParagraphs}
 use Rattle.deb_control.specs.Documents.{refusal_of}
 use Rattle.deb_explain.specs.Explanations.{WhyRefused}
-use Rattle.deb_explain.specs.Subjects.{AboutWhole}
-use Rattle.deb_explain.specs.Texts.{file_line}
-use Rattle.deb_explain.specs.AllExplanations.{explained_block, explained_lines, explanations_of}
+use Rattle.deb_explain.specs.Paths.{is_hidden, path_byte}
+use Rattle.deb_explain.specs.Texts.{code_lines, line_number, path_line, rule_line, rule_lines, subject_text, usually_line}
+use Rattle.deb_explain.specs.AllExplanations.{explained_lines, explanations_of}
 use Rattle.deb_control.specs.AllRefusals.{passed_of, refusals_of, total_line}
 use Rattle.debctl_ffi.specs.Answers.{counting, refusing_some}
 use Rattle.debctl_ffi.specs.Documents.{OfKind}
@@ -53,23 +53,14 @@ all_lines doc text =
     blocks_of (explanations_of doc text)
     ++ total_line (passed_of doc text) (length (refusals_of doc text))
 
--- they are those of a file with a path, without the line of the path in each block
-without_paths : (path : List ℕ) (first second : WhyRefused) (doc : Doc) (text : List ℕ)
-    → (explained_block path first ≡ (file_line path ++ explanation_lines first) ++ codes "\n")
-    × (blocks_of (first ∷ second ∷ []) ≡ (explanation_lines first ++ codes "\n")
-    ++ ((explanation_lines second ++ codes "\n") ++ []))
-    × (explained_lines path doc text ≡ flat_map (explained_block path) (explanations_of doc text)
-    ++ total_line (passed_of doc text) (length (refusals_of doc text)))
-without_paths path first second doc text = (refl, refl, refl)
-
--- a file without a paragraph: none is asked for, and one is
+-- a file without a paragraph: none is asked for, and one is; with a path its line comes first
 worked-lines : (all_lines Packages [] ≡ codes "ok 0, 0 refused\n")
-    × (all_lines Binary [] ≡ blocks_of (record {
-      refusal = record { code = NoParagraph; line = 1 };
-      about = AboutWhole;
-    } ∷ []) ++ codes "ok 0, 1 refused\n")
-unfolding file_limit paragraph_limit is_utf8 chars encode digits
-worked-lines = (refl, refl)
+    × (all_lines Binary [] ≡ codes "line: 1\ncode: 10\nname: NoParagraph\n"
+    ++ (rule_lines NoParagraph ++ codes "\nok 0, 1 refused\n"))
+    × (explained_lines (codes "a") Binary [] ≡ codes "file: a\n" ++ all_lines Binary [])
+unfolding file_limit paragraph_limit is_utf8 chars encode digits line_number code_lines
+    subject_text rule_lines rule_line usually_line path_line is_hidden path_byte
+worked-lines = (refl, refl, refl)
 
 -- ---- what is found in a file
 

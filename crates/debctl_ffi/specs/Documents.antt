@@ -73,12 +73,6 @@ abbrev pub IsSideFault : Doc → List ℕ → List ℕ → SideFault → Type 0
 IsSideFault doc text other side_fault =
     RefusedOrMemory side_fault.fault (RefusesSide side_fault.side doc text other)
 
--- the second file is refused where the first is accepted
-refusals_of_sides : (doc : Doc) (text other : List ℕ) (refusal : Refusal)
-    → (RefusesSide First doc text other refusal ≡ (refusal_of doc text ≡ Some refusal))
-    × (RefusesSide Second doc text other refusal ≡ RefusesSecond doc text other refusal)
-refusals_of_sides doc text other refusal = (refl, refl)
-
 -- ---- answers
 
 -- Memory is out, or there is no such kind; or the file is refused, and this is its refusal.

@@ -58,8 +58,8 @@ ExplainedAs word text answer bytes =
     AcceptedAs word text answer bytes ⊎ RefusedAs word text answer bytes
 
 -- what a text is read as
-worked-read : (text : List ℕ) → (IsRead words.Relation text ≡ IsRelation text)
-    × (IsRead words.Version text ≡ IsVersion text)
-    × (IsNotRead words.Relation text ≡ IsNoRelation text)
-    × (IsNotRead words.Version text ≡ IsNoVersion text)
-worked-read text = (refl, refl, refl, refl)
+worked-read : (IsRead words.Relation (codes "aa") ≡ IsRelation (codes "aa"))
+    × (IsRead words.Version (codes "1") ≡ IsVersion (codes "1"))
+    × (IsNotRead words.Relation (codes "a") ≡ IsNoRelation (codes "a"))
+    × (IsNotRead words.Version (codes "1_2") ≡ IsNoVersion (codes "1_2"))
+worked-read = (refl, refl, refl, refl)

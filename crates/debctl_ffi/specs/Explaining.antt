@@ -4,11 +4,14 @@
 use Rattle.std.specs.Prelude.{◌≡◌, ◌⊎◌, ℕ, List, [], ◌∷◌, ◌++◌, Some, codes, refl}
 use Rattle.std.specs.Fmt.{decimal, digits}
 use Rattle.deb_base.specs.Bodies.{newline}
+use Rattle.deb_base.specs.declared.code.Code.TheVariants.{NoColon}
 use Rattle.deb_base.specs.declared.doc.Doc.{Doc}
 use Rattle.deb_control.specs.Calls.{HasParagraphs}
 use Rattle.deb_control.specs.Documents.{refusal_of}
+use Rattle.deb_explain.specs.Escapes.{escaped_byte, front_of, shortened, shown_line}
 use Rattle.deb_explain.specs.Explanations.{WhyRefused, explanation_of}
-use Rattle.deb_explain.specs.Texts.{code_lines, explanation_text, file_line, line_number, rule_lines, subject_text}
+use Rattle.deb_explain.specs.Subjects.{AboutLine}
+use Rattle.deb_explain.specs.Texts.{code_lines, line_number, rule_lines, subject_text}
 use Rattle.debctl_ffi.specs.Answers.{counting, refusing}
 use Rattle.debctl_ffi.specs.Documents.{OfKind}
 use Rattle.debctl_ffi.specs.declared.answer.Answer.{Answer}
@@ -26,10 +29,12 @@ explanation_lines why =
     ++ (code_lines why.refusal.code
     ++ (subject_text why.refusal.line why.about ++ rule_lines why.refusal.code))
 
--- the program prints them after the line of a path, whichever path it is
-after_a_path : (path : List ℕ) (why : WhyRefused)
-    → explanation_text path why ≡ file_line path ++ explanation_lines why
-after_a_path path why = refl
+lines_of_refused_files : explanation_lines (record {
+  refusal = record { code = NoColon; line = 7 };
+  about = AboutLine (codes "x");
+}) ≡ codes "line: 7\ncode: 6\nname: NoColon\nvalue: x\n" ++ rule_lines NoColon
+unfolding digits shown_line shortened front_of escaped_byte line_number code_lines subject_text
+lines_of_refused_files = refl
 
 lines_of_accepted_files : (ok_line 0 ≡ codes "ok 0\n") × (ok_line 120 ≡ codes "ok 120\n")
 unfolding digits

@@ -1,9 +1,6 @@
 -- What a reader that is fed a file in pieces has read, and what it answers of each piece: Debian
 -- Policy 5.1. That a file comes in pieces is this project's own.
 use Rattle.std.specs.Prelude.{◌≡◌, ◌≢◌, ◌⊎◌, ℕ, ◌+◌, ◌≤◌, Bool, true, false, List, [], ◌∷◌, ◌++◌, length, Option, Some, None}
-use base.Fml.{Fml, Lft, Share, flft}
-use denote.RawPtr.{Ptr}
-use denote.Struct.Lending.{lent_at}
 use Rattle.deb_base.specs.Bodies.{file_limit}
 use Rattle.deb_base.specs.declared.doc.Doc.{Doc}
 use Rattle.deb_base.specs.declared.refusal.Refusal.{Refusal}
@@ -23,25 +20,6 @@ use Rattle.debctl_ffi.specs.Tables.{HasTables}
 use Rattle.debctl_ffi.specs.declared.answer.Answer.{Answer}
 use Rattle.debctl_ffi.specs.declared.field.Tables.{Tables}
 use Rattle.debctl_ffi.specs.declared.reader.Reader.{Reader}
-use Rattle.debctl_ffi.specs.contracts.reader.Reader.{the_row}
-
--- ---- memory
-
--- What a call that asks for the tables borrows: a lifetime, a share of the right to its being
--- alive, and the reader at the pointer.
-abbrev pub Loan : Type 0
-Loan = Lft × (Share × Reader)
-
-abbrev pub reader_of : Loan → Reader
-reader_of loan = loan.1.1
-
--- the share of the lifetime, which a call gives back
-abbrev pub share_of : Loan → Fml
-share_of loan = flft loan.0 loan.1.0
-
--- A reader is at the pointer, and is borrowed for the lifetime, as by `&`.
-abbrev pub lies_lent : Ptr → Loan → Fml
-lies_lent at loan = lent_at the_row at (reader_of loan) loan.0
 
 -- ---- what was read
 

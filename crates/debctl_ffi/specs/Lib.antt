@@ -16,6 +16,7 @@ pub mod Relations
 pub mod RowTables
 pub mod ExplainedTexts
 pub mod FieldLaws
+pub mod Loans
 pub mod Loads
 pub mod Details
 pub mod Diffs

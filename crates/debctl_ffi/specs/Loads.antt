@@ -1,10 +1,7 @@
--- An index that a program in C reads once and asks often: where it is, who owns its memory when,
--- and what the calls return of it. The statuses are this project's own.
+-- An index that a program in C reads once and asks often: what it holds, and what the calls return
+-- of it. The statuses are this project's own.
 use Rattle.std.specs.Prelude.{◌≡◌, ◌⊎◌, ℕ, Bool, List, [], ◌∷◌, None, Some, codes, length, refl}
 use Rattle.std.specs.List.{concat}
-use base.Fml.{Fml, Lft, Share, flft}
-use denote.RawPtr.{Ptr}
-use denote.Struct.Lending.{lent_at}
 use Rattle.deb_base.specs.declared.doc.Doc.TheVariants.{Packages}
 use Rattle.deb_base.specs.declared.refusal.Refusal.{Refusal}
 use Rattle.deb_control.specs.Documents.{refusal_of}
@@ -25,25 +22,6 @@ use Rattle.debctl_ffi.specs.Unmet.{Asker, ListsUnmet, UnmetFails}
 use Rattle.debctl_ffi.specs.declared.answer.Answer.{Answer}
 use Rattle.debctl_ffi.specs.declared.loaded.Loaded.{Loaded}
 use Rattle.debctl_ffi.specs.declared.report.Detail.{Detail}
-use Rattle.debctl_ffi.specs.contracts.loaded.Loaded.{the_row}
-
--- ---- memory
-
--- What a call that asks borrows: a lifetime, a share of the right to its being alive, and what is
--- at the pointer.
-abbrev pub Loan : Type 0
-Loan = Lft × (Share × Loaded)
-
-abbrev pub loaded_of : Loan → Loaded
-loaded_of loan = loan.1.1
-
--- the share of the lifetime, which a call gives back
-abbrev pub share_of : Loan → Fml
-share_of loan = flft loan.0 loan.1.0
-
--- A loaded index is at the pointer, and is borrowed for the lifetime, as by `&`.
-abbrev pub lies_lent : Ptr → Loan → Fml
-lies_lent at loan = lent_at the_row at (loaded_of loan) loan.0
 
 -- ---- what is loaded
 

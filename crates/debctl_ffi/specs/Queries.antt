@@ -1,10 +1,14 @@
 -- What is answered of a relation and an index to a program in C: Debian Policy 7.1 and 7.5. The
 -- order of refusals and the report's form are this project's own.
-use Rattle.std.specs.Prelude.{◌≡◌, ◌⊎◌, ℕ, Bool, true, false, IsFalse, IsTrue, List, refl}
+use Rattle.std.specs.Prelude.{◌≡◌, ◌⊎◌, ℕ, Bool, true, false, IsFalse, IsTrue, List, [], ◌∷◌, map, None, codes, refl}
+use Rattle.std.specs.Fmt.{digits}
 use Rattle.deb_base.specs.declared.refusal.Refusal.{Refusal}
 use Rattle.deb_relation.specs.Applying.{Environment}
 use Rattle.deb_relation.specs.Meaning.{Relation}
 use Rattle.deb_relation.specs.Tests.{some_wildcard}
+use Rattle.deb_relation.specs.Texts.{group_text}
+use Rattle.deb_version.specs.Places.{version_in}
+use Rattle.deb_index.specs.Alternatives.{alone, with_list}
 use Rattle.deb_index.specs.Listed.{Listed}
 use Rattle.deb_index.specs.Questions.{IsReported, Question, RefusesQuery, bad_environment}
 use Rattle.deb_index.specs.Questions.{bad_relation, environment_in, wildcard}
@@ -52,16 +56,22 @@ pub record ReportsOver (detail : Detail) (packages : List Listed) (relation : Re
   pub met_is : met ≡ all_met (report packages relation environment)
   pub text_is : bytes ≡ detail_text detail packages relation environment
 
-worked-refusal : (relation : Relation) (refusal : Refusal) → RefusesAsked relation refusal
-    ≡ (IsTrue (some_wildcard relation) × (refusal ≡ wildcard))
-worked-refusal relation refusal = refl
+worked-refusal : RefusesAsked ((with_list (codes "aa") false (codes "any") ∷ []) ∷ []) wildcard
+worked-refusal = (refl, refl)
 
-worked-texts : (packages : List Listed) (relation : Relation) (environment : Environment)
-    → (detail_text Verdicts packages relation environment
-    ≡ report_text (report packages relation environment))
-    × (detail_text Reasons packages relation environment
-    ≡ detailed_text (detailed_report packages relation environment))
-worked-texts packages relation environment = (refl, refl)
+-- of a package that is there, and of one that isn't
+worked-texts : map (λ detail. detail_text detail (record {
+  name = codes "aa";
+  version = version_in (codes "1.0-0");
+  architecture = codes "all";
+  multi_arch = None;
+  provisions = [];
+} ∷ []) ((alone (codes "aa") ∷ []) ∷ (alone (codes "bb") ∷ []) ∷ [])
+    (record { target = codes "i386"; profiles = [] })) (Verdicts ∷ Reasons ∷ [])
+    ≡ codes "met aa\n 1 aa 1.0 all\nunmet bb\n"
+    ∷ codes "met aa\n 1 aa 1.0 all\nunmet bb\n bb: no package has this name\n" ∷ []
+unfolding digits group_text
+worked-texts = refl
 
 -- ---- answers
 

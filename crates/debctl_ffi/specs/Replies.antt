@@ -1,6 +1,6 @@
--- What a call returns to a program in C and writes to its buffer, by what was found: the one contract
--- of the calls that write a text or a table (this project's own). A call adds to it which answers go
--- with which items, and which answers with nothing.
+-- What a call returns to a program in C and writes to its buffer: the contract of the calls that
+-- write a text or a table (this project's own). Each adds to it which answers go with which items,
+-- and which answers with nothing.
 use Rattle.std.specs.Prelude.{◌≡◌, ◌⊎◌, ℕ, List, codes, refl}
 use Rattle.std.proofs.Common.{arith, inl, inr}
 use Rattle.debctl_ffi.specs.Answers.{plain}

@@ -52,7 +52,7 @@ pub record Compares (left right : List ℕ) (comparison : Comparison) : Type 0 w
   pub second_spelled : SpellsVersion right second
   pub is : comparison ≡ comparing 0 0 (version_cmp first second)
 
--- The text is a version, and this is its canonical text; or its key, which sorts as the version does.
+-- The text is a version, and this is its canonical text, or its key, which sorts as it does.
 pub record IsCanonical (text : List ℕ) (told : Answer) (bytes : List ℕ) : Type 0 where
   pub version : Meaning
   pub spelled : SpellsVersion text version

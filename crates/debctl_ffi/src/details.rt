@@ -1,13 +1,18 @@
 //! What a loaded index keeps of a package, for programs in C.
 
 ghost use Rattle.std.specs.Prelude.{◌≡◌, [], ◌∷◌, IfOk};
+ghost use base.Fml.{flft};
+ghost use denote.Struct.Lending.{lent_at};
 ghost use types.Logic.{sem};
 ghost use Rattle.deb_index.specs.Kept.{listed_of};
 ghost use Rattle.deb_index.specs.KeptTexts.{kept_text};
 ghost use Rattle.debctl_ffi.specs.Answers.{HasStatus};
 ghost use Rattle.debctl_ffi.specs.Buffers.{buffer};
 ghost use Rattle.debctl_ffi.specs.Details.{AsksDetails, at_line};
-ghost use Rattle.debctl_ffi.specs.Loads.{HoldsNone, Loan, lies_lent, loaded_of, share_of};
+ghost use Rattle.debctl_ffi.specs.Loads.{HoldsNone};
+ghost use Rattle.debctl_ffi.specs.Loans.{Loan};
+ghost use Rattle.debctl_ffi.specs.contracts.loaded.Loaded.{the_row};
+ghost use Rattle.debctl_ffi.specs.declared.loaded.Loaded.{Loaded as LoadedData};
 
 use crate::answer::{Answer, no, no_index, no_memory, yes};
 use crate::buffer::reply;
@@ -25,12 +30,13 @@ pub unsafe extern "C" fn deb_index_details(
     out: &mut [u8],
     len: &mut usize,
 ) -> Answer
-    ghost loan: { Loan }
-    requires* lent { sem 𝓛 (share_of loan) ∗ sem 𝓛 (lies_lent index loan) }
-    ensures* share { sem 𝓛 (share_of loan) }
-    ensures answers { AsksDetails number (loaded_of loan)
+    ghost loan: { Loan LoadedData }
+    requires* lent { sem 𝓛 (flft loan.lifetime loan.share)
+        ∗ sem 𝓛 (lent_at the_row index loan.value loan.lifetime) }
+    ensures* share { sem 𝓛 (flft loan.lifetime loan.share) }
+    ensures answers { AsksDetails number loan.value
         (buffer out.old out.new len.new) result }
-    ensures none_held { HoldsNone (loaded_of loan) → result.status ≡ 7 }
+    ensures none_held { HoldsNone loan.value → result.status ≡ 7 }
     ensures status { HasStatus result.status (0 ∷ 1 ∷ 4 ∷ 5 ∷ 7 ∷ []) }
 {
     details_at(unsafe { &*(index as *const Loaded) }, number, out, len)

@@ -3,13 +3,16 @@
 ghost use Rattle.std.specs.Prelude.{◌≡◌, [], ◌∷◌, List};
 ghost use Rattle.std.specs.Borrow.{full_share};
 ghost use Rattle.std.specs.Ptr.{lies_at, room_at};
+ghost use base.Fml.{flft};
 ghost use denote.Param.{layout};
+ghost use denote.Struct.Lending.{lent_at};
 ghost use prog.Memory.{capped, size};
 ghost use types.Logic.{sem};
 ghost use Rattle.debctl_ffi.specs.Answers.{HasStatus, plain};
-ghost use Rattle.debctl_ffi.specs.Feeds.{FeedsOn, Loan, Starts, lies_lent, reader_of, share_of};
+ghost use Rattle.debctl_ffi.specs.Feeds.{FeedsOn, Starts};
 ghost use Rattle.debctl_ffi.specs.Buffers.{buffer};
 ghost use Rattle.debctl_ffi.specs.Fields.{Numbered, RepliesTables, room};
+ghost use Rattle.debctl_ffi.specs.Loans.{Loan};
 ghost use Rattle.debctl_ffi.specs.Tables.{HasTables};
 ghost use Rattle.debctl_ffi.specs.Unmet.{is_set};
 ghost use Rattle.debctl_ffi.specs.contracts.reader.Reader.{the_row};
@@ -86,10 +89,11 @@ pub unsafe extern "C" fn deb_reader_fields(
     values: &mut [u8],
     values_length: &mut usize,
 ) -> Answer
-    ghost loan: { Loan }
-    requires* lent { sem 𝓛 (share_of loan) ∗ sem 𝓛 (lies_lent reader loan) }
-    ensures* share { sem 𝓛 (share_of loan) }
-    ensures tables { (shown : List Numbered) → HasTables (reader_of loan).tables shown
+    ghost loan: { Loan ReaderData }
+    requires* lent { sem 𝓛 (flft loan.lifetime loan.share)
+        ∗ sem 𝓛 (lent_at the_row reader loan.value loan.lifetime) }
+    ensures* share { sem 𝓛 (flft loan.lifetime loan.share) }
+    ensures tables { (shown : List Numbered) → HasTables loan.value.tables shown
         → RepliesTables (plain 0) shown
         (room (buffer spans.old spans.new span_count.new)
         (buffer names.old names.new names_length.new)

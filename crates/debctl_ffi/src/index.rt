@@ -3,7 +3,9 @@
 ghost use Rattle.std.specs.Prelude.{◌≡◌, [], ◌∷◌};
 ghost use Rattle.std.specs.Borrow.{full_share};
 ghost use Rattle.std.specs.Ptr.{lies_at, room_at};
+ghost use base.Fml.{flft};
 ghost use denote.Param.{layout};
+ghost use denote.Struct.Lending.{lent_at};
 ghost use prog.Memory.{capped, size};
 ghost use types.Logic.{sem};
 ghost use Rattle.deb_index.specs.Named.{has_name, provides};
@@ -12,7 +14,8 @@ ghost use Rattle.deb_relation.specs.Views.{names_of};
 ghost use Rattle.deb_unmet.specs.declared.asked.Asked.{Asked};
 ghost use Rattle.debctl_ffi.specs.Answers.{HasStatus};
 ghost use Rattle.debctl_ffi.specs.Buffers.{buffer};
-ghost use Rattle.debctl_ffi.specs.Loads.{AsksNumbers, AsksPackage, AsksQuery, AsksUnmet, HoldsNone, IsLoading, Loan, lies_lent, loaded_of, share_of};
+ghost use Rattle.debctl_ffi.specs.Loads.{AsksNumbers, AsksPackage, AsksQuery, AsksUnmet, HoldsNone, IsLoading};
+ghost use Rattle.debctl_ffi.specs.Loans.{Loan};
 ghost use Rattle.debctl_ffi.specs.Unmet.{AsksNothing, IsAsked, asker, is_set};
 ghost use Rattle.debctl_ffi.specs.contracts.loaded.Loaded.{the_row};
 ghost use Rattle.debctl_ffi.specs.declared.loaded.Loaded.{Loaded as LoadedData};
@@ -71,13 +74,14 @@ pub unsafe extern "C" fn deb_index_query(
     out: &mut [u8],
     len: &mut usize,
 ) -> Answer
-    ghost loan: { Loan }
-    requires* lent { sem 𝓛 (share_of loan) ∗ sem 𝓛 (lies_lent index loan) }
-    ensures* share { sem 𝓛 (share_of loan) }
+    ghost loan: { Loan LoadedData }
+    requires* lent { sem 𝓛 (flft loan.lifetime loan.share)
+        ∗ sem 𝓛 (lent_at the_row index loan.value loan.lifetime) }
+    ensures* share { sem 𝓛 (flft loan.lifetime loan.share) }
     ensures answers { AsksQuery Verdicts
-        (question target.now (names_of profiles.now) relation.now) (loaded_of loan)
+        (question target.now (names_of profiles.now) relation.now) loan.value
         (buffer out.old out.new len.new) result }
-    ensures none_held { HoldsNone (loaded_of loan) → result.status ≡ 7 }
+    ensures none_held { HoldsNone loan.value → result.status ≡ 7 }
     ensures status { HasStatus result.status (0 ∷ 1 ∷ 2 ∷ 4 ∷ 5 ∷ 7 ∷ []) }
 {
     Loaded::query(
@@ -103,13 +107,14 @@ pub unsafe extern "C" fn deb_index_unmet(
     out: &mut [u8],
     len: &mut usize,
 ) -> Answer
-    ghost loan: { Loan }
-    requires* lent { sem 𝓛 (share_of loan) ∗ sem 𝓛 (lies_lent index loan) }
-    ensures* share { sem 𝓛 (share_of loan) }
+    ghost loan: { Loan LoadedData }
+    requires* lent { sem 𝓛 (flft loan.lifetime loan.share)
+        ∗ sem 𝓛 (lent_at the_row index loan.value loan.lifetime) }
+    ensures* share { sem 𝓛 (flft loan.lifetime loan.share) }
     ensures answers { AsksUnmet kind (is_set recommends) (asker target.now (names_of profiles.now))
-        file.now (loaded_of loan) (buffer out.old out.new len.new) result }
+        file.now loan.value (buffer out.old out.new len.new) result }
     ensures none_held { (asks : Asked) → IsAsked kind (is_set recommends) asks
-        → HoldsNone (loaded_of loan) → result.status ≡ 7 }
+        → HoldsNone loan.value → result.status ≡ 7 }
     ensures unknown_kind { AsksNothing kind (is_set recommends) → result.status ≡ 6 }
     ensures status { HasStatus result.status (0 ∷ 1 ∷ 2 ∷ 3 ∷ 4 ∷ 5 ∷ 6 ∷ 7 ∷ []) }
 {
@@ -135,12 +140,13 @@ pub unsafe extern "C" fn deb_index_packages(
     numbers: &mut [u64],
     count: &mut usize,
 ) -> Answer
-    ghost loan: { Loan }
-    requires* lent { sem 𝓛 (share_of loan) ∗ sem 𝓛 (lies_lent index loan) }
-    ensures* share { sem 𝓛 (share_of loan) }
-    ensures answers { AsksNumbers (has_name name.now) (loaded_of loan)
+    ghost loan: { Loan LoadedData }
+    requires* lent { sem 𝓛 (flft loan.lifetime loan.share)
+        ∗ sem 𝓛 (lent_at the_row index loan.value loan.lifetime) }
+    ensures* share { sem 𝓛 (flft loan.lifetime loan.share) }
+    ensures answers { AsksNumbers (has_name name.now) loan.value
         (buffer numbers.old numbers.new count.new) result }
-    ensures none_held { HoldsNone (loaded_of loan) → result.status ≡ 7 }
+    ensures none_held { HoldsNone loan.value → result.status ≡ 7 }
     ensures status { HasStatus result.status (0 ∷ 4 ∷ 7 ∷ []) }
 {
     Loaded::packages(unsafe { &*(index as *const Loaded) }, name, numbers, count)
@@ -156,12 +162,13 @@ pub unsafe extern "C" fn deb_index_providers(
     numbers: &mut [u64],
     count: &mut usize,
 ) -> Answer
-    ghost loan: { Loan }
-    requires* lent { sem 𝓛 (share_of loan) ∗ sem 𝓛 (lies_lent index loan) }
-    ensures* share { sem 𝓛 (share_of loan) }
-    ensures answers { AsksNumbers (provides name.now) (loaded_of loan)
+    ghost loan: { Loan LoadedData }
+    requires* lent { sem 𝓛 (flft loan.lifetime loan.share)
+        ∗ sem 𝓛 (lent_at the_row index loan.value loan.lifetime) }
+    ensures* share { sem 𝓛 (flft loan.lifetime loan.share) }
+    ensures answers { AsksNumbers (provides name.now) loan.value
         (buffer numbers.old numbers.new count.new) result }
-    ensures none_held { HoldsNone (loaded_of loan) → result.status ≡ 7 }
+    ensures none_held { HoldsNone loan.value → result.status ≡ 7 }
     ensures status { HasStatus result.status (0 ∷ 4 ∷ 7 ∷ []) }
 {
     Loaded::providers(unsafe { &*(index as *const Loaded) }, name, numbers, count)
@@ -177,12 +184,13 @@ pub unsafe extern "C" fn deb_index_package(
     out: &mut [u8],
     len: &mut usize,
 ) -> Answer
-    ghost loan: { Loan }
-    requires* lent { sem 𝓛 (share_of loan) ∗ sem 𝓛 (lies_lent index loan) }
-    ensures* share { sem 𝓛 (share_of loan) }
-    ensures answers { AsksPackage number (loaded_of loan)
+    ghost loan: { Loan LoadedData }
+    requires* lent { sem 𝓛 (flft loan.lifetime loan.share)
+        ∗ sem 𝓛 (lent_at the_row index loan.value loan.lifetime) }
+    ensures* share { sem 𝓛 (flft loan.lifetime loan.share) }
+    ensures answers { AsksPackage number loan.value
         (buffer out.old out.new len.new) result }
-    ensures none_held { HoldsNone (loaded_of loan) → result.status ≡ 7 }
+    ensures none_held { HoldsNone loan.value → result.status ≡ 7 }
     ensures status { HasStatus result.status (0 ∷ 1 ∷ 4 ∷ 5 ∷ 7 ∷ []) }
 {
     Loaded::package_at(unsafe { &*(index as *const Loaded) }, number, out, len)

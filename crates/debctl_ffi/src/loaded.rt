@@ -61,8 +61,9 @@ impl Loaded {
         out: &mut [u8],
         len: &mut usize,
     ) -> Answer
-        ensures answers { AsksQuery Detail.Verdicts (question target.now (names_of profiles.now) relation.now)
-            self.now (buffer out.old out.new len.new) result }
+        ensures answers { AsksQuery Detail.Verdicts
+            (question target.now (names_of profiles.now) relation.now) self.now
+            (buffer out.old out.new len.new) result }
         ensures none_held { HoldsNone self.now → result.status ≡ 7 }
         ensures status { HasStatus result.status (0 ∷ 1 ∷ 2 ∷ 4 ∷ 5 ∷ 7 ∷ []) }
     {
@@ -78,8 +79,9 @@ impl Loaded {
         out: &mut [u8],
         len: &mut usize,
     ) -> Answer
-        ensures answers { AsksQuery Detail.Reasons (question target.now (names_of profiles.now) relation.now)
-            self.now (buffer out.old out.new len.new) result }
+        ensures answers { AsksQuery Detail.Reasons
+            (question target.now (names_of profiles.now) relation.now) self.now
+            (buffer out.old out.new len.new) result }
         ensures none_held { HoldsNone self.now → result.status ≡ 7 }
         ensures status { HasStatus result.status (0 ∷ 1 ∷ 2 ∷ 4 ∷ 5 ∷ 7 ∷ []) }
     {
@@ -96,8 +98,9 @@ impl Loaded {
         out: &mut [u8],
         len: &mut usize,
     ) -> Answer
-        ensures answers { AsksQuery detail (question target.now (names_of profiles.now) relation.now)
-            self.now (buffer out.old out.new len.new) result }
+        ensures answers { AsksQuery detail
+            (question target.now (names_of profiles.now) relation.now) self.now
+            (buffer out.old out.new len.new) result }
         ensures none_held { HoldsNone self.now → result.status ≡ 7 }
         ensures status { HasStatus result.status (0 ∷ 1 ∷ 2 ∷ 4 ∷ 5 ∷ 7 ∷ []) }
     {
@@ -125,8 +128,9 @@ impl Loaded {
         out: &mut [u8],
         len: &mut usize,
     ) -> Answer
-        ensures answers { AsksUnmet kind (is_set recommends) (asker target.now (names_of profiles.now))
-            file.now self.now (buffer out.old out.new len.new) result }
+        ensures answers { AsksUnmet kind (is_set recommends)
+            (asker target.now (names_of profiles.now)) file.now self.now
+            (buffer out.old out.new len.new) result }
         ensures none_held { (asks : Asked) → IsAsked kind (is_set recommends) asks
             → HoldsNone self.now → result.status ≡ 7 }
         ensures unknown_kind { AsksNothing kind (is_set recommends) → result.status ≡ 6 }

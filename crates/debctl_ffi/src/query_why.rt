@@ -1,14 +1,19 @@
 //! Queries with reasons, for programs in C.
 
 ghost use Rattle.std.specs.Prelude.{◌≡◌, [], ◌∷◌};
+ghost use base.Fml.{flft};
+ghost use denote.Struct.Lending.{lent_at};
 ghost use types.Logic.{sem};
 ghost use Rattle.deb_index.specs.Questions.{question};
 ghost use Rattle.deb_relation.specs.Views.{names_of};
 ghost use Rattle.debctl_ffi.specs.Answers.{HasStatus};
 ghost use Rattle.debctl_ffi.specs.Buffers.{buffer};
-ghost use Rattle.debctl_ffi.specs.Loads.{AsksQuery, HoldsNone, Loan, lies_lent, loaded_of, share_of};
+ghost use Rattle.debctl_ffi.specs.Loads.{AsksQuery, HoldsNone};
+ghost use Rattle.debctl_ffi.specs.Loans.{Loan};
 ghost use Rattle.debctl_ffi.specs.Queries.{OfText, QueryFails, Reports};
 ghost use Rattle.debctl_ffi.specs.Replies.{Replies};
+ghost use Rattle.debctl_ffi.specs.contracts.loaded.Loaded.{the_row};
+ghost use Rattle.debctl_ffi.specs.declared.loaded.Loaded.{Loaded as LoadedData};
 
 use crate::answer::{Answer, no, no_memory, refused, yes};
 use crate::buffer::reply;
@@ -55,13 +60,14 @@ pub unsafe extern "C" fn deb_index_query_why(
     out: &mut [u8],
     len: &mut usize,
 ) -> Answer
-    ghost loan: { Loan }
-    requires* lent { sem 𝓛 (share_of loan) ∗ sem 𝓛 (lies_lent index loan) }
-    ensures* share { sem 𝓛 (share_of loan) }
+    ghost loan: { Loan LoadedData }
+    requires* lent { sem 𝓛 (flft loan.lifetime loan.share)
+        ∗ sem 𝓛 (lent_at the_row index loan.value loan.lifetime) }
+    ensures* share { sem 𝓛 (flft loan.lifetime loan.share) }
     ensures answers { AsksQuery Detail.Reasons
-        (question target.now (names_of profiles.now) relation.now) (loaded_of loan)
+        (question target.now (names_of profiles.now) relation.now) loan.value
         (buffer out.old out.new len.new) result }
-    ensures none_held { HoldsNone (loaded_of loan) → result.status ≡ 7 }
+    ensures none_held { HoldsNone loan.value → result.status ≡ 7 }
     ensures status { HasStatus result.status (0 ∷ 1 ∷ 2 ∷ 4 ∷ 5 ∷ 7 ∷ []) }
 {
     Loaded::query_why(

@@ -25,7 +25,7 @@ deb_index_query_why_spec 𝓤 𝓛 𝓜 𝓡 wired =
     (λ κs. (rawptr_vals, (shr_slice_vals, (shr_slice_vals, (shr_slice_vals, (mut_slice_vals, (mut_vals, tt)))))))
     (λ κs. (rawptr_Tells, (shr_slice_Tells (named 0) κs.0 u8, (shr_slice_Tells (named 1) κs.1.0 (ShrSlice (named 2) κs.1.1.0 u8), (shr_slice_Tells (named 3) κs.1.1.1.0 u8, (mut_slice_Tells (named 4) κs.1.1.1.1.0 u8, (mut_Tells (named 5) κs.1.1.1.1.1.0 usize, tt)))))))
     (λ κs qs bounds a g are.
-    let x = g.1.1 in let κ : Lft = g.0 in let q : Share = g.1.0 in
+    let x = g.value in let κ : Lft = g.lifetime in let q : Share = g.share in
     let rest : List Val × (List Val × (List Val × (List Val × (List Val × Unit {0})))) = (shr_slice_vals a.1.0, (shr_slice_vals a.1.1.0, (shr_slice_vals a.1.1.1.0, (mut_slice_vals a.1.1.1.1.0, (mut_vals a.1.1.1.1.1.0, tt))))) in
     let y : Ptr → W.Ghost = λ p. ((κs, qs, bounds, (p, a.1), (rawptr_vals p, rest)), g) in
     let z : ℕ → ℕ → G.Ghost = λ b o. (((κ, κs), (q, qs), bounds, (record { ref_ptr = (b, o); now = x }, a.1), (vptr b o ∷ [], rest)), tt) in
