@@ -2,7 +2,7 @@ pub mod AllReports
 pub mod AuditAllReports
 pub mod DocumentReports
 pub mod ExplainReports
-pub mod IndexJobs
+pub mod JobReports
 pub mod KeyLines
 pub mod LastPaths
 pub mod PathLists

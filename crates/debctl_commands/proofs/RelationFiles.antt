@@ -59,6 +59,6 @@ read_ends {W} options ask first second out err relation word read is unfailed st
     queried answer says = record { relation = relation; read = read; unfailed = unfailed; queried = answer; is = refl; queries = says }
 
     go : (answer : Result Bool Fault) → QueriesFile options (ask relation) second.text second.failures second.failures_after out.held out.failures out.old out.new answer
-        → ReportsBy yes_or_no (λ (fault : Fault). fault) fault_line err.held err.failures err.old err.new answer status → Ends (from_promise {W} options ask) first second out err status
+        → ReportsBy yes_or_no (λ (fault : Fault). fault) fault_line err.held err.failures err.old err.new answer status → Ends (from_promise {W = W} options ask) first second out err status
     go (Ok met) says reported = (Ok met, inl (queried (Ok met) says), reported)
     go (Err fault) says reported = (at_second (Err fault), inl (queried (Err fault) says), reported)

@@ -90,18 +90,18 @@ promise_of (Unmet arch profiles dependents versions) =
 -- Status 0 and 1: the job has an answer of that status.
 abbrev pub Done : {W : Type 0} → Job → Option (List ℕ) → Option (List ℕ) → WriterOfJob W → Type 0
 Done {W} job left other out =
-    Answers (promise_of job) left other out (HasStatus (promise_of {W} job) 0)
+    Answers (promise_of job) left other out (HasStatus (promise_of {W = W} job) 0)
 
 abbrev pub SaysNo : {W : Type 0} → Job → Option (List ℕ) → Option (List ℕ) → WriterOfJob W → Type 0
 SaysNo {W} job left other out =
-    Answers (promise_of job) left other out (HasStatus (promise_of {W} job) 1)
+    Answers (promise_of job) left other out (HasStatus (promise_of {W = W} job) 1)
 
 -- Status 2: a file or an argument is refused, and exactly that line was written on `err`; or the
 -- answer is one of status 2.
 abbrev pub IsRefused : {W : Type 0} → Job → Option (List ℕ) → Option (List ℕ) → WriterOfJob W
     → Option (List ℕ) → Option (List ℕ) → Type 0
 IsRefused {W} job left other out err err_after =
-    Answers (promise_of job) left other out (Refuses (promise_of {W} job) err err_after)
+    Answers (promise_of job) left other out (Refuses (promise_of {W = W} job) err err_after)
 
 -- Whatever the status: there is an answer to the job, and it is reported.
 abbrev pub Reported : {W E : Type 0} → Job → ReaderOfJob → ReaderOfJob → WriterOfJob W

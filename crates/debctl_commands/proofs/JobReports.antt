@@ -1,21 +1,45 @@
--- The words of a query and of `unmet` are those of their job.
-use Rattle.std.proofs.Common.{◌≡◌, ℕ, List, map, Option, String, Vec, Global, subst, sym, string_bytes}
+-- From what the functions of the jobs report to what each job promises: their arguments are those of
+-- the job.
+use Rattle.std.proofs.Common.{◌≡◌, ℕ, List, map, Option, String, Vec, Global, refl, subst, sym, string_bytes}
 use Rattle.std.specs.Prelude.{IsFalse, IsTrue}
 use Rattle.deb_base.specs.declared.version_text.VersionText.{VersionText}
 use Rattle.deb_index.specs.Questions.{Question, question}
 use Rattle.debctl_commands.specs.JobDevices.{ReaderOfJob, WriterOfJob}
-use Rattle.debctl_commands.specs.Promises.{Ends}
+use Rattle.debctl_commands.specs.DiffJob.{FindsChanges, form_asked}
+use Rattle.debctl_commands.specs.Promises.{Ends, plain, sided, yes_or_no}
 use Rattle.debctl_commands.specs.QueryFrom.{AreRefusedFrom, from_promise}
-use Rattle.debctl_commands.specs.QueryJob.{AreRefused, query_options}
-use Rattle.debctl_commands.specs.Running.{IfRefusedRelation, IfRefusedWords, IfSecondUnread, Reported, asked_of_file, words_of_unmet}
+use Rattle.debctl_commands.specs.QueryJob.{AreRefused, QueriesFile, query_options}
+use Rattle.debctl_commands.specs.Running.{IfRefusedRelation, IfRefusedWords, IfSecondUnread, Reported, asked, asked_of_file, of_file, words_of_unmet}
 use Rattle.debctl_commands.specs.UnmetJob.{AreRefusedBefore, Words, has_environment, is_index, unmet_promise, words}
+use Rattle.debctl_commands.specs.declared.diff_job.DiffOptions.{DiffOptions}
 use Rattle.debctl_commands.specs.declared.query_job.QueryOptions.{QueryOptions}
 use Rattle.debctl_args.specs.declared.jobs.Dependents.{Dependents}
 use Rattle.debctl_args.specs.declared.jobs.Detail.{Detail}
+use Rattle.debctl_args.specs.declared.jobs.DiffDetail.{DiffDetail}
+use Rattle.debctl_args.specs.declared.jobs.DiffKind.{DiffKind}
 use Rattle.debctl_args.specs.declared.jobs.Job.{Job}
-use Rattle.debctl_args.specs.declared.jobs.Job.TheVariants.{Query, QueryFrom, Unmet}
+use Rattle.debctl_args.specs.declared.jobs.Job.TheVariants.{Diff, Query, QueryFrom, Unmet}
+
+-- what is reported of a job is reported of an equal one
+pub reported_as : {W E : Type 0} (job other : Job) → job ≡ other → (first second : ReaderOfJob) (out : WriterOfJob W) (err : WriterOfJob E) (status : ℕ) → Reported other first second out err status → Reported job first second out err status
+reported_as job other is first second out err status reported = subst (λ (asked : Job). Reported asked first second out err status) (sym is) reported
+
+-- the options of `diff` are those of its job
+pub reported_diff : {W E : Type 0} (job : Job) (kind : DiffKind) (detail : DiffDetail) (versions : VersionText) → job ≡ Diff kind detail versions → (options : DiffOptions) → options ≡ record { kind = kind; form = form_asked detail versions }
+    → (first second : ReaderOfJob) (out : WriterOfJob W) (err : WriterOfJob E) (status : ℕ) → Ends (sided yes_or_no (FindsChanges options.kind options.form)) first second out err status → Reported job first second out err status
+reported_diff job kind detail versions is options options_are first second out err status reports =
+    reported_as job (Diff kind detail versions) is first second out err status (subst (λ (given : DiffOptions). Ends (sided yes_or_no (FindsChanges given.kind given.form)) first second out err status) options_are reports)
 
 -- the words of a query are those of its job
+pub reported_query : {W E : Type 0} (job : Job) (arch : String Global) (profiles : Vec (String Global) Global) (relation : String Global) (detail : Detail) (versions : VersionText) → job ≡ Query arch profiles relation detail versions
+    → (target : List ℕ) (items : List (String Global)) (word : List ℕ) → target ≡ string_bytes arch → items ≡ profiles.items → word ≡ string_bytes relation → (wanted : QueryOptions) → wanted ≡ query_options detail versions
+    → (first second : ReaderOfJob) (out : WriterOfJob W) (err : WriterOfJob E) (status : ℕ) → Ends (plain yes_or_no (of_file (QueriesFile wanted (question target (map string_bytes items) word)))) first second out err status → Reported job first second out err status
+reported_query job arch profiles relation detail versions is target items word target_is items_is word_is wanted wanted_is first second out err status reports =
+    let question_is : question target (map string_bytes items) word ≡ asked arch profiles relation = rw (target_is, items_is, word_is) refl in
+    reported_as job (Query arch profiles relation detail versions) is first second out err status
+    (subst (λ (q : Question). Ends (plain yes_or_no (of_file (QueriesFile (query_options detail versions) q))) first second out err status) question_is
+    (subst (λ (options : QueryOptions). Ends (plain yes_or_no (of_file (QueriesFile options (question target (map string_bytes items) word)))) first second out err status) wanted_is reports))
+
 pub refused_words : (job : Job) (arch : String Global) (profiles : Vec (String Global) Global) (relation : String Global) (detail : Detail) (versions : VersionText) → job ≡ Query arch profiles relation detail versions
     → (target : List ℕ) (items : List (String Global)) (word : List ℕ) → target ≡ string_bytes arch → items ≡ profiles.items → word ≡ string_bytes relation
     → (P : Type 0) → (AreRefused (question target (map string_bytes items) word) → P) → IfRefusedWords job P
