@@ -4,7 +4,7 @@ use Rattle.std.proofs.Common.{◌≡◌, ◌∙◌, ◌<◌, ◌+◌, ◌++◌, 
 use Rattle.std.proofs.lemmas.List.{map-append, take_more}
 use Rattle.clap.specs.Built.{AddsArg, AddsSubcommand}
 use Rattle.clap.specs.Simple.{App, Shape, with_rule, with_subcommand}
-use Rattle.clap.specs.Walk.{Rule, Text, is_empty, rule_of}
+use Rattle.clap.specs.Walk.{Rule, Text, rule_of}
 use Rattle.clap.specs.declared.builder.arg.Arg.{Arg}
 use Rattle.clap.specs.declared.builder.command.Command.{Command}
 use Rattle.debctl_args.specs.Commands.{CommandRow, app_of_row, app_with, program_of, program_with, row_in, rule_in, IsShaped}

@@ -4,7 +4,7 @@ use Rattle.std.specs.Prelude.{◌≡◌, ℕ, Bool, true, false, List, [], ◌�
 use Rattle.std.specs.List.{list_any}
 use Rattle.clap.specs.Lexer.{usize_max}
 use Rattle.clap.specs.Simple.{App, Shape, app_of, new_app, new_rule, new_shape, on_top}
-use Rattle.clap.specs.Walk.{Rule, Text, is_empty}
+use Rattle.clap.specs.Walk.{Rule, Text}
 use Rattle.clap.specs.declared.builder.range.ValueRange.{ValueRange}
 use Rattle.deb_base.specs.Literals.{lent}
 use Rattle.debctl_args.specs.declared.options.Argument.{Argument}
@@ -161,12 +161,17 @@ app_with name rules = on_top (λ s. record s { rules = rules }) (new_app name)
 abbrev pub app_of_row : CommandRow → App
 app_of_row row = app_with row.name row.rules
 
+-- there is no command
+abbrev pub has_none : List Shape → Bool
+has_none [] = true
+has_none (command ∷ commands) = false
+
 -- the program with these commands: it has a version and asks for a command, and `help` is one of
 -- its own
 abbrev pub program_with : List Shape → App
 program_with commands = record {
   top = record (new_shape (codes "debctl")) {
-    is_leaf = is_empty commands;
+    is_leaf = has_none commands;
     has_version = true;
     subcommand_required = true;
     disable_help_subcommand = true;
