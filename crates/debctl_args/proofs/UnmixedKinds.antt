@@ -17,7 +17,7 @@ use Rattle.clap.specs.declared.builder.action.ArgAction.{ArgAction}
 use Rattle.clap.specs.declared.builder.action.ArgAction.TheVariants as action
 use Rattle.clap.specs.declared.builder.value_parser.ValueParser.{ValueParser}
 use Rattle.clap.specs.declared.error.kind.ErrorKind.{ErrorKind}
-use Rattle.debctl_args.specs.Asked.{has_mistake, has_request, is_request_kind}
+use Rattle.debctl_args.specs.Fitting.{has_mistake, has_request, is_request_kind}
 
 -- no mistake stands beside a call for help or the version
 pub record Unmixed (kinds : Kinds) : Type 0 where

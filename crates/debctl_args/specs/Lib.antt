@@ -2,4 +2,5 @@ pub mod Asked
 pub mod AskedCases
 pub mod Commands
 pub mod ExplainAuditCases
+pub mod Fitting
 pub mod RequestCases

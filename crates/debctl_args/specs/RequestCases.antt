@@ -4,7 +4,8 @@ use Rattle.std.specs.Prelude.{◌≡◌, ℕ, [], ◌∷◌, map, Option, Some, 
 use Rattle.std.specs.declared.alloc.Global.{Global}
 use Rattle.clap.specs.declared.error.kind.ErrorKind.TheVariants as kind
 use Rattle.deb_base.specs.declared.code.Code.TheVariants as code
-use Rattle.debctl_args.specs.Asked.{audits, canonicalises, checks, checks_all, checks_whole, compares, document_of, explain_takes_one, explains, explains_all, explains_relation, explains_version, finds_changes, finds_unmet, first_or_whole, has_mistake, has_request, is_request_kind, keys, kind_of_path, listed, no_names, no_number, no_recommends, no_relations, normalises, paths, paths_or_list, queries, queries_from, reads_of, relation_or_file, request_of, sorts, standard_input_twice, explains_rule, compares_files, unknown_code, unknown_command, unknown_kind, unknown_operator, wanted_of, IsUsage, Request, FitsKind, Wanted}
+use Rattle.debctl_args.specs.Asked.{audits, canonicalises, checks, checks_all, checks_whole, compares, document_of, explain_takes_one, explains, explains_all, explains_relation, explains_version, finds_changes, finds_unmet, first_or_whole, keys, kind_of_path, listed, no_names, no_number, no_recommends, no_relations, normalises, paths, paths_or_list, queries, queries_from, reads_of, relation_or_file, request_of, sorts, standard_input_twice, explains_rule, compares_files, unknown_code, unknown_command, unknown_kind, unknown_operator, wanted_of, Request, Wanted}
+use Rattle.debctl_args.specs.Fitting.{has_mistake, has_request, is_request_kind, IsUsage, FitsKind}
 use Rattle.debctl_args.specs.declared.jobs.Demands.{Demands}
 use Rattle.debctl_args.specs.declared.jobs.Explain.TheVariants as explain
 use Rattle.debctl_args.specs.declared.jobs.Files.{Files}

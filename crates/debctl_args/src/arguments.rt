@@ -2,7 +2,8 @@
 
 ghost use Rattle.std.specs.Prelude.{◌≡◌, [], Some, None, map, true, string_bytes, IfOk, IfErr, option_copied, option_map};
 ghost use Rattle.clap.specs.Words.{fault_of, found_of, has_subcommand, kind_of, rows_of, subcommand_rows_of, takes};
-ghost use Rattle.debctl_args.specs.Asked.{asked_in, asked_of, asks, audit_asked, canon_version_asked, check_asked, checks_to, debctl_app, demands_asked, compare_asked, diff_asked, diff_of_files, explain_asked, file_explained, help_asked, is_demanding, query_asked, query_of_file, query_of_word, relation_asked, request_of, rule_asked, same_asked, sort_asked, text_asked, unmet_asked, unmet_of_files, unmet_of_path, unmet_of_sources, version_asked, version_key_asked, wanted_of, word_in, Answers, AnswersError, AnswersMet, IsHelp, MeansError, Request, FitsKind, UsesText};
+ghost use Rattle.debctl_args.specs.Asked.{asked_in, asked_of, asks, audit_asked, canon_version_asked, check_asked, checks_to, debctl_app, demands_asked, compare_asked, diff_asked, diff_of_files, explain_asked, file_explained, help_asked, is_demanding, query_asked, query_of_file, query_of_word, relation_asked, request_of, rule_asked, same_asked, sort_asked, text_asked, unmet_asked, unmet_of_files, unmet_of_path, unmet_of_sources, version_asked, version_key_asked, wanted_of, word_in, Request};
+ghost use Rattle.debctl_args.specs.Fitting.{Answers, AnswersError, AnswersMet, IsHelp, MeansError, FitsKind, UsesText};
 
 use crate::code_argument::code_named;
 use crate::commands::{command_of, debctl_command, kinds_help, row_named};

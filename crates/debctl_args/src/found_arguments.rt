@@ -2,7 +2,8 @@
 
 ghost use Rattle.std.specs.Prelude.{◌≡◌, nat_lt, count_by, map, codes, string_bytes, option_map, IfOk, option_copied};
 ghost use Rattle.clap.specs.Words.{all_of, first_of, found_of, rows_of};
-ghost use Rattle.debctl_args.specs.Asked.{comma_pieces, detail_asked, diff_detail_asked, end_asked, extent_asked, flag_asked, has_input_beside, index_asked, is_standard_input, kind_asked, least_asked, names_file, packages_in, profiles_asked, strength_in, texts_asked, versions_asked, word_in, MeansKind, MeansLeast};
+ghost use Rattle.debctl_args.specs.Asked.{comma_pieces, detail_asked, diff_detail_asked, end_asked, extent_asked, flag_asked, has_input_beside, index_asked, is_standard_input, kind_asked, least_asked, names_file, packages_in, profiles_asked, strength_in, texts_asked, versions_asked, word_in};
+ghost use Rattle.debctl_args.specs.Fitting.{MeansKind, MeansLeast};
 
 use crate::arguments::{UsageFault, usage};
 use crate::jobs::{Dependents, Detail, DiffDetail, Extent, LineEnd, Strength};

@@ -2,7 +2,8 @@
 
 ghost use Rattle.std.specs.Prelude.{◌≡◌, map};
 ghost use Rattle.clap.specs.Words.{found_of, rows_of};
-ghost use Rattle.debctl_args.specs.Asked.{asked_by, commands, document_asked, normalises, Answers};
+ghost use Rattle.debctl_args.specs.Asked.{asked_by, commands, document_asked, normalises};
+ghost use Rattle.debctl_args.specs.Fitting.{Answers};
 ghost use Rattle.debctl_args.specs.Commands.{row_in};
 
 use crate::arguments::{

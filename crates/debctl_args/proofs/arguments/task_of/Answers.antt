@@ -6,7 +6,8 @@ use Rattle.clap.specs.Walk.{Row, Text}
 use Rattle.clap.specs.Words.{found_of, rows_of, subcommand_name_of}
 use Rattle.clap.specs.declared.parser.matches.ArgMatches.TheViews.{out-ArgMatches, out-SubCommand}
 use Rattle.clap.specs.declared.parser.matches.SubCommand.{SubCommand}
-use Rattle.debctl_args.specs.Asked.{asked_in, AnswersMet}
+use Rattle.debctl_args.specs.Asked.{asked_in}
+use Rattle.debctl_args.specs.Fitting.{AnswersMet}
 use Rattle.debctl_args.proofs.arguments.task_of.Goals as goal
 
 -- the name and the rows of a command that was met are those two that were told
