@@ -6,8 +6,7 @@ use Rattle.clap.specs.Faults.{fault_of}
 use Rattle.clap.specs.Takes.{takes}
 use Rattle.clap.specs.Walk.{Text}
 use Rattle.clap.specs.declared.error.kind.ErrorKind.TheVariants as kind
-use Rattle.debctl_args.specs.Asked.{debctl_app, asked_of, asks, asks_help, audits, code_named, explain_takes_one, explains, explains_all, explains_relation, explains_version, listed, paths, paths_or_list, explains_rule, unknown_code, canonicalises, checks, checks_all, checks_whole, comma_pieces, compares, finds_changes, finds_unmet, first_or_whole, keys, kind_asked, kind_of_path, no_names, no_number, no_recommends, no_relations, normalises, number_named, profiles_asked, queries, queries_from, relation_or_file, sorts, compares_files, unknown_command, unknown_kind, unknown_operator, standard_input_twice, operator_named, Asked}
-use Rattle.deb_base.specs.declared.code.Code.TheVariants as code
+use Rattle.debctl_args.specs.Asked.{debctl_app, asked_of, asks, asks_help, canonicalises, checks, checks_all, checks_whole, comma_pieces, compares, finds_changes, finds_unmet, first_or_whole, keys, kind_asked, kind_of_path, no_names, no_number, no_recommends, no_relations, normalises, number_named, profiles_asked, queries, queries_from, relation_or_file, sorts, compares_files, unknown_command, unknown_kind, unknown_operator, standard_input_twice, operator_named, Asked}
 use Rattle.deb_base.specs.declared.doc.Doc.TheVariants.{Any, Binary, Packages, Source, Sources}
 use Rattle.deb_base.specs.declared.version_text.VersionText.TheVariants.{Canonical, Spelled}
 use Rattle.debctl_args.specs.declared.jobs.Cmp.TheVariants as cmp
@@ -18,9 +17,6 @@ use Rattle.debctl_args.specs.declared.jobs.DiffDetail.{DiffDetail}
 use Rattle.debctl_args.specs.declared.jobs.DiffDetail.TheVariants.{Fields, Values}
 use Rattle.debctl_args.specs.declared.jobs.DiffKind.{DiffKind}
 use Rattle.debctl_args.specs.declared.jobs.DiffKind.TheVariants as diffed
-use Rattle.debctl_args.specs.declared.jobs.Extent.{Extent}
-use Rattle.debctl_args.specs.declared.jobs.Extent.TheVariants.{First, All}
-use Rattle.debctl_args.specs.declared.jobs.LineEnd.TheVariants.{Newline, Nul}
 use Rattle.debctl_args.specs.declared.jobs.Strength.TheVariants.{Depends, Recommends}
 
 -- the program's name, and the arguments after it

@@ -2,24 +2,13 @@
 use Rattle.std.specs.Fmt.{digits}
 use Rattle.std.specs.Prelude.{◌≡◌, List, [], map, ◌∷◌, Option, Some, None, true, false, codes, refl}
 use Rattle.clap.proofs.OnLiterals.{clap_on_literals}
-use Rattle.clap.specs.Faults.{fault_of}
-use Rattle.clap.specs.Takes.{takes}
 use Rattle.clap.specs.Walk.{Text}
-use Rattle.clap.specs.declared.error.kind.ErrorKind.TheVariants as kind
-use Rattle.debctl_args.specs.Asked.{debctl_app, asked_of, asks, asks_help, audits, code_named, explain_takes_one, explains, explains_all, explains_relation, explains_version, listed, paths, paths_or_list, explains_rule, unknown_code, canonicalises, checks, checks_all, comma_pieces, compares, finds_changes, finds_unmet, keys, kind_asked, kind_of_path, no_names, no_number, no_recommends, no_relations, normalises, profiles_asked, queries, queries_from, relation_or_file, sorts, compares_files, unknown_command, unknown_kind, unknown_operator, standard_input_twice, operator_named, Asked}
+use Rattle.debctl_args.specs.Asked.{asked_of, asks, audits, code_named, explain_takes_one, explains, explains_all, explains_relation, explains_version, listed, paths, paths_or_list, explains_rule, unknown_code, kind_asked, no_number, unknown_kind, standard_input_twice, Asked}
 use Rattle.deb_base.specs.declared.code.Code.TheVariants as code
-use Rattle.deb_base.specs.declared.doc.Doc.TheVariants.{Any, Binary, Packages, Source, Sources}
-use Rattle.debctl_args.specs.declared.jobs.Cmp.TheVariants as cmp
+use Rattle.deb_base.specs.declared.doc.Doc.TheVariants.{Any, Packages, Source, Sources}
 use Rattle.debctl_args.specs.declared.jobs.Demands.{Demands}
-use Rattle.debctl_args.specs.declared.jobs.Dependents.TheVariants as dependents
-use Rattle.debctl_args.specs.declared.jobs.Detail.TheVariants.{Verdicts, Reasons}
-use Rattle.debctl_args.specs.declared.jobs.DiffDetail.{DiffDetail}
-use Rattle.debctl_args.specs.declared.jobs.DiffDetail.TheVariants.{Fields, Values}
-use Rattle.debctl_args.specs.declared.jobs.DiffKind.{DiffKind}
-use Rattle.debctl_args.specs.declared.jobs.DiffKind.TheVariants as diffed
 use Rattle.debctl_args.specs.declared.jobs.Extent.TheVariants.{First, All}
 use Rattle.debctl_args.specs.declared.jobs.LineEnd.TheVariants.{Newline, Nul}
-use Rattle.debctl_args.specs.declared.jobs.Strength.TheVariants.{Depends, Recommends}
 
 -- the program's name, and the arguments after it
 abbrev line : List Text → List Text
