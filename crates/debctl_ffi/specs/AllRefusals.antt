@@ -13,6 +13,7 @@ use Rattle.deb_base.specs.declared.doc.Doc.TheVariants.{Binary, Packages}
 use Rattle.deb_base.specs.declared.refusal.Refusal.{Refusal}
 use Rattle.deb_control.specs.Calls.{HasParagraphs}
 use Rattle.deb_control.specs.Documents.{refusal_of}
+use Rattle.deb_explain.specs.Escapes.{escaped_byte}
 use Rattle.deb_explain.specs.Explanations.{WhyRefused}
 use Rattle.deb_explain.specs.Paths.{is_hidden, path_byte}
 use Rattle.deb_explain.specs.Texts.{code_lines, line_number, path_line, rule_line, rule_lines, subject_text, usually_line}
@@ -59,7 +60,7 @@ worked-lines : (all_lines Packages [] ≡ codes "ok 0, 0 refused\n")
     ++ (rule_lines NoParagraph ++ codes "\nok 0, 1 refused\n"))
     × (explained_lines (codes "a") Binary [] ≡ codes "file: a\n" ++ all_lines Binary [])
 unfolding file_limit paragraph_limit is_utf8 chars encode digits line_number code_lines
-    subject_text rule_lines rule_line usually_line path_line is_hidden path_byte
+    subject_text rule_lines rule_line usually_line path_line is_hidden path_byte escaped_byte
 worked-lines = (refl, refl, refl)
 
 -- ---- what is found in a file
