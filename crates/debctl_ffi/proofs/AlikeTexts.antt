@@ -1,5 +1,5 @@
 -- Texts that have the same answers, whatever follows them.
-use Rattle.std.proofs.Common.{◌≡◌, ℕ, ◌+◌, ◌-◌, ◌<◌, ◌≤◌, ◌∙◌, ◌⊎◌, inl, inr, true, List, [], ◌∷◌, ◌++◌, length, drop, map, Option, Some, None, Ok, refl, sym, ap, subst, append_assoc, append-nil, arith}
+use Rattle.std.proofs.Common.{◌≡◌, ℕ, ◌+◌, ◌-◌, ◌<◌, ◌≤◌, ◌∙◌, ◌⊎◌, inl, inr, List, [], ◌∷◌, ◌++◌, length, drop, map, Some, refl, sym, ap, subst, append_assoc, append-nil, arith}
 use Rattle.std.proofs.lemmas.List.{append_cancel_right, length-append, length-map}
 use Rattle.deb_base.specs.Bodies.{file_limit}
 use Rattle.deb_base.specs.declared.doc.Doc.{Doc}
@@ -22,13 +22,12 @@ use Rattle.deb_control.specs.ValueFiles.{body_under}
 use Rattle.deb_control.proofs.Accepting.{outcome-accepted}
 use Rattle.deb_control.proofs.CheckedSoFar.{has_paragraphs}
 use Rattle.deb_control.proofs.DocumentRules.{document_rules}
-use Rattle.debctl_ffi.specs.Blanks.{AreBlankLines, DropsBlanks, is_closing}
+use Rattle.debctl_ffi.specs.Blanks.{AreBlankLines, DropsBlanks}
 use Rattle.debctl_ffi.specs.Alike.{AnswerAlike}
-use Rattle.debctl_ffi.specs.Feeds.{ArePassing, HasRead, ReadsAll, ReadsToEnd, Refuses, RefusesOn}
+use Rattle.debctl_ffi.specs.Feeds.{ArePassing, HasRead, ReadsToEnd, RefusesOn}
 use Rattle.deb_control.specs.GivenParagraphs.{AreNext}
 use Rattle.deb_control.proofs.FollowedParagraphs.{all-follow, follow-all}
 use Rattle.debctl_ffi.specs.declared.field.Tables.{Tables}
-use Rattle.debctl_ffi.specs.declared.answer.Answer.{Answer}
 use Rattle.deb_base.specs.declared.refusal.Refusal.{Refusal}
 use Rattle.debctl_ffi.proofs.BlankTexts.{closed-after, closing-some}
 

@@ -1,5 +1,5 @@
 -- Numbers that ask something don't ask nothing.
-use Rattle.std.proofs.Common.{◌≡◌, ◌≤◌, ◌<◌, ℕ, Bool, inl, inr, arith, subst}
+use Rattle.std.proofs.Common.{◌≡◌, ◌≤◌, ◌<◌, ℕ, Bool, inl, inr, arith}
 use Rattle.std.specs.Prelude.{IsTrue}
 use Rattle.deb_unmet.specs.Asked.{doc_of}
 use Rattle.deb_unmet.specs.declared.asked.Asked.{Asked}

@@ -1,6 +1,6 @@
 -- What is known of a report for the words that ask for it, where it is known for the question that
 -- was parsed from them.
-use Rattle.std.proofs.Common.{◌≡◌, ◌∙◌, ℕ, Bool, List, Result, Ok, Err, ap, refl}
+use Rattle.std.proofs.Common.{◌∙◌, ℕ, Bool, List, Result, Ok, Err, ap, refl}
 use Rattle.std.specs.Prelude.{IfErr, IfOk, Vec}
 use Rattle.std.specs.Global.{Global}
 use Rattle.deb_base.specs.Faults.{RefusedOrMemory}

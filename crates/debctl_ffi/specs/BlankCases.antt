@@ -1,5 +1,5 @@
 -- Worked cases of blank lines that are only counted.
-use Rattle.std.specs.Prelude.{◌≡◌, true, false, [], ◌∷◌, codes, refl}
+use Rattle.std.specs.Prelude.{◌≡◌, true, false, [], codes, refl}
 use Rattle.std.proofs.Common.{arith}
 use Rattle.deb_base.specs.Bodies.{paragraph_limit}
 use Rattle.debctl_ffi.specs.Blanks.{AreBlankLines, DropsBlanks, blank_text, blank_text_from, is_closing, share_of}

@@ -1,7 +1,7 @@
 -- Blank lines that are only counted: Debian Policy 5.1. That they aren't kept is this project's
 -- own.
-use Rattle.std.specs.Prelude.{◌≡◌, ℕ, zero, suc, ◌+◌, ◌-◌, ◌*◌, ◌≤◌, ◌==◌, ◌&&◌, ◌||◌, Bool, true, false, IsTrue, cond, min, nat_le, List, [], ◌∷◌, ◌++◌, length, take, drop, replicate, codes, refl}
-use Rattle.deb_base.specs.Bodies.{newline, paragraph_limit}
+use Rattle.std.specs.Prelude.{◌≡◌, ℕ, zero, suc, ◌+◌, ◌-◌, ◌*◌, ◌≤◌, ◌&&◌, Bool, true, cond, min, nat_le, List, [], ◌∷◌, ◌++◌, length, replicate}
+use Rattle.deb_base.specs.Bodies.{newline}
 use Rattle.deb_syntax.specs.Extents.{AreBlank}
 use Rattle.deb_syntax.specs.Lines.{ends_blank, ends_line, lines_of}
 

@@ -1,7 +1,7 @@
 -- What is answered to a program in C of why a text isn't a relation, or isn't a version: Debian
 -- Policy 5.6.12 and 7.1. The lines are those of `debctl explain --relation` and `--version-text`;
 -- their form is this project's own.
-use Rattle.std.specs.Prelude.{◌≡◌, ◌⊎◌, ℕ, List, Option, Some, None, codes, refl}
+use Rattle.std.specs.Prelude.{◌≡◌, ◌⊎◌, ℕ, List, Some, codes, refl}
 use Rattle.deb_base.specs.declared.refusal.Refusal.{Refusal}
 use Rattle.deb_explain.specs.Causes.{word_cause, word_code}
 use Rattle.deb_explain.specs.Texts.{word_text}

@@ -1,4 +1,4 @@
-use Rattle.std.proofs.Common.{◌≡◌, ◌∙◌, ◌-◌, ◌≤◌, ◌+◌, ◌++◌, length, drop, take, subst, ap, arith}
+use Rattle.std.proofs.Common.{◌≡◌, ◌∙◌, ◌-◌, ◌++◌, length, drop, take, subst, ap, arith}
 use Rattle.std.proofs.lemmas.List.{take_rest}
 use Rattle.debctl_ffi.specs.Blanks.{AreBlankLines}
 use Rattle.debctl_ffi.proofs.BlankTexts.{drops, drops-from}

@@ -1,4 +1,4 @@
-use Rattle.std.proofs.Common.{◌≡◌, ◌∙◌, ◌-◌, ◌≤◌, ◌+◌, ◌++◌, inr, length, drop, take, subst, ap, arith}
+use Rattle.std.proofs.Common.{◌≡◌, ◌∙◌, ◌-◌, ◌≤◌, ◌++◌, inr, length, drop, take, subst, ap, arith}
 use Rattle.std.proofs.lemmas.List.{take_rest}
 use Rattle.deb_base.specs.Bodies.{HasNoNewline, paragraph_limit}
 use Rattle.debctl_ffi.specs.Blanks.{blank_text}
