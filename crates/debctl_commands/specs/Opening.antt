@@ -14,9 +14,12 @@ use Rattle.debctl_commands.specs.declared.file_or_nothing.FileOrNothing.TheVaria
 use Rattle.debctl_commands.specs.declared.opening.Both.{Both}
 use Rattle.debctl_commands.specs.declared.unopened.Unopened.{Unopened}
 use Rattle.debctl_commands.specs.declared.unopened.Unopened.TheVariants.{NotFound}
+use Rattle.debctl_args.specs.Asked.{reads_of}
 use Rattle.debctl_args.specs.declared.jobs.Call.{Call}
 use Rattle.debctl_args.specs.declared.jobs.Job.{Job}
 use Rattle.debctl_args.specs.declared.jobs.Job.TheVariants.{Check, CheckAll, CheckWhole, Normalise, Same, Diff}
+use Rattle.debctl_args.specs.declared.jobs.Reads.{Reads}
+use Rattle.debctl_args.specs.declared.jobs.Reads.TheVariants as reads
 use Rattle.debctl_args.specs.declared.jobs.Job.TheVariants.{Compare, CanonVersion, Sort, Query, QueryFrom}
 use Rattle.debctl_args.specs.declared.jobs.Job.TheVariants.{Unmet, VersionKey}
 
@@ -28,21 +31,13 @@ standard_input = codes "-"
 
 -- the path of the first file that a job reads, by the path that it was given: one on a single file
 -- reads standard input without one
+abbrev pub first_by : Reads → Option (List ℕ) → Option (List ℕ)
+first_by reads.OneFile path = Some (unwrap_or path standard_input)
+first_by reads.Paths path = path
+first_by reads.Nothing path = None
+
 abbrev pub first_of_job : Job → Option (List ℕ) → Option (List ℕ)
-first_of_job (Check doc) path = Some (unwrap_or path standard_input)
-first_of_job (CheckAll doc) path = Some (unwrap_or path standard_input)
-first_of_job (CheckWhole doc demands) path = Some (unwrap_or path standard_input)
-first_of_job (Normalise doc) path = Some (unwrap_or path standard_input)
-first_of_job (Same doc) path = path
-first_of_job (Diff kind detail versions) path = path
-first_of_job (Compare left operator right) path = None
-first_of_job (CanonVersion version) path = None
-first_of_job (VersionKey versions) path = None
-first_of_job (Sort reverse) path = Some (unwrap_or path standard_input)
-first_of_job (Query arch profiles relation detail versions) path =
-    Some (unwrap_or path standard_input)
-first_of_job (QueryFrom arch profiles detail versions) path = path
-first_of_job (Unmet arch profiles dependents versions) path = path
+first_of_job job path = first_by (reads_of job) path
 
 -- the path of the first file of a call, and that of the second one, where it has one
 abbrev pub first_path : Call → Option (List ℕ)

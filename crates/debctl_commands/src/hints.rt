@@ -113,8 +113,6 @@ fn refused_file(call: &Call, about: About) -> Option<(&str, Doc)> {
 /// Returns the kind of a file of a job, if it is a document.
 fn kind_of_file(job: &Job, about: About) -> Option<Doc> {
     match job {
-        Job::Check(doc) | Job::Normalise(doc) | Job::Same(doc) => Some(*doc),
-        Job::CheckWhole { doc, .. } => Some(*doc),
         Job::Diff { kind, .. } => Some(match kind {
             DiffKind::Packages => Doc::Packages,
             DiffKind::Binary => Doc::Binary,
@@ -128,7 +126,7 @@ fn kind_of_file(job: &Job, about: About) -> Option<Doc> {
             (About::Second, Dependents::Source) => Doc::Source,
             _ => Doc::Packages,
         }),
-        _ => None,
+        _ => job.document(),
     }
 }
 

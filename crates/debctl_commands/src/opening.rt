@@ -14,7 +14,7 @@ use crate::opens::Opens;
 use crate::reporting::report_fault;
 use crate::unopened::Unopened;
 use deb_base::{Fault, Sink};
-use debctl_args::{Call, Job};
+use debctl_args::{Call, Reads};
 use std::alloc::Global;
 
 /// The two files of a job, where it has them.
@@ -28,9 +28,9 @@ pub struct Both<R> {
 /// [`run`](crate::run) does: the first one is its first, and the second one its second. Returns the
 /// status.
 ///
-/// `check`, `normalise`, `sort` and `query` without a path have standard input as their first file,
-/// which is opened as `-`. Where a file can't be opened, no other is opened after it: `fault: read`
-/// is written on `err`, or a prefix of it where a write on `err` failed, and the status is 3.
+/// A job on one file without a path has standard input as its first file, which is opened as `-`.
+/// Where a file can't be opened, no other is opened after it: `fault: read` is written on `err`, or
+/// a prefix of it where a write on `err` failed, and the status is 3.
 /// At most 4,295,032,831 bytes are read from each file: a file of the most bytes, and one piece.
 pub fn run_call<F: Opens, W: Sink, E: Sink>(
     alloc: Global,
@@ -116,15 +116,10 @@ fn first_path(call: &Call) -> Option<&[u8]>
     ensures { option_map (λ path. path.now) result ≡ first_path call.now }
 {
     let path = path_of(&call.first);
-    match &call.job {
-        Job::Check(_)
-        | Job::CheckAll(_)
-        | Job::CheckWhole { .. }
-        | Job::Normalise(_)
-        | Job::Sort { .. }
-        | Job::Query { .. } => { Some(path.unwrap_or(b"-")) }
-        Job::Same(_) | Job::Diff { .. } | Job::QueryFrom { .. } | Job::Unmet { .. } => path,
-        Job::Compare(..) | Job::CanonVersion(_) | Job::VersionKey(_) => None,
+    match call.job.reads() {
+        Reads::OneFile => Some(path.unwrap_or(b"-")),
+        Reads::Paths => path,
+        Reads::Nothing => None,
     }
 }
 
