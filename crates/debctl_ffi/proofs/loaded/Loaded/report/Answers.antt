@@ -9,8 +9,11 @@ pub returns-in-Ok-true-default-clause-answers : goal.returns-in-Ok-true-default-
 returns-in-Ok-true-default-clause-answers c = inl (record {
   told = c.yes.result;
   items = c.deref.result.now;
-  found = inl (c.yes.ensures, λ text holds. rw (c.in-Ok-true-default.field-0-0-test, sym c.deref.ensures.value) at (
-      c.in-Ok-true-default.ensures.ok text (lists_held text c.args.self.now c.in-Some.index c.in-Some.is holds)));
+  found = inl (
+    c.yes.ensures,
+    λ text holds. rw (c.in-Ok-true-default.field-0-0-test, sym c.deref.ensures.value) at (
+        c.in-Ok-true-default.ensures.ok text (lists_held text c.args.self.now c.in-Some.index c.in-Some.is holds)),
+  );
   replies = c.reply.ensures;
 })
 
@@ -18,8 +21,11 @@ pub returns-in-Ok-false-default-clause-answers : goal.returns-in-Ok-false-defaul
 returns-in-Ok-false-default-clause-answers c = inl (record {
   told = c.no.result;
   items = c.deref-in-Ok-false-default.result.now;
-  found = inr (c.no.ensures, λ text holds. rw (c.in-Ok-false-default.field-0-0-test, sym c.deref-in-Ok-false-default.ensures.value) at (
-      c.in-Ok-false-default.ensures.ok text (lists_held text c.args.self.now c.in-Some.index c.in-Some.is holds)));
+  found = inr (
+    c.no.ensures,
+    λ text holds. rw (c.in-Ok-false-default.field-0-0-test, sym c.deref-in-Ok-false-default.ensures.value) at (
+        c.in-Ok-false-default.ensures.ok text (lists_held text c.args.self.now c.in-Some.index c.in-Some.is holds)),
+  );
   replies = c.reply-in-Ok-false-default.ensures;
 })
 
