@@ -1,5 +1,5 @@
 -- The lines of the keys of versions, one after another.
-use Rattle.std.proofs.Common.{◌≡◌, ◌<◌, ◌+◌, ◌++◌, ℕ, List, [], ◌∷◌, Err, Vec, length, map, take, get_or, String, Global, string_bytes, inl, inr, ap, sym, refl, subst, ◌∙◌, arith, zero, suc, append_assoc, append-nil}
+use Rattle.std.proofs.Common.{◌≡◌, ◌<◌, ◌+◌, ◌++◌, ℕ, List, [], ◌∷◌, Err, Vec, length, map, take, get_or, String, Global, string_bytes, inl, inr, ap, sym, subst, ◌∙◌, arith, zero, suc, append_assoc, append-nil}
 use Rattle.std.proofs.lemmas.List.{map_more}
 use Rattle.deb_base.specs.declared.fault.Fault.{Fault}
 use Rattle.deb_base.specs.declared.fault.Fault.TheVariants.{Refused, Memory, Read, Write}

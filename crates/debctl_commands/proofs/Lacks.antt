@@ -1,14 +1,12 @@
 -- From what is found of a file, and written, to what `check` with demands answers and reports.
-use Rattle.std.proofs.Common.{◌≡◌, ℕ, Bool, true, false, List, Option, Some, Result, Ok, Err, IfErr, refl, sym, ap, subst, ◌∙◌}
+use Rattle.std.proofs.Common.{◌≡◌, ℕ, Bool, true, false, List, Option, Ok, Err, refl, sym, ap, subst, ◌∙◌}
 use Rattle.std.specs.Prelude.{⊤, if◌then◌else◌, nat_lt}
-use Rattle.deb_base.specs.Devices.{read_failures_after, write_failures_after}
 use Rattle.deb_base.specs.declared.doc.Doc.{Doc}
 use Rattle.deb_base.specs.declared.fault.Fault.{Fault}
 use Rattle.deb_base.specs.declared.fault.Fault.TheVariants.{Refused, Memory, Read, Write}
 use Rattle.deb_control.specs.Calls.{HasParagraphs}
-use Rattle.debctl_commands.specs.DocumentJobs.{ok_line}
-use Rattle.debctl_commands.specs.Verdicts.{verdict_by, verdict_of, AnswersFile, Finds}
-use Rattle.debctl_commands.specs.WholeJob.{ChecksWhole, PutsVerdict, WritesVerdict}
+use Rattle.debctl_commands.specs.Verdicts.{verdict_by, verdict_of, AnswersFile}
+use Rattle.debctl_commands.specs.WholeJob.{ChecksWhole, PutsVerdict}
 use Rattle.debctl_commands.specs.declared.verdict.Verdict.{Verdict}
 use Rattle.debctl_commands.specs.declared.verdict.Verdict.TheVariants.{Whole, NoNewline, TooFew}
 use Rattle.debctl_args.specs.declared.jobs.Demands.{Demands}

@@ -1,12 +1,12 @@
 -- From what a job promises to what each status says.
-use Rattle.std.proofs.Common.{◌≡◌, ◌<◌, ℕ, List, Option, Result, Ok, Err, inl, inr, arith, refl, sym, ap, ◌∙◌}
+use Rattle.std.proofs.Common.{◌≡◌, ◌<◌, ℕ, Ok, Err, inl, inr, arith, refl, sym, ap, ◌∙◌}
 use Rattle.std.specs.Io.KnownBytes.{Appends}
 use Rattle.deb_base.specs.declared.fault.Fault.{Fault}
 use Rattle.deb_base.specs.declared.fault.Fault.TheVariants.{Refused, Memory, Read, Write}
 use Rattle.deb_base.specs.declared.refusal.Refusal.{Refusal}
 use Rattle.debctl_commands.specs.JobDevices.{ReaderOfJob, WriterOfJob}
 use Rattle.debctl_commands.specs.Promises.{Answers, Ends, HasStatus, Promise, Refuses, RefusesBy}
-use Rattle.debctl_commands.specs.Reporting.{Report, ReportsAs, ReportsFront, ReportsWhole, by_line, by_status, status_of}
+use Rattle.debctl_commands.specs.Reporting.{Report, ReportsAs, by_line, by_status, status_of}
 
 -- no fault has a status below 2
 faults_from_two : (fault : Fault) (status : ℕ) → status ≡ status_of fault → status < 2 → ⊥

@@ -1,5 +1,5 @@
 -- What was read of the file of a relation.
-use Rattle.std.proofs.Common.{◌≡◌, ◌⊎◌, ◌<◌, ◌≤◌, ◌++◌, ℕ, Bool, List, Option, Some, Result, Ok, Err, length, inl, inr, ap, ◌∙◌, refl, sym, subst, arith, append-nil, length-append}
+use Rattle.std.proofs.Common.{◌≡◌, ◌⊎◌, ◌<◌, ◌≤◌, ◌++◌, ℕ, Bool, List, Option, Result, Ok, Err, length, inl, inr, ap, ◌∙◌, refl, sym, subst, arith, append-nil, length-append}
 use Rattle.std.proofs.Math.Dec.{lit≤}
 use Rattle.deb_base.specs.Bodies.{paragraph_limit, file_limit}
 use Rattle.deb_base.specs.Lines.{fault_line}

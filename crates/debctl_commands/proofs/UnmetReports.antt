@@ -1,5 +1,5 @@
 -- What the answer of `unmet` says of the counts of failed calls.
-use Rattle.std.proofs.Common.{◌≡◌, ◌<◌, ℕ, List, length, Option, Some, Result, Ok, Err, inl, inr, arith, refl, ap, subst}
+use Rattle.std.proofs.Common.{◌≡◌, ◌<◌, ℕ, List, length, Some, Result, Ok, Err, inl, inr, arith, refl, ap, subst}
 use Rattle.std.specs.Prelude.{⊤}
 use Rattle.deb_base.specs.Devices.{read_failures_after, write_failures_after}
 use Rattle.deb_base.specs.declared.fault.Fault.{Fault}

@@ -17,11 +17,8 @@ use Rattle.debctl_commands.specs.declared.unopened.Unopened.TheVariants.{NotFoun
 use Rattle.debctl_args.specs.Asked.{reads_of}
 use Rattle.debctl_args.specs.declared.jobs.Call.{Call}
 use Rattle.debctl_args.specs.declared.jobs.Job.{Job}
-use Rattle.debctl_args.specs.declared.jobs.Job.TheVariants.{Check, CheckAll, CheckWhole, Normalise, Same, Diff}
 use Rattle.debctl_args.specs.declared.jobs.Reads.{Reads}
 use Rattle.debctl_args.specs.declared.jobs.Reads.TheVariants as reads
-use Rattle.debctl_args.specs.declared.jobs.Job.TheVariants.{Compare, CanonVersion, Sort, Query, QueryFrom}
-use Rattle.debctl_args.specs.declared.jobs.Job.TheVariants.{Unmet, VersionKey}
 
 -- ---- paths
 

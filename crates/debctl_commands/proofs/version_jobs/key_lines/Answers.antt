@@ -1,4 +1,4 @@
-use Rattle.std.proofs.Common.{[], ap, map, refl, string_bytes, subst, ◌++◌, ◌∙◌}
+use Rattle.std.proofs.Common.{[], map, string_bytes, subst}
 use Rattle.std.proofs.lemmas.List.{take_all}
 use Rattle.std.proofs.lemmas.Result.{err_from_is_err_and}
 use Rattle.debctl_commands.proofs.KeyLines.{KeysSoFar, keys_fault, keys_push}

@@ -1,4 +1,3 @@
-use Rattle.std.proofs.Common.{rules}
 use Rattle.debctl_commands.proofs.WholeReports.{unfailed}
 use Rattle.debctl_commands.proofs.whole_job.check_text.Goals as goal
 

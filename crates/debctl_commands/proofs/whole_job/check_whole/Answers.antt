@@ -1,4 +1,3 @@
-use Rattle.std.proofs.Common.{sym, ◌∙◌, rules}
 use Rattle.std.proofs.lemmas.Result.{err_from_is_err_and}
 use Rattle.debctl_commands.proofs.WholeReports.{answers_complete, found_plainly, not_accepted}
 use Rattle.debctl_commands.proofs.whole_job.check_whole.Goals as goal
