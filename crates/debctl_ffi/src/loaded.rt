@@ -27,7 +27,8 @@ pub struct Loaded {
 }
 
 impl Loaded {
-    ghost use Rattle.debctl_ffi.specs.Loads.{AsksNumbers, AsksPackage, AsksQuery, AsksUnmet, HoldsNone, IsLoading};
+    ghost use Rattle.debctl_ffi.specs.Loads.{AsksNumbers, AsksPackage, AsksQuery, AsksUnmet};
+    ghost use Rattle.debctl_ffi.specs.Loads.{HoldsNone, IsLoading};
 
     /// Reads an index. The answer is 0 with the number of packages, 2 with the refusal, or 5.
     pub(crate) fn read(alloc: Global, text: &[u8], answer: &mut Answer) -> Loaded
