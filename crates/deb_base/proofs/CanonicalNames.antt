@@ -1,5 +1,5 @@
 -- Names without ASCII case and their canonical spelling.
-use Rattle.std.proofs.Common.{◌≡◌, ℕ, Bool, true, false, eqb, List, [], ◌∷◌, refl, sym, ap, ◌∙◌, arith}
+use Rattle.std.proofs.Common.{◌≡◌, ℕ, Bool, true, false, eqb, List, [], ◌∷◌, length, refl, sym, ap, ◌∙◌, arith}
 use Rattle.std.proofs.lemmas.Bool.Decides.{nat_tests}
 use Rattle.std.specs.Char.{to_ascii_lowercase, to_ascii_uppercase}
 use Rattle.deb_base.specs.Names.{folded, capitalised, canonical_name}
@@ -47,3 +47,7 @@ canonical_name-from_folded a b same = sym (canonical_name-folded a) ∙ ap canon
 -- names with one canonical spelling are the same
 pub folded-from_canonical_name : (a b : List ℕ) → canonical_name a ≡ canonical_name b → folded a ≡ folded b
 folded-from_canonical_name a b same = sym (folded-canonical_name a) ∙ ap folded same ∙ folded-canonical_name b
+
+pub length-capitalised : (begins : Bool) (name : List ℕ) → length (capitalised begins name) ≡ length name
+length-capitalised begins [] = refl
+length-capitalised begins (c ∷ cs) = omega (arith, length-capitalised (eqb c 45) cs)

@@ -5,7 +5,7 @@ mod DocLookups
 pub mod FieldBytes
 pub mod FieldLookups
 mod BegunRows
-mod FirstRows
+mod LikelyRows
 mod NearRows
 pub mod GraphicBodies
 pub mod GraphicNames

@@ -10,8 +10,11 @@ use Rattle.std.proofs.lemmas.List.Sums.{prefix_len-le-length, prefix_len_passes}
 use Rattle.std.proofs.lemmas.Simd.{first_set_mask_l, get_or-chunk, get_or-zip2, length-chunk, length-zip2, mask_l-mod, tops_compared}
 use lib.Lanes.{chunk, zip2, mask_l, top}
 use Rattle.deb_base.specs.Kinds.{FieldRow, known_fields}
-use Rattle.deb_base.specs.KnownFields.{filled}
+use Rattle.deb_base.specs.KnownFields.{filled, row_for, row_in, IsAtFront}
 use Rattle.deb_base.specs.declared.kind.Kind.TheVariants.{Text}
+use Rattle.deb_base.specs.declared.known_fields.Row.{Row}
+use Rattle.deb_base.proofs.BegunRows.{IsBegun, at_front-begun}
+use Rattle.deb_base.proofs.FieldLookups.{filled_of_table, inside, length_of_canonical}
 
 abbrev differ : ℕ → ℕ → Bool
 differ a b = not (a == b)
@@ -53,26 +56,26 @@ module _ (text other : List ℕ) (r : ℕ) (room : 32 ≤ length text) (long : l
       let count : 0 + k ≡ k = omega arith in
       ap (λ i. get_or text i 0) (sym count) ∙ sym (get_or-chunk 0 32 text k 0 small) ∙ equal
 
--- the text begins with the name and a colon
-pub record BeginsWith (text name : List ℕ) : Type 0 where
-  pub within : length name < length text
-  pub colon : get_or text (length name) 0 ≡ 58
-  pub same : take (length name) text ≡ name
-
-module _ (text : List ℕ) (rows : List (List ℕ)) (none : List ℕ) (row r : ℕ) (of : FieldRow) (room : 32 ≤ length text) (inside : row < 54) (is : of ≡ get_or known_fields row ([], Text))
-    (most : r ≤ 32) (less : length of.0 < r) (rows_are : rows ≡ map filled known_fields) (same : (k : ℕ) → k < r → get_or text k 0 ≡ get_or (get_or rows row none) k 0) where
-  row_filled : get_or rows row none ≡ filled of
-  row_filled = ap (λ l. get_or l row none) rows_are ∙ get_or-map filled known_fields row ([], Text) none inside ∙ ap filled (sym is)
-
-  pub begins_with : BeginsWith text of.0
+module _ (text bytes : List ℕ) (r : ℕ) (of : FieldRow) (room : 32 ≤ length text) (most : r ≤ 32) (less : length of.0 < r) (is : bytes ≡ filled of)
+    (same : (k : ℕ) → k < r → get_or text k 0 ≡ get_or bytes k 0) where
+  begins_with : IsBegun text of.0
   begins_with = record {
     within = omega (arith, less, most, room);
-    colon = same (length of.0) less ∙ ap (λ xs. get_or xs (length of.0) 0) row_filled ∙ get_or-append_seam of.0 58 (replicate (31 - length of.0) 45) 0;
+    colon = same (length of.0) less ∙ ap (λ xs. get_or xs (length of.0) 0) is ∙ get_or-append_seam of.0 58 (replicate (31 - length of.0) 45) 0;
     same = same_lists (take (length of.0) text) of.0 (length-take-le (length of.0) text (omega (arith, less, most, room)))
         (λ k d small.
         let size = length-take-le (length of.0) text (omega (arith, less, most, room)) in
         let low : k < length of.0 = omega (arith, small, size) in
         get_or-take (length of.0) text k d low ∙ get_or_default_zero text k d (omega (arith, low, less, most, room))
-        ∙ same k (omega (arith, low, less)) ∙ ap (λ xs. get_or xs k 0) row_filled
+        ∙ same k (omega (arith, low, less)) ∙ ap (λ xs. get_or xs k 0) is
         ∙ get_or_append_left of.0 (58 ∷ replicate (31 - length of.0) 45) 0 k low ∙ sym (get_or_default_zero of.0 k d low));
   }
+
+-- more bytes of the code's row than its name has are those of the text
+pub near_row : (table : List Row) (is : map row_in table ≡ map row_for known_fields) (i : ℕ) (d : Row) → i < length table → (text : List ℕ) (r row : ℕ) → i ≡ row → 32 ≤ length text → r ≤ 32 → length (get_or table i d).canonical.now < r
+    → ((k : ℕ) → k < r → get_or text k 0 ≡ get_or (get_or table i d).filled k 0) → IsAtFront text (record { id = record { 0 = row }; len = length (get_or table i d).canonical.now })
+near_row table is i d within text r row is_row room most less same =
+    let e : FieldRow = ([], Text) in
+    let size = length_of_canonical table is i d within e in
+    at_front-begun text row i (length (get_or table i d).canonical.now) e is_row (inside table is i d within e) size
+    (begins_with text (get_or table i d).filled r (get_or known_fields i e) room most (omega (arith, size, less)) (filled_of_table table is i d within e) same)

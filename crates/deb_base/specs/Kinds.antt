@@ -92,6 +92,10 @@ known_fields =
     ∷ (codes "Version", Version)
     ∷ []
 
+-- how many rows there are
+abbrev pub row_count : ℕ
+row_count = 54
+
 -- the number of the first row that has the name, counted from 0 and without case; of no row: how
 -- many rows there are
 unfoldable pub known_row : List ℕ → ℕ
@@ -152,7 +156,7 @@ FieldsOfAnyAreTexts = (name : List ℕ) → kind_of docs.Any name ≡ Text
 -- Worked cases. Each name is written out here, and not taken from the table; the table has no more
 -- rows than there are names here.
 
-all_rows : length known_fields ≡ 54
+all_rows : length known_fields ≡ row_count
 all_rows = refl
 
 -- under a kind of document these fields have the kind
@@ -272,12 +276,12 @@ required_fields = (refl, refl, refl, refl, refl)
 
 -- each row has a name, and no two of them have one name
 pub names_of_rows : (list_all (λ row. is_name row.0) known_fields ≡ true)
-    × (map (λ row. known_row row.0) known_fields ≡ range_with_len 0 54)
+    × (map (λ row. known_row row.0) known_fields ≡ range_with_len 0 row_count)
 unfolding known_row
 names_of_rows = (refl, refl)
 
 rows_of_names : map known_row
     (codes "ARCHITECTURE" ∷ codes "package" ∷ codes "version" ∷ codes "Status" ∷ codes "Packag"
-    ∷ [] ∷ []) ≡ 0 ∷ 31 ∷ 53 ∷ 54 ∷ 54 ∷ 54 ∷ []
+    ∷ [] ∷ []) ≡ 0 ∷ 31 ∷ 53 ∷ row_count ∷ row_count ∷ row_count ∷ []
 unfolding known_row
 rows_of_names = refl

@@ -1,24 +1,27 @@
 -- What the code's table of fields means, and which of its names a line begins with. Debian Policy
 -- 5.1.
-use Rattle.std.specs.Prelude.{◌≡◌, ℕ, ◌+◌, ◌-◌, ◌<◌, Bool, List, [], ◌∷◌, ◌++◌, length, map, take, get_or, nat_lt, slice_index, replicate, true, false, codes, refl}
-use Rattle.std.specs.Borrow.{Bor}
-use Rattle.std.specs.List.{list_any, position_or_len, range_with_len}
+use Rattle.std.specs.Prelude.{◌≡◌, ℕ, ◌+◌, ◌-◌, ◌*◌, ◌/◌, ◌%◌, ◌^◌, ◌<◌, Bool, List, [], ◌∷◌, ◌++◌, length, map, take, get_or, nat_le, nat_lt, slice_index, replicate, true, false, codes, refl}
+use Rattle.std.specs.Int.{from_le_bytes, w32}
+use Rattle.std.specs.List.{list_all, list_any, range_with_len}
 use Rattle.std.specs.Str.{bytes_eq}
 use Rattle.std.proofs.lemmas.Bool.{ltb-true}
 use Rattle.deb_base.specs.FieldNames.{colon, is_name}
-use Rattle.deb_base.specs.Kinds.{FieldRow, known_fields, known_row}
+use Rattle.deb_base.specs.Names.{canonical_name}
+use Rattle.deb_base.specs.Kinds.{FieldRow, known_fields, known_row, row_count}
 use Rattle.deb_base.specs.declared.kind.Kind.{Kind}
-use Rattle.deb_base.specs.declared.kind.Kind.TheVariants.{Number}
+use Rattle.deb_base.specs.declared.kind.Kind.TheVariants.{Number, Text}
 use Rattle.deb_base.specs.declared.known_fields.FieldId.{FieldId}
 use Rattle.deb_base.specs.declared.known_fields.NameAtFront.{NameAtFront}
+use Rattle.deb_base.specs.declared.known_fields.Row.{Row}
 
 -- the number of a field's row, or a number after that of the last row
 abbrev pub row_of : FieldId → ℕ
 row_of id = id.0
 
--- a row as the definitions have it
-abbrev pub row_in : Bor (List ℕ) × Kind → FieldRow
-row_in row = (row.0.now, row.1)
+-- what a row of the code's table has: the name with its colon, filled up, its canonical spelling,
+-- and the kind
+abbrev pub row_in : Row → List ℕ × (List ℕ × Kind)
+row_in row = (row.filled, (row.canonical.now, row.kind))
 
 -- A name begins the line, with a colon after it, and the id is that of its row.
 pub record IsAtFront (line : List ℕ) (front : NameAtFront) : Type 0 where
@@ -39,24 +42,39 @@ begins_with_known line = list_any (begins_with_row line) known_fields
 abbrev pub filled : FieldRow → List ℕ
 filled row = row.0 ++ 58 ∷ replicate (31 - length row.0) 45
 
--- the first byte of a row's name
-abbrev pub first_byte : FieldRow → ℕ
-first_byte row = get_or row.0 0 0
+-- what the code's row of a field has
+abbrev pub row_for : FieldRow → List ℕ × (List ℕ × Kind)
+row_for row = (filled row, (canonical_name row.0, row.1))
 
--- for each letter from A on: the first row whose name begins with it or a later one; at last, the
--- number of rows
-unfoldable pub first_rows : List ℕ
-first_rows =
-    map (λ letter. position_or_len (λ row. nat_lt (64 + letter) (first_byte row)) known_fields)
-    (range_with_len 0 27)
+-- a number below 128 for four bytes
+abbrev pub front_number : List ℕ → ℕ
+front_number bytes = from_le_bytes w32 bytes * 4947 % 2 ^ 32 / 2 ^ 25
+
+-- what a table has for the first four bytes of a row's name and its colon
+abbrev pub likely_for : List ℕ → ℕ → ℕ
+likely_for table row =
+    get_or table (front_number ((get_or known_fields row ([], Text)).0 ++ codes ":")) 0
+
+-- whether the test holds of each row and what the table has for it
+abbrev pub is_likely_table : (ℕ → ℕ → Bool) → List ℕ → Bool
+is_likely_table test table = list_all (λ row. test row (likely_for table row)) (range_with_len 0 row_count)
 
 -- Worked cases.
 
-rows : (row_of (record { 0 = 43 }) ≡ 43)
-    × (row_in (record { ref_ptr = (0, 0); now = codes "Size" }, Number) ≡ (codes "Size", Number))
-rows = (refl, refl)
+row_of_field : row_of (record { 0 = 43 }) ≡ 43
+row_of_field = refl
 
-name_at_front : IsAtFront (codes "Size: 1") (record { id = record { 0 = 43 }; len = 4 })
+-- a row with another canonical spelling
+row_of_table :
+    row_in (record {
+      filled = codes "SHA1:---------------------------";
+      canonical = record { ref_ptr = (0, 0); now = codes "Sha1" };
+      kind = Text;
+    }) ≡ row_for (codes "SHA1", Text)
+row_of_table = refl
+
+name_at_front : IsAtFront (codes "Size: 1")
+    (record { id = record { 0 = known_row (codes "Size") }; len = 4 })
 unfolding known_row
 name_at_front = record {
   within = ltb-true 4 7 refl;
@@ -80,12 +98,16 @@ other_lines : map begins_with_known
 unfolding begins_with_known
 other_lines = refl
 
-first_rows_of_letters : first_rows
-    ≡ 0 ∷ 1 ∷ 12 ∷ 15 ∷ 20 ∷ 22 ∷ 25 ∷ 25 ∷ 26 ∷ 27 ∷ 27 ∷ 27 ∷ 27 ∷ 30 ∷ 30 ∷ 31 ∷ 37 ∷ 37 ∷ 40
-    ∷ 47 ∷ 50 ∷ 51 ∷ 54 ∷ 54 ∷ 54 ∷ 54 ∷ 54 ∷ []
-unfolding first_rows
-first_rows_of_letters = refl
-
 filled_names : map filled ((codes "Size", Number) ∷ (codes "Build-Conflicts-Indep", Number) ∷ [])
     ≡ codes "Size:---------------------------" ∷ codes "Build-Conflicts-Indep:----------" ∷ []
 filled_names = refl
+
+-- of the bytes 83, 105, 122 and 101, and of 70, 105, 108 and 101
+numbers_of_fronts : map front_number (codes "Size" ∷ codes "File" ∷ []) ≡ 126 ∷ 118 ∷ []
+numbers_of_fronts = refl
+
+-- an empty table has 0 for each row: no row is before it, and the first one isn't after it
+likely_tables : (is_likely_table nat_lt [] ≡ false)
+    × (is_likely_table (λ row likely. nat_le likely row) [] ≡ true)
+    × (is_likely_table (λ row likely. nat_lt likely row) [] ≡ false)
+likely_tables = (refl, refl, refl)

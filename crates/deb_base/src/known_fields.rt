@@ -1,10 +1,11 @@
 //! The table of the fields that are known by name: the kind of each one's values, and which of them
 //! a kind of document requires.
 
-ghost use Rattle.std.specs.Prelude.{◌≡◌, ◌↔◌, ◌<◌, ◌≤◌, ◌==◌, ℕ, List, [], map, length, get_or, slice_index, is_some, nat_lt, if◌then◌else◌, IfSome, IsTrue};
+ghost use Rattle.std.specs.Prelude.{◌≡◌, ◌<◌, ◌≤◌, ◌==◌, ℕ, List, [], true, map, length, get_or, slice_index, is_some, nat_le, nat_lt, if◌then◌else◌, IfSome, IsTrue};
 ghost use Rattle.std.specs.Int.{trailing_zeros, w64};
-ghost use Rattle.deb_base.specs.Kinds.{in_source, kind_at, kind_of, known_fields, known_row, required};
-ghost use Rattle.deb_base.specs.KnownFields.{begins_with_known, begins_with_row, filled, first_byte, first_rows, row_in, row_of, IsAtFront};
+ghost use Rattle.deb_base.specs.Kinds.{in_source, kind_at, kind_of, known_fields, known_row, required, row_count};
+ghost use Rattle.deb_base.specs.KnownFields.{begins_with_known, begins_with_row, front_number, is_likely_table, row_for, row_in, row_of, IsAtFront};
+ghost use Rattle.deb_base.specs.Names.{canonical_name};
 
 use crate::doc::Doc;
 use crate::kind::{Kind, Relationship};
@@ -15,72 +16,89 @@ const DEPENDENCY: Kind = Kind::Relation(Relationship::Depends);
 
 const CONFLICT: Kind = Kind::Relation(Relationship::Conflicts);
 
-/// The fields that are known by name, as the names are usually spelled, in ascending order of their
-/// canonical spellings (Debian Policy 5.6 and 7).
-static FIELDS: [(&'static [u8], Kind); KNOWN_FIELDS] = [
-    (b"Architecture", Kind::Architecture),
-    (b"Binary", Kind::Folded),
-    (b"Breaks", CONFLICT),
-    (b"Bugs", Kind::Text),
-    (b"Build-Conflicts", CONFLICT),
-    (b"Build-Conflicts-Arch", CONFLICT),
-    (b"Build-Conflicts-Indep", CONFLICT),
-    (b"Build-Depends", DEPENDENCY),
-    (b"Build-Depends-Arch", DEPENDENCY),
-    (b"Build-Depends-Indep", DEPENDENCY),
-    (b"Build-Ids", Kind::Text),
-    (b"Built-Using", CONFLICT),
-    (b"Checksums-Sha1", Kind::Text),
-    (b"Checksums-Sha256", Kind::Text),
-    (b"Conflicts", CONFLICT),
-    (b"Depends", DEPENDENCY),
-    (b"Description", Kind::Text),
-    (b"Description-md5", Kind::Text),
-    (b"Dgit", Kind::Text),
-    (b"Directory", Kind::Text),
-    (b"Enhances", DEPENDENCY),
-    (b"Essential", Kind::Flag),
-    (b"Filename", Kind::Line),
-    (b"Files", Kind::Text),
-    (b"Format", Kind::Line),
-    (b"Homepage", Kind::Line),
-    (b"Installed-Size", Kind::Number),
-    (b"Maintainer", Kind::Line),
-    (b"MD5sum", Kind::Text),
-    (b"Multi-Arch", Kind::MultiArch),
-    (b"Origin", Kind::Text),
-    (b"Package", Kind::Name),
-    (b"Package-List", Kind::Text),
-    (b"Pre-Depends", DEPENDENCY),
-    (b"Priority", Kind::Line),
-    (b"Provides", Kind::Relation(Relationship::Provides)),
-    (b"Python-Version", Kind::Text),
-    (b"Recommends", DEPENDENCY),
-    (b"Replaces", CONFLICT),
-    (b"Ruby-Versions", Kind::Text),
-    (b"Section", Kind::Line),
-    (b"SHA1", Kind::Text),
-    (b"SHA256", Kind::Text),
-    (b"Size", Kind::Number),
-    (b"Source", Kind::Source),
-    (b"Standards-Version", Kind::Line),
-    (b"Suggests", DEPENDENCY),
-    (b"Tag", Kind::Text),
-    (b"Task", Kind::Text),
-    (b"Testsuite", Kind::Text),
-    (b"Uploaders", Kind::Folded),
-    (b"Vcs-Browser", Kind::Text),
-    (b"Vcs-Git", Kind::Text),
-    (b"Version", Kind::Version),
-];
+const PROVISION: Kind = Kind::Relation(Relationship::Provides);
 
-/// The first row whose name begins with each capital letter or a later one, and the number of rows.
-static FIRST_ROWS: [u8; 27] = [
-    0, 1, 12, 15, 20, 22, 25, 25, 26, 27, 27, 27, 27, 30, 30, 31, 37, 37, 40, 47, 50, 51, 54, 54,
-    54, 54, 54,
-];
+/// A field that is known by name.
+#[derive(Clone, Copy)]
+struct Row {
+    /// The name as it is usually spelled, with its colon, filled up with hyphens.
+    filled: [u8; LANES],
+    /// The canonical spelling of the name, which is as long.
+    canonical: &'static [u8],
+    kind: Kind,
+}
 
-/// For each hash of the first four bytes of a name and its colon: the first of the rows with it.
+/// How many bytes are compared in one step.
+const LANES: usize = 32;
+
+/// Makes the table: each row is a name as it is usually spelled, with its colon and filled up with
+/// hyphens, its canonical spelling, and the kind of its values.
+macro_rules! field_rows {
+    ($($filled:literal $canonical:literal $kind:expr;)*) => {
+        [$(Row { filled: *$filled, canonical: $canonical, kind: $kind }),*]
+    };
+}
+
+/// The fields that are known by name, in ascending order of the canonical spellings (Debian Policy
+/// 5.6 and 7).
+static FIELDS: [Row; KNOWN_FIELDS] = field_rows! {
+    b"Architecture:-------------------" b"Architecture" Kind::Architecture;
+    b"Binary:-------------------------" b"Binary" Kind::Folded;
+    b"Breaks:-------------------------" b"Breaks" CONFLICT;
+    b"Bugs:---------------------------" b"Bugs" Kind::Text;
+    b"Build-Conflicts:----------------" b"Build-Conflicts" CONFLICT;
+    b"Build-Conflicts-Arch:-----------" b"Build-Conflicts-Arch" CONFLICT;
+    b"Build-Conflicts-Indep:----------" b"Build-Conflicts-Indep" CONFLICT;
+    b"Build-Depends:------------------" b"Build-Depends" DEPENDENCY;
+    b"Build-Depends-Arch:-------------" b"Build-Depends-Arch" DEPENDENCY;
+    b"Build-Depends-Indep:------------" b"Build-Depends-Indep" DEPENDENCY;
+    b"Build-Ids:----------------------" b"Build-Ids" Kind::Text;
+    b"Built-Using:--------------------" b"Built-Using" CONFLICT;
+    b"Checksums-Sha1:-----------------" b"Checksums-Sha1" Kind::Text;
+    b"Checksums-Sha256:---------------" b"Checksums-Sha256" Kind::Text;
+    b"Conflicts:----------------------" b"Conflicts" CONFLICT;
+    b"Depends:------------------------" b"Depends" DEPENDENCY;
+    b"Description:--------------------" b"Description" Kind::Text;
+    b"Description-md5:----------------" b"Description-Md5" Kind::Text;
+    b"Dgit:---------------------------" b"Dgit" Kind::Text;
+    b"Directory:----------------------" b"Directory" Kind::Text;
+    b"Enhances:-----------------------" b"Enhances" DEPENDENCY;
+    b"Essential:----------------------" b"Essential" Kind::Flag;
+    b"Filename:-----------------------" b"Filename" Kind::Line;
+    b"Files:--------------------------" b"Files" Kind::Text;
+    b"Format:-------------------------" b"Format" Kind::Line;
+    b"Homepage:-----------------------" b"Homepage" Kind::Line;
+    b"Installed-Size:-----------------" b"Installed-Size" Kind::Number;
+    b"Maintainer:---------------------" b"Maintainer" Kind::Line;
+    b"MD5sum:-------------------------" b"Md5sum" Kind::Text;
+    b"Multi-Arch:---------------------" b"Multi-Arch" Kind::MultiArch;
+    b"Origin:-------------------------" b"Origin" Kind::Text;
+    b"Package:------------------------" b"Package" Kind::Name;
+    b"Package-List:-------------------" b"Package-List" Kind::Text;
+    b"Pre-Depends:--------------------" b"Pre-Depends" DEPENDENCY;
+    b"Priority:-----------------------" b"Priority" Kind::Line;
+    b"Provides:-----------------------" b"Provides" PROVISION;
+    b"Python-Version:-----------------" b"Python-Version" Kind::Text;
+    b"Recommends:---------------------" b"Recommends" DEPENDENCY;
+    b"Replaces:-----------------------" b"Replaces" CONFLICT;
+    b"Ruby-Versions:------------------" b"Ruby-Versions" Kind::Text;
+    b"Section:------------------------" b"Section" Kind::Line;
+    b"SHA1:---------------------------" b"Sha1" Kind::Text;
+    b"SHA256:-------------------------" b"Sha256" Kind::Text;
+    b"Size:---------------------------" b"Size" Kind::Number;
+    b"Source:-------------------------" b"Source" Kind::Source;
+    b"Standards-Version:--------------" b"Standards-Version" Kind::Line;
+    b"Suggests:-----------------------" b"Suggests" DEPENDENCY;
+    b"Tag:----------------------------" b"Tag" Kind::Text;
+    b"Task:---------------------------" b"Task" Kind::Text;
+    b"Testsuite:----------------------" b"Testsuite" Kind::Text;
+    b"Uploaders:----------------------" b"Uploaders" Kind::Folded;
+    b"Vcs-Browser:--------------------" b"Vcs-Browser" Kind::Text;
+    b"Vcs-Git:------------------------" b"Vcs-Git" Kind::Text;
+    b"Version:------------------------" b"Version" Kind::Version;
+};
+
+/// For each number that `front_number` returns: the first of the rows whose names have it.
 static FIRST_LIKELY: [u8; 128] = [
     25, 0, 45, 0, 0, 0, 0, 0, 0, 0, 0, 0, 3, 2, 40, 0, 0, 42, 0, 0, 0, 0, 50, 0, 31, 0, 46, 0, 0,
     15, 0, 33, 0, 0, 0, 0, 0, 0, 51, 28, 49, 26, 20, 0, 0, 30, 0, 0, 19, 0, 0, 48, 14, 0, 0, 0, 0,
@@ -89,7 +107,7 @@ static FIRST_LIKELY: [u8; 128] = [
     0, 53, 22, 0, 0, 34, 0, 0, 4, 24, 43, 0,
 ];
 
-/// For each such hash the first row after these.
+/// For each such number the first row after these.
 static END_LIKELY: [u8; 128] = [
     26, 0, 46, 0, 0, 0, 0, 0, 0, 0, 0, 0, 4, 3, 41, 0, 0, 43, 0, 0, 0, 0, 51, 0, 33, 0, 47, 0, 1,
     16, 0, 34, 0, 0, 0, 0, 0, 0, 53, 29, 50, 27, 21, 0, 0, 31, 0, 0, 20, 0, 0, 49, 15, 0, 0, 0, 0,
@@ -98,79 +116,38 @@ static END_LIKELY: [u8; 128] = [
     0, 54, 24, 0, 0, 35, 0, 0, 12, 25, 44, 0,
 ];
 
-/// The names, row by row, each with its colon and filled up with hyphens.
-static FILLED: [[u8; LANES]; KNOWN_FIELDS] = [
-    *b"Architecture:-------------------",
-    *b"Binary:-------------------------",
-    *b"Breaks:-------------------------",
-    *b"Bugs:---------------------------",
-    *b"Build-Conflicts:----------------",
-    *b"Build-Conflicts-Arch:-----------",
-    *b"Build-Conflicts-Indep:----------",
-    *b"Build-Depends:------------------",
-    *b"Build-Depends-Arch:-------------",
-    *b"Build-Depends-Indep:------------",
-    *b"Build-Ids:----------------------",
-    *b"Built-Using:--------------------",
-    *b"Checksums-Sha1:-----------------",
-    *b"Checksums-Sha256:---------------",
-    *b"Conflicts:----------------------",
-    *b"Depends:------------------------",
-    *b"Description:--------------------",
-    *b"Description-md5:----------------",
-    *b"Dgit:---------------------------",
-    *b"Directory:----------------------",
-    *b"Enhances:-----------------------",
-    *b"Essential:----------------------",
-    *b"Filename:-----------------------",
-    *b"Files:--------------------------",
-    *b"Format:-------------------------",
-    *b"Homepage:-----------------------",
-    *b"Installed-Size:-----------------",
-    *b"Maintainer:---------------------",
-    *b"MD5sum:-------------------------",
-    *b"Multi-Arch:---------------------",
-    *b"Origin:-------------------------",
-    *b"Package:------------------------",
-    *b"Package-List:-------------------",
-    *b"Pre-Depends:--------------------",
-    *b"Priority:-----------------------",
-    *b"Provides:-----------------------",
-    *b"Python-Version:-----------------",
-    *b"Recommends:---------------------",
-    *b"Replaces:-----------------------",
-    *b"Ruby-Versions:------------------",
-    *b"Section:------------------------",
-    *b"SHA1:---------------------------",
-    *b"SHA256:-------------------------",
-    *b"Size:---------------------------",
-    *b"Source:-------------------------",
-    *b"Standards-Version:--------------",
-    *b"Suggests:-----------------------",
-    *b"Tag:----------------------------",
-    *b"Task:---------------------------",
-    *b"Testsuite:----------------------",
-    *b"Uploaders:----------------------",
-    *b"Vcs-Browser:--------------------",
-    *b"Vcs-Git:------------------------",
-    *b"Version:------------------------",
-];
-
-/// How many bytes are compared in one step.
-const LANES: usize = 32;
-
-const ARCHITECTURE: FieldId = FieldId(0);
-
-const FORMAT: FieldId = FieldId(24);
-
-const PACKAGE: FieldId = FieldId(31);
-
-const SOURCE: FieldId = FieldId(44);
-
-const VERSION: FieldId = FieldId(53);
-
 /// How many fields the table has.
 pub const KNOWN_FIELDS: usize = 54;
+
+/// The rows of the fields that a crate asks for by name. `laws::rows_are_of_their_names` says that
+/// they are right.
+pub mod rows {
+    pub const ARCHITECTURE: usize = 0;
+
+    pub const BUILD_DEPENDS: usize = 7;
+
+    pub const BUILD_DEPENDS_ARCH: usize = 8;
+
+    pub const BUILD_DEPENDS_INDEP: usize = 9;
+
+    pub const DEPENDS: usize = 15;
+
+    pub const FORMAT: usize = 24;
+
+    pub const MULTI_ARCH: usize = 29;
+
+    pub const PACKAGE: usize = 31;
+
+    pub const PRE_DEPENDS: usize = 33;
+
+    pub const PROVIDES: usize = 35;
+
+    pub const RECOMMENDS: usize = 37;
+
+    pub const SOURCE: usize = 44;
+
+    pub const VERSION: usize = 53;
+}
 
 /// A field of the table, or any other field.
 #[derive(Clone, Copy, Debug, PartialEq, Eq)]
@@ -192,7 +169,9 @@ impl FieldId {
         ensures { row_of result ≡ known_row name.now }
     {
         let mut row: u8 = 0;
-        while usize::from(row) < fields().len() && !same_name(fields()[usize::from(row)].0, name) {
+        while usize::from(row) < fields().len()
+            && !same_name(fields()[usize::from(row)].canonical, name)
+        {
             row += 1;
         }
         FieldId(row)
@@ -203,14 +182,13 @@ impl FieldId {
     ///
     /// `None` means that no name of the table does. The line can still begin with such a name in
     /// another case: `of` finds the field by the whole name.
+    // In line it takes registers from its caller, for which `near_front` mostly finds the name.
+    #[inline(never)]
     pub fn at_front(line: &[u8]) -> Option<NameAtFront>
         ensures some { IfSome result (IsAtFront line.now) }
         ensures some_iff_known { is_some result ≡ begins_with_known line.now }
     {
-        let Some(first) = line.first() else {
-            return None;
-        };
-        let rows = rows_of_letter(*first);
+        let rows = likely_rows(line);
         let mut row = rows.0;
         while row < rows.1 {
             if let Some(front) = row_at_front(row, line) {
@@ -250,9 +228,24 @@ impl FieldId {
         usize::from(self.0)
     }
 
+    /// Returns the canonical spelling of the field's name, or `None` for any field that the table
+    /// doesn't have.
+    pub fn canonical_name(self) -> Option<&'static [u8]>
+        ensures spelled { IfSome result (λ found. (name : List ℕ) → known_row name ≡ row_of self
+            → found.now ≡ canonical_name name) }
+        ensures some_iff_known { is_some result ≡ nat_lt (row_of self) row_count }
+    {
+        let row = usize::from(self.0);
+        if row < fields().len() {
+            Some(fields()[row].canonical)
+        } else {
+            None
+        }
+    }
+
     /// Returns whether the table has the field.
     pub fn is_known(self) -> bool
-        ensures { result ≡ nat_lt (row_of self) 54 }
+        ensures { result ≡ nat_lt (row_of self) row_count }
     {
         usize::from(self.0) < KNOWN_FIELDS
     }
@@ -276,7 +269,7 @@ impl FieldId {
     {
         let row = usize::from(self.0);
         if row < fields().len() {
-            fields()[row].1
+            fields()[row].kind
         } else {
             Kind::Text
         }
@@ -284,48 +277,49 @@ impl FieldId {
 }
 
 /// Returns a reference to the table.
-fn fields() -> &'static [(&'static [u8], Kind)]
-    ensures { map row_in result.now ≡ known_fields }
+fn fields() -> &'static [Row]
+    ensures { map row_in result.now ≡ map row_for known_fields }
 {
     &FIELDS
 }
 
-/// Returns a reference to `FIRST_ROWS`.
-fn first_rows() -> &'static [u8]
-    ensures { result.now ≡ first_rows }
-{
-    &FIRST_ROWS
-}
-
-/// Returns the first of the rows whose names begin with the byte, and the first row after them.
-fn rows_of_letter(first: u8) -> (u8, u8)
-    ensures { (row : ℕ) → row < 54 → first_byte (get_or known_fields row ([], Kind.Text)) ≡ first
+/// Returns the first of the rows whose names a text may begin with, by its first four bytes, and
+/// the first row after them.
+#[inline(always)]
+fn likely_rows(text: &[u8]) -> (u8, u8)
+    ensures { (row : ℕ) → row < row_count
+        → begins_with_row text.now (get_or known_fields row ([], Kind.Text)) ≡ true
         → (result.0 ≤ row) × (row < result.1) }
 {
-    if first < b'A' || first > b'Z' {
-        return (0, 0);
-    }
-    let letter = usize::from(first - b'A');
-    (first_rows()[letter], first_rows()[letter + 1])
-}
-
-/// Returns the first of the rows that are likely for a text, and the first row after them. Each
-/// answer is right, since a row is compared with the text.
-fn likely_rows(text: &[u8]) -> (u8, u8) {
     let [a, b, c, d, ..] = text else {
         return (0, 0);
     };
-    // With this factor few names have one hash, and those that do are neighbours in the table.
-    let prefix = u32::from_le_bytes([*a, *b, *c, *d]);
-    let hash = (prefix.wrapping_mul(4947) >> 25) as usize;
-    (FIRST_LIKELY[hash], END_LIKELY[hash])
+    let number = front_number([*a, *b, *c, *d]);
+    (first_likely()[number], end_likely()[number])
 }
 
-/// Returns a reference to `FILLED`.
-fn filled() -> &'static [[u8; LANES]]
-    ensures { result.now ≡ map filled known_fields }
+/// A number for the first four bytes of a name and its colon.
+#[inline(always)]
+fn front_number(front: [u8; 4]) -> usize
+    ensures number { result ≡ front_number front }
+    ensures within { result < 128 }
 {
-    &FILLED
+    // With this factor few names have one number, and those that do are neighbours in the table.
+    (u32::from_le_bytes(front).wrapping_mul(4947) >> 25) as usize
+}
+
+/// Returns a reference to `FIRST_LIKELY`.
+fn first_likely() -> &'static [u8; 128]
+    ensures { is_likely_table (λ row likely. nat_le likely row) result.now ≡ true }
+{
+    &FIRST_LIKELY
+}
+
+/// Returns a reference to `END_LIKELY`.
+fn end_likely() -> &'static [u8; 128]
+    ensures { is_likely_table nat_lt result.now ≡ true }
+{
+    &END_LIKELY
 }
 
 /// The name in a row, if the text begins with it and a colon.
@@ -334,12 +328,12 @@ fn row_near_front(row: u8, text: &[u8]) -> Option<NameAtFront>
     ensures { IfSome result (IsAtFront text.now) }
 {
     let index = usize::from(row);
-    let (fields, filled) = (fields(), filled());
-    if index >= fields.len() || index >= filled.len() {
+    if index >= fields().len() {
         return None;
     }
-    let len = fields[index].0.len();
-    if same_len(text, &filled[index]) <= len {
+    let known = &fields()[index];
+    let len = known.canonical.len();
+    if same_len(text, &known.filled) <= len {
         return None;
     }
     Some(NameAtFront {
@@ -376,16 +370,17 @@ fn first_set(mask: u64) -> usize
 /// The name in a row, if the line begins with it and a colon.
 fn row_at_front(row: u8, line: &[u8]) -> Option<NameAtFront>
     ensures some { IfSome result (IsAtFront line.now) }
-    ensures known { IsTrue (is_some result) → row < 54 }
-    ensures some_iff_begins { row < 54 →
+    ensures known { IsTrue (is_some result) → row < row_count }
+    ensures some_iff_begins { row < row_count →
         is_some result ≡ begins_with_row line.now (get_or known_fields row ([], Kind.Text)) }
 {
-    if usize::from(row) >= fields().len() {
+    let index = usize::from(row);
+    if index >= fields().len() {
         return None;
     }
-    let name = fields()[usize::from(row)].0;
-    let len = name.len();
-    if len < line.len() && line[len] == b':' && &line[..len] == name {
+    let known = &fields()[index];
+    let len = known.canonical.len();
+    if len < line.len() && known.filled.starts_with(&line[..len + 1]) {
         return Some(NameAtFront {
             id: FieldId(row),
             len,
@@ -424,6 +419,16 @@ pub fn required(doc: Doc) -> &'static [&'static [u8]]
         Doc::Any => &[],
     }
 }
+
+const ARCHITECTURE: FieldId = FieldId(rows::ARCHITECTURE as u8);
+
+const FORMAT: FieldId = FieldId(rows::FORMAT as u8);
+
+const PACKAGE: FieldId = FieldId(rows::PACKAGE as u8);
+
+const SOURCE: FieldId = FieldId(rows::SOURCE as u8);
+
+const VERSION: FieldId = FieldId(rows::VERSION as u8);
 
 /// Returns the fields of the table that `required` names, in the same order.
 pub fn required_fields(doc: Doc) -> &'static [FieldId]

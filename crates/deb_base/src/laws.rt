@@ -1,6 +1,13 @@
 //! Laws of the definitions of names. Each function does nothing; its contract is the law.
 
+ghost use Rattle.std.specs.Prelude.{◌≡◌, [], ◌∷◌, codes, map};
+ghost use Rattle.deb_base.specs.Kinds.{known_row};
 ghost use Rattle.deb_base.specs.Names.{CanonicalNameTellsSameNames, CanonicalNameIsStable, CanonicalNameIsSameName};
+
+use crate::known_fields::rows::{
+    ARCHITECTURE, BUILD_DEPENDS, BUILD_DEPENDS_ARCH, BUILD_DEPENDS_INDEP, DEPENDS, FORMAT,
+    MULTI_ARCH, PACKAGE, PRE_DEPENDS, PROVIDES, RECOMMENDS, SOURCE, VERSION,
+};
 
 /// Two names have the same canonical spelling exactly if they are the same name.
 pub fn canonical_name_tells_same_names()
@@ -15,4 +22,17 @@ pub fn canonical_name_is_stable()
 /// A name is the same name as its canonical spelling.
 pub fn canonical_name_is_same_name()
     ensures { CanonicalNameIsSameName }
+{}
+
+/// Each constant of `rows` is the row of the field that it is named after.
+#[tactic(auto, unfolding(crate::specs::Kinds::known_row))]
+pub fn rows_are_of_their_names()
+    ensures { map known_row
+        (codes "Architecture" ∷ codes "Build-Depends" ∷ codes "Build-Depends-Arch"
+        ∷ codes "Build-Depends-Indep" ∷ codes "Depends" ∷ codes "Format" ∷ codes "Multi-Arch"
+        ∷ codes "Package" ∷ codes "Pre-Depends" ∷ codes "Provides" ∷ codes "Recommends"
+        ∷ codes "Source" ∷ codes "Version" ∷ [])
+        ≡ ARCHITECTURE ∷ BUILD_DEPENDS ∷ BUILD_DEPENDS_ARCH ∷ BUILD_DEPENDS_INDEP ∷ DEPENDS
+        ∷ FORMAT ∷ MULTI_ARCH ∷ PACKAGE ∷ PRE_DEPENDS ∷ PROVIDES ∷ RECOMMENDS ∷ SOURCE ∷ VERSION
+        ∷ [] }
 {}

@@ -51,7 +51,9 @@ pub use doc::{Doc, is_single};
 pub use fault::Fault;
 pub use input::Input;
 pub use kind::{Kind, Relationship};
-pub use known_fields::{FieldId, KNOWN_FIELDS, NameAtFront, kind_of, required, required_fields};
+pub use known_fields::{
+    FieldId, KNOWN_FIELDS, NameAtFront, kind_of, required, required_fields, rows,
+};
 pub use memory::{SliceSource, VecSink};
 pub use names::same_name;
 pub use output::Output;

@@ -1,5 +1,4 @@
-use Rattle.std.proofs.Common.{[], arith, ap, ◌∙◌}
-use Rattle.deb_base.specs.declared.kind.Kind.TheVariants.{Text}
+use Rattle.std.proofs.Common.{arith, ap, ◌∙◌}
 use Rattle.deb_base.specs.Kinds.{kind_at}
 use Rattle.deb_base.proofs.FieldLookups.{kind_at-row, kind_at-no_row, length_of_table}
 use Rattle.deb_base.proofs.known_fields.FieldId.usual_kind.Goals as goal
@@ -12,4 +11,4 @@ returns-then-row-fields c =
     ∙ ap kind_at c.from-row.ensures
 
 pub returns-else-row-fields : goal.returns-else-row-fields
-returns-else-row-fields c = kind_at-no_row c.fields.result.now c.fields.ensures c.from-row.result (record { ref_ptr = (0, 0); now = [] }, Text) c.if-row-fields.false ∙ ap kind_at c.from-row.ensures
+returns-else-row-fields c = kind_at-no_row c.fields.result.now c.fields.ensures c.from-row.result c.if-row-fields.false ∙ ap kind_at c.from-row.ensures
