@@ -4,7 +4,7 @@ use Rattle.std.proofs.Common.{set}
 use Rattle.std.proofs.lemmas.List.{take-append-drop, take_all, length-take-le}
 use Rattle.std.proofs.lemmas.List.Sorted.{IsPermutation-cons, IsPermutation-map, IsPermutation-middle, IsPermutation-refl, IsPermutation-sym, IsPermutation-to_front, IsPermutation-trans}
 use Rattle.std.proofs.Math.Seq.{drop-cons, take-append-add}
-use Rattle.deb_base.specs.Kinds.{known_fields, known_row}
+use Rattle.deb_base.specs.Kinds.{known_fields, known_row, row_count}
 use Rattle.deb_syntax.proofs.DistinctNames.{has_name-distinct}
 use Rattle.deb_control.proofs.Entries.{IsAscending}
 use Rattle.deb_control.specs.declared.canon_text.SortKey.{SortKey}
@@ -159,7 +159,7 @@ module _ (fields : List Field) (i : ℕ) (within : i < length fields) where
   pub placed-next : (rows : List ℕ) (row : ℕ) → AreDistinct fields → row ≡ known_row placing.name → row < length rows → ArePlaced fields i rows → ArePlaced fields (i + 1) (set rows row (i + 1))
   placed-next rows row distinct is low placed =
       let long = rows-length fields known_names rows placed.named in
-      let known : known_row placing.name < 54 = omega (arith, is, low, long) in
+      let known : known_row placing.name < row_count = omega (arith, is, low, long) in
       let before = take i fields in
       let chosen = picked fields (numbers_in rows) in
       let none : Apart placing before = apart-from_has_name placing before (has_name-distinct before placing (drop (suc i) fields) (subst AreDistinct split-at distinct)) in

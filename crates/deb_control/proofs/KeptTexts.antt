@@ -5,7 +5,7 @@ use Rattle.std.proofs.lemmas.Bool.{eq-eqb, eqb-true, ltb-false, ltb-true}
 use Rattle.std.proofs.lemmas.List.{drop_at, get_or-map, get_or-set_other, get_or_past, length-set, take-append-le, take_all}
 use Rattle.std.proofs.lemmas.List.Sums.{fold-append}
 use Rattle.std.proofs.lemmas.Grind.{get_or-set_at}
-use Rattle.deb_base.specs.Kinds.{kind_at, kind_in, kind_of, known_fields, known_row}
+use Rattle.deb_base.specs.Kinds.{kind_at, kind_in, kind_of, known_fields, known_row, row_count}
 use Rattle.deb_base.specs.declared.doc.Doc.TheVariants as docs
 use Rattle.deb_base.specs.declared.kind.Kind.{Kind}
 use Rattle.deb_base.specs.declared.kind.Kind.TheVariants as kinds
@@ -36,10 +36,10 @@ none = record { start = 0; word_end = 0; end = 0 }
 pub texts-none : (texts : FieldTexts) → texts.spans ≡ map (λ _. none) known_fields → KeepsTexts texts []
 texts-none texts spans = record { rows = ap length spans; each = each }
   where
-    at : (name : List ℕ) → known_row name < 54 → span_at texts (known_row name) ≡ none
+    at : (name : List ℕ) → known_row name < row_count → span_at texts (known_row name) ≡ none
     at name within = ap (λ s. get_or s (known_row name) none) spans ∙ get_or-map (λ _. none) known_fields (known_row name) ([], kinds.Text) none within
 
-    each : (name : List ℕ) → known_row name < 54 → KeepsText texts (known_row name) None
+    each : (name : List ℕ) → known_row name < row_count → KeepsText texts (known_row name) None
     each name within = record {
       word_within = omega (arith, ap (λ s. s.word_end) (at name within));
       within = omega (arith, ap (λ s. s.end) (at name within));
@@ -80,7 +80,7 @@ texts-next old new middle span visited visit keeps word relation start word_end 
       (go name within (known_row visit.0.name == known_row name) refl);
 }
   where
-    go : (name : List ℕ) → known_row name < 54 → (t : Bool) → (known_row visit.0.name == known_row name) ≡ t → KeepsText new (known_row name) (shown_with visit.0.name visit.1 (shown_of visited) name)
+    go : (name : List ℕ) → known_row name < row_count → (t : Bool) → (known_row visit.0.name == known_row name) ≡ t → KeepsText new (known_row name) (shown_with visit.0.name visit.1 (shown_of visited) name)
     go name within true same =
         rw (same_rows visit.0.name name within ∙ same)
         (text-last old new (known_row name) middle span visit.1 word relation start word_end end
@@ -98,7 +98,7 @@ groups-regular (kinds.Relation sort) body value spells = rw spells.1 (relation_r
 groups-regular kind body value spells = rw spells.1 (record { groups = tt; ascend = tt })
 
 -- a field that the table doesn't have is text
-text-unknown : (doc : Doc) (name : List ℕ) → 54 ≤ known_row name → kind_of doc (canonical_name name) ≡ kinds.Text
+text-unknown : (doc : Doc) (name : List ℕ) → row_count ≤ known_row name → kind_of doc (canonical_name name) ≡ kinds.Text
 unfolding kind_of kind_at
 text-unknown doc name past = kind_of_canonical_name doc name ∙ ap (kind_in doc) (get_or_past (map (λ row. row.1) known_fields) (known_row name) kinds.Text past) ∙ text doc
   where
@@ -124,15 +124,15 @@ module _ (texts : FieldTexts) (doc : Doc) (seen : Seen) (visits : VisitsValues K
     spelled : IfSome (value_under name values) (λ value. (body : List ℕ) × SpellsValue doc (canonical_name name) body value)
     spelled = subst (λ o. IfSome o (λ value. (body : List ℕ) × SpellsValue doc (canonical_name name) body value)) is_value (shown-spelled KeepsTexts texts doc seen visits name)
 
-    none_at : 54 ≤ known_row name → span_at texts (known_row name) ≡ none
+    none_at : row_count ≤ known_row name → span_at texts (known_row name) ≡ none
     none_at past = get_or_past texts.spans (known_row name) none (omega (arith, past, visits.visits.rows))
 
-    kept : (known : Bool) → nat_lt (known_row name) 54 ≡ known → (word_kept texts name ≡ word_of (value_under name values)) × (relation_kept texts name ≡ relation_text (groups_of (value_under name values)))
+    kept : (known : Bool) → nat_lt (known_row name) row_count ≡ known → (word_kept texts name ≡ word_of (value_under name values)) × (relation_kept texts name ≡ relation_text (groups_of (value_under name values)))
     kept true is =
-        let keeps = visits.visits.each name (ltb-true (known_row name) 54 is) in
+        let keeps = visits.visits.each name (ltb-true (known_row name) row_count is) in
         (keeps.word ∙ ap word_of is_value, keeps.relation ∙ ap (λ o. relation_text (groups_of o)) is_value)
     kept false is =
-        let past = ltb-false (known_row name) 54 is in
+        let past = ltb-false (known_row name) row_count is in
         let empty = no-word (value_under name values) (subst (λ kind. IfSome (value_under name values) (λ value. (body : List ℕ) × SpellsKind kind body value)) (text-unknown doc name past) spelled) in (
           ap (λ s. part_of texts.buffer.items s.start s.word_end) (none_at past) ∙ sym empty.0,
           ap (λ s. part_of texts.buffer.items s.word_end s.end) (none_at past) ∙ ap relation_text (sym empty.1),
@@ -144,7 +144,7 @@ module _ (texts : FieldTexts) (doc : Doc) (seen : Seen) (visits : VisitsValues K
 
   pub has-texts : HasTexts texts values
   has-texts = record {
-    word = λ name. (kept name (nat_lt (known_row name) 54) refl).0;
-    relation = λ name. (kept name (nat_lt (known_row name) 54) refl).1;
+    word = λ name. (kept name (nat_lt (known_row name) row_count) refl).0;
+    relation = λ name. (kept name (nat_lt (known_row name) row_count) refl).1;
     regular = λ name. regular name (value_under name values) (spelled name);
   }

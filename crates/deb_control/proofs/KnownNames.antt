@@ -1,8 +1,8 @@
 -- The canonical names in the table of fields: they ascend, and the row of a field has its name.
-use Rattle.deb_control.proofs.Common.{◌≡◌, ℕ, ◌<◌, ◌&&◌, Bool, true, List, [], ◌∷◌, get_or, Ordering, Less, Equal, Greater, refl, ◌∙◌, and_parts, false≢true, bytes_eq-Decides, bytes_eq, list_all, AllByRecursion, is_lt, each_from_list_all, folded, canonical_name, canonical_name-from_folded, byte_order, known_names}
+use Rattle.deb_control.proofs.Common.{◌≡◌, ℕ, ◌<◌, ◌&&◌, Bool, true, List, [], ◌∷◌, get_or, Ordering, Less, Equal, Greater, refl, ◌∙◌, and_parts, false≢true, list_all, AllByRecursion, is_lt, each_from_list_all, canonical_name, byte_order, known_names}
 use Rattle.std.proofs.lemmas.List.{get_or-map}
-use Rattle.std.proofs.lemmas.List.Sums.{passes_at_first}
-use Rattle.deb_base.specs.Kinds.{FieldRow, known_fields, known_row}
+use Rattle.deb_base.proofs.FieldLookups.{canonical_name-row}
+use Rattle.deb_base.specs.Kinds.{FieldRow, known_fields, known_row, row_count}
 use Rattle.deb_base.specs.declared.kind.Kind.TheVariants.{Text}
 
 -- each name is below those after it
@@ -31,12 +31,7 @@ pub known_names-ascend : Ascend known_names
 unfolding is_ascending
 known_names-ascend = Ascend-from_test known_names refl
 
--- the name of a row
-row_name : (name : List ℕ) (e : FieldRow) → known_row name < 54 → folded (get_or known_fields (known_row name) e).0 ≡ folded name
-unfolding known_row
-row_name name e within = (bytes_eq-Decides _ _).0 (passes_at_first (λ row. bytes_eq (folded row.0) (folded name)) known_fields e within)
-
-pub known_names-row : (name d : List ℕ) → known_row name < 54 → get_or known_names (known_row name) d ≡ canonical_name name
+pub known_names-row : (name d : List ℕ) → known_row name < row_count → get_or known_names (known_row name) d ≡ canonical_name name
 known_names-row name d within =
     let e : FieldRow = ([], Text) in
-    get_or-map (λ row. canonical_name row.0) known_fields (known_row name) e d within ∙ canonical_name-from_folded (get_or known_fields (known_row name) e).0 name (row_name name e within)
+    get_or-map (λ row. canonical_name row.0) known_fields (known_row name) e d within ∙ canonical_name-row name e within

@@ -1,7 +1,8 @@
 -- The length of a paragraph's canonical text is the sum of those of its fields, whatever their order.
-use Rattle.deb_control.proofs.Common.{◌≡◌, ℕ, ◌+◌, ◌==◌, cond, Bool, true, false, List, [], ◌∷◌, ◌++◌, length, map, Ordering, Less, Equal, Greater, refl, ap, arith, length-append, or_parts, both_ways, sum_by-cons, bytes_eq-Decides, insert_entry, AllByRecursion, sum_by, match_ordering, bytes_eq, newline, folded, capitalised, canonical_name, folded-from_canonical_name, Field, has_name, AreDistinct, byte_order, Entries, entries_after, entries_of, behind_colon, field_text, paragraph_text, Visit, canonical_visit, fields_visited, texts_length}
+use Rattle.deb_control.proofs.Common.{◌≡◌, ℕ, ◌+◌, cond, Bool, true, false, List, [], ◌∷◌, ◌++◌, length, map, Ordering, Less, Equal, Greater, refl, ap, arith, length-append, or_parts, both_ways, sum_by-cons, bytes_eq-Decides, insert_entry, AllByRecursion, sum_by, match_ordering, bytes_eq, newline, folded, canonical_name, folded-from_canonical_name, Field, has_name, AreDistinct, byte_order, Entries, entries_after, entries_of, behind_colon, field_text, paragraph_text, Visit, canonical_visit, fields_visited, texts_length}
 use mir.Val.{bool_byte}
 use Rattle.std.proofs.lemmas.List.Folds.{fold-map}
+use Rattle.deb_base.proofs.CanonicalNames.{length-capitalised}
 use Rattle.deb_control.proofs.Entries.{each_insert}
 use Rattle.deb_control.proofs.FieldValues.{same_from_equal}
 use Rattle.deb_control.proofs.SortedFields.{entry_of}
@@ -52,10 +53,6 @@ pub length-visited : (visited : List Visit) → AreDistinct (fields_visited visi
 length-visited visited distinct =
     let each = map canonical_visit visited in
     omega (arith, length-after [] each (lacks-nil each) (distinct-visited canonical_visit (λ visit. refl) visited distinct), fold-map (λ sum field. sum + own_length field) canonical_visit 0 visited)
-
-length-capitalised : (begins : Bool) (name : List ℕ) → length (capitalised begins name) ≡ length name
-length-capitalised begins [] = refl
-length-capitalised begins (b ∷ bs) = omega (arith, length-capitalised (b == 45) bs)
 
 length-field : (name text : List ℕ) → length (field_text (canonical_name name, text)) ≡ length name + 2 + length (behind_colon text)
 length-field name text =

@@ -7,7 +7,7 @@ use Rattle.std.specs.List.Sorted.{IsPermutation}
 use Rattle.std.specs.declared.cmp.Ordering.TheVariants.{Less}
 use Rattle.deb_base.specs.Bodies.{newline}
 use Rattle.deb_base.specs.FieldNames.{colon}
-use Rattle.deb_base.specs.Kinds.{known_fields}
+use Rattle.deb_base.specs.Kinds.{known_fields, known_row, row_count}
 use Rattle.deb_base.specs.Names.{canonical_name}
 use Rattle.deb_base.specs.declared.kind.Kind.{Kind}
 use Rattle.deb_base.specs.declared.doc.Doc.{Doc}
@@ -139,8 +139,10 @@ picked_fields = (refl, refl)
 two_in_order : NamesAscend (picked two (1 ∷ 0 ∷ []))
 two_in_order = ((refl, tt), (tt, tt))
 
--- `MD5sum` is in row 28; the name of a row is spelled canonically
-names_of_rows : (length known_names ≡ 54) × (get_or known_names 28 [] ≡ codes "Md5sum")
+-- the name of a row is spelled canonically
+names_of_rows : (length known_names ≡ row_count)
+    × (get_or known_names (known_row (codes "MD5sum")) [] ≡ codes "Md5sum")
+unfolding known_row
 names_of_rows = (refl, refl)
 
 numbers_of_rows : (numbers_in (0 ∷ 3 ∷ 0 ∷ 1 ∷ []) ≡ 2 ∷ 0 ∷ []) × (numbers_in (0 ∷ []) ≡ [])

@@ -1,7 +1,7 @@
 -- The words and the relations of a paragraph that are kept while it is checked. Debian Policy 5.6
 -- and 7.1.
 use Rattle.std.specs.Prelude.{◌≡◌, ℕ, ◌<◌, ◌≤◌, List, [], length, drop, take, get_or, Option, codes, refl, ◌∷◌, ◌++◌, replicate}
-use Rattle.deb_base.specs.Kinds.{known_row}
+use Rattle.deb_base.specs.Kinds.{known_row, row_count}
 use Rattle.deb_relation.specs.Regular.{IsRegularRelation}
 use Rattle.deb_relation.specs.Texts.{relation_text}
 use Rattle.deb_field.specs.Values.{ValueMeaning}
@@ -46,8 +46,8 @@ pub record KeepsText (texts : FieldTexts) (row : ℕ) (value : Option ValueMeani
 
 -- For each name of the table of fields they are those of the value that was visited last.
 pub record KeepsTexts (texts : FieldTexts) (visited : List Visit) : Type 0 where
-  pub rows : length texts.spans ≡ 54
-  pub each : (name : List ℕ) → known_row name < 54
+  pub rows : length texts.spans ≡ row_count
+  pub each : (name : List ℕ) → known_row name < row_count
       → KeepsText texts (known_row name) (shown_of visited name)
 
 -- For each name they are those of the paragraph's value, and its relation has a canonical text.

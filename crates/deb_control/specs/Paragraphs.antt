@@ -1,7 +1,7 @@
 -- What a paragraph whose values have been read shows of it. Debian Policy 5.1.
 use Rattle.std.specs.Prelude.{◌≡◌, ℕ, List, [], ◌∷◌, map, Ok, codes, refl, true, false}
 use denote.Ref.{Bor}
-use Rattle.deb_base.specs.Kinds.{known_row}
+use Rattle.deb_base.specs.Kinds.{known_row, row_count}
 use Rattle.deb_base.specs.Names.{canonical_name}
 use Rattle.deb_syntax.specs.Fields.{Field}
 use Rattle.deb_syntax.specs.Meaning.{entries_of}
@@ -59,7 +59,7 @@ flag_field = record {
         name = to (codes "eSSENTIAL");
         line = 3;
         body = to (codes "yes");
-        id = record { 0 = 21 };
+        id = record { 0 = known_row (codes "Essential") };
         named = refl;
       };
   value = Flag Yes;
@@ -73,7 +73,7 @@ text_field = record {
         name = to (codes "x-a");
         line = 2;
         body = to (codes "1");
-        id = record { 0 = 54 };
+        id = record { 0 = row_count };
         named = refl;
       };
   value = Text (record { bytes = to (codes "1") });

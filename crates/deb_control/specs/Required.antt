@@ -9,10 +9,13 @@ use Rattle.deb_syntax.specs.Raw.{has_field_in}
 abbrev pub have_rows : List Field → List ℕ → Bool
 have_rows fields rows = list_all (λ row. has_field_in row fields) rows
 
--- `Version` is in row 53, and `Tag` in row 47
+-- for the worked cases: the rows of two fields
+abbrev rows_of_both : List ℕ
+rows_of_both = known_row (codes "Version") ∷ known_row (codes "Tag") ∷ []
+
 rows_of_fields : (have_rows (record { name = codes "Tag"; line = 1; body = [] }
-    ∷ record { name = codes "version"; line = 2; body = [] } ∷ []) (53 ∷ 47 ∷ []) ≡ true)
-    × (have_rows (record { name = codes "Tag"; line = 1; body = [] } ∷ []) (53 ∷ 47 ∷ []) ≡ false)
+    ∷ record { name = codes "version"; line = 2; body = [] } ∷ []) rows_of_both ≡ true)
+    × (have_rows (record { name = codes "Tag"; line = 1; body = [] } ∷ []) rows_of_both ≡ false)
     × (have_rows [] [] ≡ true)
 unfolding known_row
 rows_of_fields = (refl, refl, refl)

@@ -1,76 +1,14 @@
 //! The canonical spelling of names, and its order.
 
-ghost use Rattle.std.specs.Prelude.{◌≡◌, ◌++◌, ◌≤◌, ℕ, List, IfSome, if◌then◌else◌, ◌==◌, length, map, take, OnOk};
+ghost use Rattle.std.specs.Prelude.{◌≡◌, ◌++◌, ◌≤◌, if◌then◌else◌, ◌==◌, length, take, OnOk};
 ghost use Rattle.std.specs.Char.{to_ascii_lowercase, to_ascii_uppercase};
-ghost use Rattle.deb_base.specs.Kinds.{known_row};
-ghost use Rattle.deb_base.specs.KnownFields.{row_of};
 ghost use Rattle.deb_base.specs.Names.{canonical_name};
 ghost use Rattle.deb_syntax.specs.Meaning.{byte_order};
-ghost use Rattle.deb_control.specs.CanonTexts.{known_names};
 ghost use Rattle.deb_control.specs.Sorting.{front_number};
 
-use deb_base::{FieldId, KNOWN_FIELDS};
 use deb_syntax::RawField;
 use std::alloc::AllocError;
 use std::cmp::Ordering;
-
-/// The canonical spellings of the names in the table of fields, row by row.
-static KNOWN_NAMES: [&'static [u8]; KNOWN_FIELDS] = [
-    b"Architecture",
-    b"Binary",
-    b"Breaks",
-    b"Bugs",
-    b"Build-Conflicts",
-    b"Build-Conflicts-Arch",
-    b"Build-Conflicts-Indep",
-    b"Build-Depends",
-    b"Build-Depends-Arch",
-    b"Build-Depends-Indep",
-    b"Build-Ids",
-    b"Built-Using",
-    b"Checksums-Sha1",
-    b"Checksums-Sha256",
-    b"Conflicts",
-    b"Depends",
-    b"Description",
-    b"Description-Md5",
-    b"Dgit",
-    b"Directory",
-    b"Enhances",
-    b"Essential",
-    b"Filename",
-    b"Files",
-    b"Format",
-    b"Homepage",
-    b"Installed-Size",
-    b"Maintainer",
-    b"Md5sum",
-    b"Multi-Arch",
-    b"Origin",
-    b"Package",
-    b"Package-List",
-    b"Pre-Depends",
-    b"Priority",
-    b"Provides",
-    b"Python-Version",
-    b"Recommends",
-    b"Replaces",
-    b"Ruby-Versions",
-    b"Section",
-    b"Sha1",
-    b"Sha256",
-    b"Size",
-    b"Source",
-    b"Standards-Version",
-    b"Suggests",
-    b"Tag",
-    b"Task",
-    b"Testsuite",
-    b"Uploaders",
-    b"Vcs-Browser",
-    b"Vcs-Git",
-    b"Version",
-];
 
 /// How many bytes of two names are compared at once.
 const STEP: usize = 32;
@@ -137,27 +75,10 @@ pub(crate) fn append_name(field: &RawField<'_>, text: &mut Vec<u8>) -> Result<()
     ensures { OnOk result
         (text.new.items ≡ text.old.items ++ canonical_name field.now.name.now) }
 {
-    match known_name(field.id) {
+    match field.id.canonical_name() {
         Some(name) => text.extend_from_slice(name),
         None => append_spelled(field.name, text),
     }
-}
-
-/// Returns the canonical spelling of the name of a field of the table, or `None` for any other
-/// field.
-fn known_name(id: FieldId) -> Option<&'static [u8]>
-    ensures { IfSome result
-        (λ found. (name : List ℕ) → known_row name ≡ row_of id → found.now ≡ canonical_name name) }
-{
-    let name = known_names().get(id.row())?;
-    Some(*name)
-}
-
-/// Lends the names.
-fn known_names() -> &'static [&'static [u8]]
-    ensures { map (λ name. name.now) result.now ≡ known_names }
-{
-    &KNOWN_NAMES
 }
 
 /// Appends the canonical spelling of a name.

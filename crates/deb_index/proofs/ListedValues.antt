@@ -11,7 +11,7 @@ use Rattle.deb_syntax.specs.Fields.{Field, are_fields}
 use Rattle.deb_syntax.specs.Meaning.{byte_order, entries_of}
 use Rattle.deb_syntax.specs.Raw.{field_named}
 use Rattle.deb_syntax.proofs.JudgingLawsMeaning.{body_at-entries_of}
-use Rattle.deb_base.specs.Kinds.{kind_at, known_row, kind_of, required}
+use Rattle.deb_base.specs.Kinds.{kind_at, known_row, kind_of, required, row_count}
 use Rattle.deb_field.specs.ValueLaws.{value_law}
 use Rattle.deb_field.specs.Values.{ValueMeaning, NameMeans, VersionMeans, ArchitectureMeans, MultiArchMeans, RelationMeans, value_text, SpellsValue}
 use Rattle.deb_field.specs.declared.flag.MultiArch.{MultiArch}
@@ -188,7 +188,7 @@ said-again None = refl
 said-again (Some word) = refl
 
 -- the table has these fields
-known : (known_row (codes "Package") < 54) × (known_row (codes "Version") < 54) × (known_row (codes "Architecture") < 54) × (known_row (codes "Provides") < 54)
+known : (known_row (codes "Package") < row_count) × (known_row (codes "Version") < row_count) × (known_row (codes "Architecture") < row_count) × (known_row (codes "Provides") < row_count)
 unfolding known_row
 known = (omega arith, omega arith, omega arith, omega arith)
 

@@ -1,25 +1,16 @@
 //! Keeps the values of a paragraph that an index needs, while the paragraph is checked.
 
-ghost use Rattle.std.specs.Prelude.{◌≡◌, ◌==◌, cond};
+ghost use Rattle.std.specs.Prelude.{◌≡◌, ◌==◌, codes, cond};
+ghost use Rattle.deb_base.specs.Kinds.{known_row};
 ghost use Rattle.deb_base.specs.KnownFields.{row_of};
 ghost use Rattle.deb_field.specs.ValueMeanings.{value_meaning};
 ghost use Rattle.deb_index.specs.PackageBuilder.{KeepsVisited, multi_arch_in, texts_kept};
 
+use deb_base::rows::{ARCHITECTURE, MULTI_ARCH, PACKAGE, PROVIDES, VERSION};
 use deb_control::{FieldTexts, FieldVisitor};
 use deb_field::{MultiArch, Value};
 use deb_syntax::RawField;
 use std::alloc::{AllocError, Global};
-
-// The rows of the fields that an index keeps, in the table of fields.
-const ARCHITECTURE: usize = 0;
-
-const MULTI_ARCH: usize = 29;
-
-const PACKAGE: usize = 31;
-
-const PROVIDES: usize = 35;
-
-const VERSION: usize = 53;
 
 /// What is kept of the fields of a paragraph while it is checked.
 #[derive(Drop)]
@@ -84,12 +75,13 @@ impl FieldVisitor for PackageBuilder {
 }
 
 /// Returns the word of Multi-Arch after one more field.
+#[tactic(auto, unfolding(deb_base::specs::Kinds::known_row))]
 fn with_multi_arch(
     before: Option<MultiArch>,
     field: &RawField<'_>,
     value: &Value<'_>,
 ) -> Option<MultiArch>
-    ensures { result ≡ cond (row_of field.now.id == 29)
+    ensures { result ≡ cond (row_of field.now.id == known_row (codes "Multi-Arch"))
         (multi_arch_in (value_meaning value.now)) before }
 {
     if field.id.row() != MULTI_ARCH {

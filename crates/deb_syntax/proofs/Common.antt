@@ -40,7 +40,7 @@ pub use Rattle.deb_base.specs.Bodies.{HasNoNewline, IsBody, Line, begins_with_bl
 pub use Rattle.deb_base.specs.Devices.{Shown, read_failures_after}
 pub use Rattle.deb_base.specs.Faults.{IsReadersFault}
 pub use Rattle.deb_base.specs.FieldNames.{colon, is_name, is_name_byte, may_begin_name}
-pub use Rattle.deb_base.specs.Kinds.{known_row}
+pub use Rattle.deb_base.specs.Kinds.{known_row, row_count}
 pub use Rattle.deb_base.specs.KnownFields.{IsAtFront, row_of}
 pub use Rattle.deb_base.specs.Names.{canonical_name, folded}
 pub use Rattle.deb_base.specs.declared.known_fields.FieldId.{FieldId}

@@ -18,11 +18,11 @@ Keeps-longer text front last end names k =
     let stood : map (name_at text) (front ++ last ∷ []) ≡ map (name_at text) (front ++ longer ∷ []) = map_push (name_at text) front last ∙ sym (map_push (name_at text) front longer) in
     record {
       known = λ row within. k.known row within ∙ list_any-append (λ p. row_of p.id == row) front (last ∷ []) ∙ sym (list_any-append (λ p. row_of p.id == row) front (longer ∷ []));
-      others = subst (λ s. (names.all.keys ≡ []) ⊎ ((name : List ℕ) → 54 ≤ known_row name → is_kept name names.all.keys ≡ has_stood name s)) stood k.others;
+      others = subst (λ s. (names.all.keys ≡ []) ⊎ ((name : List ℕ) → row_count ≤ known_row name → is_kept name names.all.keys ≡ has_stood name s)) stood k.others;
     }
 
 -- a name of the table stood exactly where its row did
-pub has_stood-row : (text name : List ℕ) (spans : List FieldSpan) → list_all (lies_within text) spans ≡ true → known_row name < 54 → has_stood name (map (name_at text) spans) ≡ has_row (known_row name) spans
+pub has_stood-row : (text name : List ℕ) (spans : List FieldSpan) → list_all (lies_within text) spans ≡ true → known_row name < row_count → has_stood name (map (name_at text) spans) ≡ has_row (known_row name) spans
 has_stood-row text name [] lie within = refl
 has_stood-row text name (p ∷ spans) lie within =
     let parts = and_parts (lies_within text p) (list_all (lies_within text) spans) lie in
@@ -38,13 +38,13 @@ eqb-sym a b = same_from_decides _ _ (λ t. sym (eqb-true a b t), λ e. eq-eqb a 
 
 module _ (text name : List ℕ) (spans : List FieldSpan) (old new : Names) (keeps : Keeps text spans old) where
   -- of the table
-  pub KeepsNext-known : known_row name < 54 → new.all.keys ≡ old.all.keys → ((k : ℕ) → get_or new.known k false ≡ (get_or old.known k false || (k == known_row name))) → KeepsNext text spans name new
+  pub KeepsNext-known : known_row name < row_count → new.all.keys ≡ old.all.keys → ((k : ℕ) → get_or new.known k false ≡ (get_or old.known k false || (k == known_row name))) → KeepsNext text spans name new
   KeepsNext-known within all known = λ span named id. record {
     known = λ row small. known row ∙ ap (λ t. t || (row == known_row name)) (keeps.known row small) ∙ ap (λ t. has_row row spans || t) (eqb-sym row (known_row name) ∙ ap (λ n. n == row) (sym id)) ∙ sym (has_row-push row spans span);
-    others = subst (λ keys. (keys ≡ []) ⊎ ((other : List ℕ) → 54 ≤ known_row other → is_kept other keys ≡ has_stood other (map (name_at text) (spans ++ span ∷ [])))) (sym all) (more span named keeps.others);
+    others = subst (λ keys. (keys ≡ []) ⊎ ((other : List ℕ) → row_count ≤ known_row other → is_kept other keys ≡ has_stood other (map (name_at text) (spans ++ span ∷ [])))) (sym all) (more span named keeps.others);
   }
     where
-      more : (span : FieldSpan) → name_at text span ≡ name → ((old.all.keys ≡ []) ⊎ ((other : List ℕ) → 54 ≤ known_row other → is_kept other old.all.keys ≡ has_stood other (map (name_at text) spans))) → ((old.all.keys ≡ []) ⊎ ((other : List ℕ) → 54 ≤ known_row other → is_kept other old.all.keys ≡ has_stood other (map (name_at text) (spans ++ span ∷ []))))
+      more : (span : FieldSpan) → name_at text span ≡ name → ((old.all.keys ≡ []) ⊎ ((other : List ℕ) → row_count ≤ known_row other → is_kept other old.all.keys ≡ has_stood other (map (name_at text) spans))) → ((old.all.keys ≡ []) ⊎ ((other : List ℕ) → row_count ≤ known_row other → is_kept other old.all.keys ≡ has_stood other (map (name_at text) (spans ++ span ∷ []))))
       more span named (inl none) = inl none
       more span named (inr all) = inr (λ other behind.
           all other behind
@@ -54,8 +54,8 @@ module _ (text name : List ℕ) (spans : List FieldSpan) (old new : Names) (keep
           ∙ ap (has_stood other) (sym (map_push (name_at text) spans span)))
 
   -- another name
-  module _ (behind : 54 ≤ known_row name) (same : new.known ≡ old.known) where
-    known_after : (span : FieldSpan) → row_of span.id ≡ known_row name → (row : ℕ) → row < 54 → get_or new.known row false ≡ has_row row (spans ++ span ∷ [])
+  module _ (behind : row_count ≤ known_row name) (same : new.known ≡ old.known) where
+    known_after : (span : FieldSpan) → row_of span.id ≡ known_row name → (row : ℕ) → row < row_count → get_or new.known row false ≡ has_row row (spans ++ span ∷ [])
     known_after span id row small =
         ap (λ l. get_or l row false) same ∙ keeps.known row small ∙ sym (or_false (has_row row spans))
         ∙ ap (λ t. has_row row spans || t) (sym (differ (row_of span.id) row (omega (arith, id, behind, small)))) ∙ sym (has_row-push row spans span)
@@ -70,7 +70,7 @@ module _ (text name : List ℕ) (spans : List FieldSpan) (old new : Names) (keep
     pub KeepsNext-few : new.all.keys ≡ [] → KeepsNext text spans name new
     KeepsNext-few none = λ span named id. record { known = known_after span id; others = inl none }
 
-    pub KeepsNext-all : (mid : List FoldedName) → ((other : List ℕ) → 54 ≤ known_row other → is_kept other mid ≡ has_stood other (map (name_at text) spans)) → ((other : List ℕ) → is_kept other new.all.keys ≡ (is_kept other mid || bytes_eq (folded name) (folded other))) → KeepsNext text spans name new
+    pub KeepsNext-all : (mid : List FoldedName) → ((other : List ℕ) → row_count ≤ known_row other → is_kept other mid ≡ has_stood other (map (name_at text) spans)) → ((other : List ℕ) → is_kept other new.all.keys ≡ (is_kept other mid || bytes_eq (folded name) (folded other))) → KeepsNext text spans name new
     KeepsNext-all mid all kept = λ span named id. record {
       known = known_after span id;
       others = inr (λ other beyond.

@@ -5,7 +5,7 @@ use Rattle.std.specs.Str.{is_utf8, chars}
 use lib.Utf8.{encode}
 use Rattle.std.specs.List.{list_all}
 use Rattle.deb_base.specs.Bodies.{newline, paragraph_limit, file_limit}
-use Rattle.deb_base.specs.Kinds.{known_row}
+use Rattle.deb_base.specs.Kinds.{known_row, row_count}
 use Rattle.deb_base.specs.declared.known_fields.FieldId.{FieldId}
 use Rattle.deb_syntax.specs.declared.field_span.FieldSpan.{FieldSpan}
 use Rattle.deb_syntax.specs.declared.paragraphs.CurrentParagraph.{CurrentParagraph}
@@ -49,7 +49,7 @@ abbrev buffer : List ℕ
 buffer = codes "\n\nA: 1\n 2\nB:\nC"
 
 abbrev other : FieldId
-other = record { 0 = 54 }
+other = record { 0 = row_count }
 
 abbrev two_spans : List FieldSpan
 two_spans =

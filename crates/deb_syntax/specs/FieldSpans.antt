@@ -3,7 +3,7 @@
 use Rattle.std.specs.Prelude.{◌≡◌, ◌⊎◌, ℕ, ◌+◌, ◌<◌, ◌≤◌, ◌==◌, ◌&&◌, Bool, true, false, List, [], ◌∷◌, ◌++◌, length, map, nat_le, nat_lt, get_or, slice_range, IsTrue, Result, Err, codes, refl}
 use Rattle.std.specs.List.{list_all, list_any}
 use Rattle.std.specs.Str.{bytes_eq}
-use Rattle.deb_base.specs.Kinds.{known_row}
+use Rattle.deb_base.specs.Kinds.{known_row, row_count}
 use Rattle.deb_base.specs.KnownFields.{row_of}
 use Rattle.deb_base.specs.Names.{folded}
 use Rattle.deb_base.specs.declared.fault.Fault.{Fault}
@@ -79,9 +79,9 @@ has_row row spans = list_any (λ span. row_of span.id == row) spans
 -- What is kept of the names in the spans: which of the table stood, and of the others all in a
 -- set, or none.
 pub record Keeps (text : List ℕ) (spans : List FieldSpan) (names : Names) : Type 0 where
-  pub known : (row : ℕ) → row < 54 → get_or names.known row false ≡ has_row row spans
+  pub known : (row : ℕ) → row < row_count → get_or names.known row false ≡ has_row row spans
   pub others : (names.all.keys ≡ [])
-      ⊎ ((name : List ℕ) → 54 ≤ known_row name
+      ⊎ ((name : List ℕ) → row_count ≤ known_row name
       → is_kept name names.all.keys ≡ has_stood name (map (name_at text) spans))
 
 -- The name that comes next is kept, wherever its field ends.
@@ -107,7 +107,7 @@ IsFaultOf judgement Write = ⊥
 
 -- for the worked cases: the id of a name that isn't in the table, and a span of such a name
 abbrev other : FieldId
-other = record { 0 = 54 }
+other = record { 0 = row_count }
 
 abbrev place_from : (line start colon end : ℕ) → FieldSpan
 place_from line start colon end = record {
@@ -139,10 +139,10 @@ unfolding known_row
 place_beyond = refl
 
 -- without case, with the id of another row, and with none of the table
-other_ids : (lies_within (codes "Tag: 1") (tag_in 47) ≡ true)
-    × (lies_within (codes "tAG: 1") (tag_in 47) ≡ true)
-    × (lies_within (codes "Tag: 1") (tag_in 48) ≡ false)
-    × (lies_within (codes "Tag: 1") (tag_in 54) ≡ false)
+other_ids : (lies_within (codes "Tag: 1") (tag_in (known_row (codes "Tag"))) ≡ true)
+    × (lies_within (codes "tAG: 1") (tag_in (known_row (codes "Tag"))) ≡ true)
+    × (lies_within (codes "Tag: 1") (tag_in (known_row (codes "Task"))) ≡ false)
+    × (lies_within (codes "Tag: 1") (tag_in row_count) ≡ false)
 unfolding known_row
 other_ids = (refl, refl, refl, refl)
 
@@ -190,7 +190,8 @@ kept_names_without_case : (is_kept (codes "pACKAGE")
     × (is_kept (codes "Package") [] ≡ false)
 kept_names_without_case = (refl, refl, refl)
 
-rows_of_places : (has_row 47 (tag_in 47 ∷ []) ≡ true)
-    × (has_row 46 (tag_in 47 ∷ []) ≡ false)
-    × (has_row 47 [] ≡ false)
+rows_of_places : (has_row (known_row (codes "Tag")) (tag_in (known_row (codes "Tag")) ∷ []) ≡ true)
+    × (has_row (known_row (codes "Task")) (tag_in (known_row (codes "Tag")) ∷ []) ≡ false)
+    × (has_row (known_row (codes "Tag")) [] ≡ false)
+unfolding known_row
 rows_of_places = (refl, refl, refl)

@@ -6,7 +6,7 @@ use Rattle.std.specs.Str.{bytes_eq, is_utf8, chars}
 use lib.Utf8.{encode}
 use denote.Ref.{Bor}
 use Rattle.deb_base.specs.Bodies.{paragraph_limit}
-use Rattle.deb_base.specs.Kinds.{known_row}
+use Rattle.deb_base.specs.Kinds.{known_row, row_count}
 use Rattle.deb_base.specs.Names.{folded}
 use Rattle.deb_base.specs.declared.known_fields.FieldId.{FieldId}
 use Rattle.deb_syntax.specs.Fields.{Field}
@@ -61,7 +61,7 @@ abbrev to : {T : Type 0} → T → Bor T
 to value = record { ref_ptr = (0, 0); now = value }
 
 abbrev other : FieldId
-other = record { 0 = 54 }
+other = record { 0 = row_count }
 
 abbrev two_spans : List FieldSpan
 two_spans =

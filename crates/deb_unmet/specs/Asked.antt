@@ -1,8 +1,9 @@
 -- Which relations of which kind of file are asked. Debian Policy 5.3, 5.4, 7.2 and 7.7.
-use Rattle.std.specs.Prelude.{◌≡◌, ℕ, Bool, true, false, List, [], ◌∷◌, ◌++◌, map, codes, refl}
-use Rattle.deb_base.specs.Kinds.{known_row}
+use Rattle.std.specs.Prelude.{◌≡◌, ℕ, Bool, true, false, List, [], ◌∷◌, ◌++◌, map, get_or, codes, refl}
+use Rattle.deb_base.specs.Kinds.{known_fields, known_row, row_count}
 use Rattle.deb_base.specs.declared.doc.Doc.{Doc}
 use Rattle.deb_base.specs.declared.doc.Doc.TheVariants as docs
+use Rattle.deb_base.specs.declared.kind.Kind.TheVariants.{Text}
 use Rattle.deb_base.specs.declared.version_text.VersionText.{VersionText}
 use Rattle.deb_unmet.specs.declared.asked.Asked.{Asked}
 use Rattle.deb_unmet.specs.declared.asked.Asked.TheVariants.{Packages, Binary, Sources, Source}
@@ -38,7 +39,7 @@ fields_asked Source = build_fields
 
 -- the rows of these fields in the table of fields; one that it doesn't have if there are only two
 abbrev pub rows_with : Strength → List ℕ
-rows_with Depends = map known_row (fields_with Depends) ++ 54 ∷ []
+rows_with Depends = map known_row (fields_with Depends) ++ row_count ∷ []
 rows_with Recommends = map known_row (fields_with Recommends)
 
 abbrev pub rows_asked : Asked → List ℕ
@@ -83,9 +84,13 @@ worked-fields : map fields_asked all_asked
     ≡ strong ∷ with_recommends ∷ strong ∷ with_recommends ∷ to_build ∷ to_build ∷ []
 worked-fields = refl
 
-worked-rows : map rows_asked all_asked
-    ≡ (33 ∷ 15 ∷ 54 ∷ []) ∷ (33 ∷ 15 ∷ 37 ∷ []) ∷ (33 ∷ 15 ∷ 54 ∷ []) ∷ (33 ∷ 15 ∷ 37 ∷ [])
-    ∷ (7 ∷ 8 ∷ 9 ∷ []) ∷ (7 ∷ 8 ∷ 9 ∷ []) ∷ []
+-- the names in the rows of the table; nothing after the last one
+abbrev names_in : List ℕ → List (List ℕ)
+names_in rows = map (λ row. (get_or known_fields row ([], Text)).0) rows
+
+worked-rows : map (λ asked. names_in (rows_asked asked)) all_asked
+    ≡ (strong ++ [] ∷ []) ∷ with_recommends ∷ (strong ++ [] ∷ []) ∷ with_recommends ∷ to_build
+    ∷ to_build ∷ []
 unfolding known_row
 worked-rows = refl
 

@@ -5,6 +5,10 @@ ghost use Rattle.deb_relation.specs.Views.{names_of};
 ghost use Rattle.deb_base.specs.Kinds.{known_row};
 ghost use Rattle.deb_unmet.specs.Asked.{doc_of, fields_asked, fields_with, is_binary, name_field, rows_asked, rows_with};
 
+use deb_base::rows::{
+    BUILD_DEPENDS, BUILD_DEPENDS_ARCH, BUILD_DEPENDS_INDEP, DEPENDS, PACKAGE, PRE_DEPENDS,
+    RECOMMENDS, SOURCE,
+};
 use deb_base::{KNOWN_FIELDS, VersionText};
 use deb_field::Doc;
 
@@ -97,22 +101,8 @@ impl Asked {
     }
 }
 
-// The rows of fields in the table of fields.
-pub(crate) const ARCHITECTURE: usize = 0;
-
-pub(crate) const DEPENDS: usize = 15;
-
-pub(crate) const PACKAGE: usize = 31;
-
-pub(crate) const PRE_DEPENDS: usize = 33;
-
-pub(crate) const RECOMMENDS: usize = 37;
-
-const SOURCE: usize = 44;
-
-pub(crate) const VERSION: usize = 53;
-
-const BUILD_ROWS: [usize; 3] = [7, 8, 9];
+// The rows of the fields in `BUILD`.
+const BUILD_ROWS: [usize; 3] = [BUILD_DEPENDS, BUILD_DEPENDS_ARCH, BUILD_DEPENDS_INDEP];
 
 const STRONG: &'static [&'static [u8]] = &[b"Pre-Depends", b"Depends"];
 

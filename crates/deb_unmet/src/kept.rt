@@ -12,9 +12,9 @@ ghost use Rattle.deb_unmet.specs.Spelled.{version_word};
 ghost use Rattle.deb_unmet.specs.declared.asked.Asked.TheVariants.{Packages};
 ghost use Rattle.deb_unmet.specs.declared.asked.Strength.{Strength};
 
-use crate::asked::{ARCHITECTURE, DEPENDS, PACKAGE, PRE_DEPENDS, RECOMMENDS, VERSION};
 use crate::line_texts::{LineTexts, spelled_body};
 use deb_base::VersionText;
+use deb_base::rows::{ARCHITECTURE, DEPENDS, PACKAGE, PRE_DEPENDS, RECOMMENDS, VERSION};
 use deb_control::{CheckedView, FieldTexts};
 use deb_index::Keeper;
 use std::alloc::{AllocError, Global};

@@ -9,8 +9,9 @@ ghost use Rattle.deb_unmet.specs.Fields.{architecture_of};
 ghost use Rattle.deb_unmet.specs.Paragraphs.{HasTextsOf, fields_in};
 ghost use Rattle.deb_unmet.specs.Spelled.{spelled_in, version_word};
 
-use crate::asked::{ARCHITECTURE, Asked, Request, VERSION};
+use crate::asked::{Asked, Request};
 use deb_base::VersionText;
+use deb_base::rows::{ARCHITECTURE, VERSION};
 use deb_control::{CheckedView, FieldTexts};
 
 /// How many relations are asked at most.

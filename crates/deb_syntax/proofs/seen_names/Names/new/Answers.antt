@@ -4,4 +4,4 @@ use Rattle.deb_syntax.proofs.NameIds.{none_set}
 use Rattle.deb_syntax.proofs.seen_names.Names.new.Goals as goal
 
 pub returns : goal.returns
-returns c = λ text. record { known = λ row small. none_set (replicate 54 false) refl row; others = inl c.new.ensures.empty }
+returns c = λ text. record { known = λ row small. none_set (replicate row_count false) refl row; others = inl c.new.ensures.empty }
