@@ -1,5 +1,5 @@
 -- Look-ups in the table of fields.
-use Rattle.std.proofs.Common.{[], ◌≡◌, ℕ, ◌+◌, ◌<◌, ◌≤◌, ◌==◌, Bool, true, false, Bor, List, length, map, get_or, refl, sym, ap, subst, ◌∙◌, arith}
+use Rattle.std.proofs.Common.{[], ◌≡◌, ℕ, ◌+◌, ◌<◌, ◌≤◌, ◌==◌, Bool, true, false, List, length, map, get_or, refl, sym, ap, subst, ◌∙◌, arith}
 use Rattle.std.proofs.lemmas.Bool.{eq-eqb, eqb-true, false_from_ne_true, true≢false}
 use Rattle.std.proofs.lemmas.Bool.Decides.{Decides-eqb, not_from_Decides, same_from_decides}
 use Rattle.std.proofs.lemmas.List.{get_or-map, get_or_past, length-map}
@@ -13,7 +13,6 @@ use Rattle.deb_base.specs.FieldNames.{is_name}
 use Rattle.deb_base.specs.Names.{canonical_name, folded}
 use Rattle.deb_base.specs.Kinds.{FieldRow, kind_at, known_fields, known_row, names_of_rows, row_count}
 use Rattle.deb_base.specs.KnownFields.{filled, row_for, row_in}
-use Rattle.deb_base.specs.declared.kind.Kind.{Kind}
 use Rattle.deb_base.specs.declared.known_fields.Row.{Row}
 use Rattle.deb_base.proofs.CanonicalNames.{canonical_name-from_folded, folded-canonical_name, length-capitalised}
 use Rattle.deb_base.specs.declared.kind.Kind.TheVariants.{Text}

@@ -1,6 +1,6 @@
 -- The rows that the first four bytes of a text select.
 use Rattle.std.proofs.Common.{[], ◌∷◌, ◌≡◌, ℕ, zero, suc, ◌+◌, ◌*◌, ◌/◌, ◌%◌, ◌^◌, ◌<◌, ◌≤◌, ◌++◌, Bool, true, List, length, take, get_or, nat_le, codes, refl, sym, ap, subst, ◌∙◌, arith}
-use Rattle.std.specs.Int.{byte_worth, from_le_bytes, sum_through, w32}
+use Rattle.std.specs.Int.{byte_worth, sum_through}
 use Rattle.std.specs.List.{list_all, range_with_len}
 use Rattle.std.proofs.lemmas.Bool.{leb-true}
 use Rattle.std.proofs.lemmas.List.{get_or-take, length-append, length-take}
