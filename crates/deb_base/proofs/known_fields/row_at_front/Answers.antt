@@ -9,8 +9,8 @@ use Rattle.deb_base.proofs.known_fields.row_at_front.Goals as goal
 
 pub returns-then-starts_with-clause-some : goal.returns-then-starts_with-clause-some
 returns-then-starts_with-clause-some c =
-    let table = c.fields-known.result.now in
-    let is = c.fields-known.ensures in
+    let table = c.fields-2.result.now in
+    let is = c.fields-2.ensures in
     let row = c.from-index.result in
     let line = c.args.line.now in
     let within : row < length table = omega (arith, c.if-index-fields.false, length_of_table table is, length_of_table c.fields.result.now c.fields.ensures) in
@@ -20,8 +20,8 @@ returns-then-starts_with-clause-some c =
 pub returns-then-starts_with-clause-some_iff_begins :
     goal.returns-then-starts_with-clause-some_iff_begins
 returns-then-starts_with-clause-some_iff_begins c small =
-    let table = c.fields-known.result.now in
-    let is = c.fields-known.ensures in
+    let table = c.fields-2.result.now in
+    let is = c.fields-2.ensures in
     let row = c.from-index.result in
     let line = c.args.line.now in
     let within : row < length table = omega (arith, c.if-index-fields.false, length_of_table table is, length_of_table c.fields.result.now c.fields.ensures) in
@@ -30,8 +30,8 @@ returns-then-starts_with-clause-some_iff_begins c small =
 
 pub returns-clause-some_iff_begins : goal.returns-clause-some_iff_begins
 returns-clause-some_iff_begins c small =
-    let table = c.fields-known.result.now in
-    let is = c.fields-known.ensures in
+    let table = c.fields-2.result.now in
+    let is = c.fields-2.ensures in
     let row = c.from-index.result in
     let line = c.args.line.now in
     let within : row < length table = omega (arith, c.if-index-fields.false, length_of_table table is, length_of_table c.fields.result.now c.fields.ensures) in
@@ -39,5 +39,5 @@ returns-clause-some_iff_begins c small =
     ∙ elim c.else-len-line.branch [
       | else-len-line-via-then-len-line+else-starts_with w ↦
           sym (row_starts table is row _ within line _ w.if-len-line.true refl) ∙ sym w.starts_with.ensures.value ∙ w.if-starts_with.false
-      | else-len-line-via-else-len-line w ↦ row_starts_not table is row _ within line (omega (arith, w.if-len-line.false))
+      | else-len-line-via-else-len-line w ↦ row_starts_not table is row _ within line w.if-len-line.false
     ])

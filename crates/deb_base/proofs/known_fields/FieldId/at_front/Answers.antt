@@ -10,12 +10,12 @@ loop-row-init c row within before =
 
 pub loop-row-preserved : goal.loop-row-preserved
 loop-row-preserved c =
-    one_more c.args.line.now c.loop-row.row c.loop-row.invariant (λ within. sym (c.in_default-row_at_front.ensures.some_iff_begins within))
+    one_more c.args.line.now c.loop-row.row c.loop-row.invariant (λ within. sym (c.in_default.ensures.some_iff_begins within))
 
-pub returns-in-Some-row_at_front-clause-some_iff_known :
-    goal.returns-in-Some-row_at_front-clause-some_iff_known
-returns-in-Some-row_at_front-clause-some_iff_known c =
-    let is = c.in-Some-row_at_front.ensures in
+pub returns-in-Some-clause-some_iff_known :
+    goal.returns-in-Some-clause-some_iff_known
+returns-in-Some-clause-some_iff_known c =
+    let is = c.in-Some.ensures in
     let within = is.known refl in
     sym (known c.args.line.now c.loop-row.row within (sym (is.some_iff_begins within)))
 
