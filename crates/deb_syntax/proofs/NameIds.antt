@@ -1,5 +1,5 @@
 -- What is kept of the names at spans: which fields of the table stood, and all others in a set.
-use Rattle.deb_syntax.proofs.Common.{◌≡◌, ◌⊎◌, inl, inr, ℕ, zero, suc, not, true≢false, ◌<◌, ◌≤◌, ◌==◌, ◌||◌, Bool, true, false, List, [], ◌∷◌, ◌++◌, map, get_or, refl, sym, ap, subst, ◌∙◌, arith, list_all, list_any-append, bytes_eq, eqb-true, eq-eqb, and_parts, map_push, folded, known_row, row_of, name_at, lies_within, has_row, has_stood, is_kept, Keeps, KeepsNext, FieldSpan, Names, FoldedName}
+use Rattle.deb_syntax.proofs.Common.{row_count, ◌≡◌, ◌⊎◌, inl, inr, ℕ, zero, suc, not, true≢false, ◌<◌, ◌≤◌, ◌==◌, ◌||◌, Bool, true, false, List, [], ◌∷◌, ◌++◌, map, get_or, refl, sym, ap, subst, ◌∙◌, arith, list_all, list_any-append, bytes_eq, eqb-true, eq-eqb, and_parts, map_push, folded, known_row, row_of, name_at, lies_within, has_row, has_stood, is_kept, Keeps, KeepsNext, FieldSpan, Names, FoldedName}
 use Rattle.std.proofs.lemmas.Bool.Decides.{Decides-eqb, same_from_decides}
 use Rattle.deb_base.proofs.FieldLookups.{other_rows, same_rows}
 use Rattle.deb_syntax.proofs.NameSets.{has_stood-push, or_false}

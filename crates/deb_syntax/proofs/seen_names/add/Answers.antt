@@ -1,4 +1,4 @@
-use Rattle.deb_syntax.proofs.Common.{not, refl, sym, ap, subst, ◌∙◌, ◌<◌, ltb-true, ◌==◌, ◌||◌, false, get_or, known_row}
+use Rattle.deb_syntax.proofs.Common.{row_count, not, refl, sym, ap, subst, ◌∙◌, ◌<◌, ltb-true, ◌==◌, ◌||◌, false, get_or, known_row}
 use Rattle.deb_syntax.proofs.NameIds.{KeepsNext-known, has_stood-row}
 use Rattle.deb_syntax.proofs.seen_names.add.Goals as goal
 

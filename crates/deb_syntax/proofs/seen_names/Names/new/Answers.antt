@@ -1,4 +1,4 @@
-use Rattle.deb_syntax.proofs.Common.{refl, inl, false}
+use Rattle.deb_syntax.proofs.Common.{row_count, refl, inl, false}
 use Rattle.std.specs.Prelude.{replicate}
 use Rattle.deb_syntax.proofs.NameIds.{none_set}
 use Rattle.deb_syntax.proofs.seen_names.Names.new.Goals as goal
