@@ -31,10 +31,6 @@ pub record GivesNothing {T : Type 0} (into : Buffer T) : Type 0 where
 
 -- Worked cases.
 
-worked-buffer : buffer (codes "xy") (codes "ay") 1
-    ≡ record { before = codes "xy"; after = codes "ay"; len = 1 }
-worked-buffer = refl
-
 given : Gives (codes "ab") (buffer (codes "xyz") (codes "abz") 2)
 given = record { fits = omega arith; is = refl; counted = refl }
 

@@ -6,7 +6,6 @@ use Rattle.deb_base.specs.declared.doc.Doc.TheVariants.{Packages}
 use Rattle.deb_base.specs.declared.refusal.Refusal.{Refusal}
 use Rattle.deb_control.specs.Documents.{refusal_of}
 use Rattle.deb_version.specs.Canonical.{version_text}
-use Rattle.deb_version.specs.Places.{version_in}
 use Rattle.deb_index.specs.FirstLines.{first_lines}
 use Rattle.deb_index.specs.Indexes.{lines_of, packages_of}
 use Rattle.deb_index.specs.Listed.{Listed}
@@ -16,7 +15,7 @@ use Rattle.deb_index.specs.Questions.{Question}
 use Rattle.deb_index.specs.declared.index.Index.{Index}
 use Rattle.debctl_ffi.specs.Answers.{HasStatus, counting, plain, refusing}
 use Rattle.debctl_ffi.specs.Buffers.{Buffer}
-use Rattle.debctl_ffi.specs.Queries.{QueryFails, Reports}
+use Rattle.debctl_ffi.specs.Queries.{QueryFails, Reports, hello}
 use Rattle.debctl_ffi.specs.Replies.{Replies}
 use Rattle.debctl_ffi.specs.Unmet.{Asker, ListsUnmet, UnmetFails}
 use Rattle.debctl_ffi.specs.declared.answer.Answer.{Answer}
@@ -82,13 +81,7 @@ pub record HasWords (number : ℕ) (packages : List Listed) (bytes : List ℕ) :
   pub is : package_at number packages ≡ Some listed
   pub words : bytes ≡ package_words listed
 
-worked-words : package_words (record {
-  name = codes "hello";
-  version = version_in (codes "1.0-0");
-  architecture = codes "all";
-  multi_arch = None;
-  provisions = [];
-}) ≡ codes "hello 1.0 all"
+worked-words : package_words hello ≡ codes "hello 1.0 all"
 worked-words = refl
 
 -- ---- asking it

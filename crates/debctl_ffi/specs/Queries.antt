@@ -59,17 +59,22 @@ pub record ReportsOver (detail : Detail) (packages : List Listed) (relation : Re
 worked-refusal : RefusesAsked ((with_list (codes "aa") false (codes "any") ∷ []) ∷ []) wildcard
 worked-refusal = (refl, refl)
 
--- of a package that is there, and of one that isn't
-worked-texts : map (λ detail. detail_text detail (record {
-  name = codes "aa";
+-- for worked cases
+abbrev pub hello : Listed
+hello = record {
+  name = codes "hello";
   version = version_in (codes "1.0-0");
   architecture = codes "all";
   multi_arch = None;
   provisions = [];
-} ∷ []) ((alone (codes "aa") ∷ []) ∷ (alone (codes "bb") ∷ []) ∷ [])
+}
+
+-- of a package that is there, and of one that isn't
+worked-texts : map (λ detail. detail_text detail (hello ∷ [])
+    ((alone hello.name ∷ []) ∷ (alone (codes "bb") ∷ []) ∷ [])
     (record { target = codes "i386"; profiles = [] })) (Verdicts ∷ Reasons ∷ [])
-    ≡ codes "met aa\n 1 aa 1.0 all\nunmet bb\n"
-    ∷ codes "met aa\n 1 aa 1.0 all\nunmet bb\n bb: no package has this name\n" ∷ []
+    ≡ codes "met hello\n 1 hello 1.0 all\nunmet bb\n"
+    ∷ codes "met hello\n 1 hello 1.0 all\nunmet bb\n bb: no package has this name\n" ∷ []
 unfolding digits group_text
 worked-texts = refl
 
