@@ -57,7 +57,8 @@ likely_for table row =
 
 -- whether the test holds of each row and what the table has for it
 abbrev pub is_likely_table : (ℕ → ℕ → Bool) → List ℕ → Bool
-is_likely_table test table = list_all (λ row. test row (likely_for table row)) (range_with_len 0 row_count)
+is_likely_table test table =
+    list_all (λ row. test row (likely_for table row)) (range_with_len 0 row_count)
 
 -- Worked cases.
 
