@@ -184,8 +184,8 @@ is held in memory.
 
 Use `--kind sources` for an index of source packages. As `packages`, `binary` or
 `source` it is usually refused because of its Architecture or a missing field. Use
-`--kind any` for other control data, such as a `.changes`, `Release`, status or
-copyright file; its values aren't checked then.
+`--kind status` for `/var/lib/dpkg/status`, and `--kind any` for other control data,
+such as a `.changes`, `Release` or copyright file; its values aren't checked then.
 
 Exit statuses:
   0  accepted
