@@ -45,20 +45,20 @@ complete -c debctl -n __debctl_at -a help -d 'Prints the help of the program or 
 complete -c debctl -n __debctl_at -s h -l help -d 'Print help'
 complete -c debctl -n __debctl_at -s V -l version -d 'Print version'
 complete -c debctl -n '__debctl_at check 0' -F
-complete -c debctl -n '__debctl_at check' -s k -l kind -x -a 'binary packages source sources any' -d 'The kind of file'
+complete -c debctl -n '__debctl_at check' -s k -l kind -x -a 'binary packages source sources status any' -d 'The kind of file'
 complete -c debctl -n '__debctl_at check' -s a -l all -d 'Report every error, not only the first one'
 complete -c debctl -n '__debctl_at check' -l complete -d 'Refuse a file that doesn'"'"'t end with a newline'
 complete -c debctl -n '__debctl_at check' -l least -x -d 'Refuse a file of fewer than N paragraphs'
 complete -c debctl -n '__debctl_at check' -s h -l help -d 'Print help'
 complete -c debctl -n '__debctl_at explain 0' -F
-complete -c debctl -n '__debctl_at explain' -s k -l kind -x -a 'binary packages source sources any' -d 'The kind of file'
+complete -c debctl -n '__debctl_at explain' -s k -l kind -x -a 'binary packages source sources status any' -d 'The kind of file'
 complete -c debctl -n '__debctl_at explain' -s a -l all -d 'Report every error, not only the first one'
 complete -c debctl -n '__debctl_at explain' -l code -x -d 'Explain an error code, from 1 to 23 or by its name, instead of a file'
 complete -c debctl -n '__debctl_at explain' -l relation -x -d 'Explain a relation instead of a file'
 complete -c debctl -n '__debctl_at explain' -l version-text -x -d 'Explain a version instead of a file'
 complete -c debctl -n '__debctl_at explain' -s h -l help -d 'Print help'
 complete -c debctl -n '__debctl_at audit' -F
-complete -c debctl -n '__debctl_at audit' -s k -l kind -x -a 'binary packages source sources any' -d 'The kind of file'
+complete -c debctl -n '__debctl_at audit' -s k -l kind -x -a 'binary packages source sources status any' -d 'The kind of file'
 complete -c debctl -n '__debctl_at audit' -s a -l all -d 'Report every error, not only the first one'
 complete -c debctl -n '__debctl_at audit' -l complete -d 'Refuse a file that doesn'"'"'t end with a newline'
 complete -c debctl -n '__debctl_at audit' -l least -x -d 'Refuse a file of fewer than N paragraphs'
@@ -66,15 +66,15 @@ complete -c debctl -n '__debctl_at audit' -l files0-from -r -F -d 'A file that l
 complete -c debctl -n '__debctl_at audit' -s 0 -l null -d 'End each line with a byte 0, and print paths unchanged'
 complete -c debctl -n '__debctl_at audit' -s h -l help -d 'Print help'
 complete -c debctl -n '__debctl_at normalise 0' -F
-complete -c debctl -n '__debctl_at normalise' -s k -l kind -x -a 'binary packages source sources any' -d 'The kind of file'
+complete -c debctl -n '__debctl_at normalise' -s k -l kind -x -a 'binary packages source sources status any' -d 'The kind of file'
 complete -c debctl -n '__debctl_at normalise' -s h -l help -d 'Print help'
 complete -c debctl -n '__debctl_at same 0' -F
 complete -c debctl -n '__debctl_at same 1' -F
-complete -c debctl -n '__debctl_at same' -s k -l kind -x -a 'binary packages source sources any' -d 'The kind of file'
+complete -c debctl -n '__debctl_at same' -s k -l kind -x -a 'binary packages source sources status any' -d 'The kind of file'
 complete -c debctl -n '__debctl_at same' -s h -l help -d 'Print help'
 complete -c debctl -n '__debctl_at diff 0' -F
 complete -c debctl -n '__debctl_at diff 1' -F
-complete -c debctl -n '__debctl_at diff' -s k -l kind -x -a 'binary packages source sources' -d 'The kind of both files'
+complete -c debctl -n '__debctl_at diff' -s k -l kind -x -a 'binary packages source sources status' -d 'The kind of both files'
 complete -c debctl -n '__debctl_at diff' -l values -d 'Print the lines of the fields that differ'
 complete -c debctl -n '__debctl_at diff' -l spelled -d 'Print each version as its file spells it'
 complete -c debctl -n '__debctl_at diff' -s h -l help -d 'Print help'

@@ -60,7 +60,8 @@ enum deb_kind {
     DEB_PACKAGES = 1, /* an index of binary packages: any number of paragraphs */
     DEB_SOURCE = 2,   /* the description of a source package: one paragraph */
     DEB_SOURCES = 3,  /* an index of source packages: any number of paragraphs */
-    DEB_ANY = 4       /* any control data; its values aren't checked */
+    DEB_ANY = 4,      /* any control data; its values aren't checked */
+    DEB_STATUS = 5    /* the status file of dpkg: any number of paragraphs */
 };
 
 /* Why a text is refused. */
@@ -305,8 +306,8 @@ enum deb_detail {
 
 /* Writes what changed in meaning between two files of a kind, an old one and a new one: the lines
  * that the program `debctl diff` writes. There is a line for each paragraph that was removed, added,
- * changed, or upgraded or downgraded to another version. `kind` is DEB_PACKAGES, DEB_BINARY, DEB_SOURCES or
- * DEB_SOURCE, and `detail` one of deb_detail.
+ * changed, or upgraded or downgraded to another version. `kind` is one of deb_kind, but not DEB_ANY,
+ * and `detail` one of deb_detail.
  * DEB_YES: there is no line, the files have the same paragraphs in some order; DEB_NO: there is one.
  * DEB_REFUSED: the old file is refused; DEB_SECOND_REFUSED: the old one is accepted and the new one
  * is refused; DEB_NO_ROOM; DEB_NO_MEMORY; DEB_NO_KIND: no such kind, or no such detail. */

@@ -54,7 +54,7 @@ class UnmetReport(NamedTuple):
 
 def check(text: Text, kind: Kind = "packages") -> int:
     """Returns the number of paragraphs of a file that is accepted as a document of this kind:
-    `packages`, `binary`, `source`, `sources` or `any`.
+    `packages`, `binary`, `source`, `sources`, `status` or `any`.
 
     Raises Refused if it is refused.
     """
@@ -190,7 +190,8 @@ def unmet_report(
     """
     (answer, lines), (kind, recommends) = answered, asked
     if answer.status == NO_KIND:
-        what = "Recommends of sources" if recommends and kind != "any" else f"relations of {kind!r}"
+        is_source = kind in ("source", "sources")
+        what = "Recommends of sources" if is_source else f"relations of {kind!r}"
         raise ValueError(f"there are no {what}")
     refused_as = _PACKAGES if answer.status == REFUSED else kind_of(kind)
     met = answered_file(answer, refused_as, index, file).status == YES

@@ -12,12 +12,12 @@ from typing import (
 from ._refusals import Refused
 
 Text = Union[str, bytes, bytearray, memoryview]
-Kind = Literal["packages", "binary", "sources", "source", "any"]
+Kind = Literal["packages", "binary", "sources", "source", "status", "any"]
 
 YES, NO, REFUSED, SECOND_REFUSED, NO_ROOM, NO_MEMORY, NO_KIND, NO_INDEX = range(8)
 _UNFILLED = 255  # the status of an answer that no call has written
 _LONG = 1 << 18  # the length from which a buffer's pages are taken as they are written
-_KINDS = {"binary": 0, "packages": 1, "source": 2, "sources": 3, "any": 4}
+_KINDS = {"binary": 0, "packages": 1, "source": 2, "sources": 3, "any": 4, "status": 5}
 _TEXT: List[Any] = [ctypes.c_char_p, ctypes.c_size_t]
 _LENGTH = ctypes.POINTER(ctypes.c_size_t)
 _BUFFER: List[Any] = [ctypes.c_char_p, ctypes.c_size_t, _LENGTH]

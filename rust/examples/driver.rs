@@ -22,6 +22,7 @@ const KINDS: [Kind; 5] = [
     Kind::Source,
     Kind::Sources,
     Kind::Any,
+    Kind::Status,
 ];
 
 /// The line of an error.
@@ -194,6 +195,7 @@ fn of_diff(number: usize, files: &[Vec<u8>]) -> Result<String, Error> {
         Kind::Binary => Compared::Binary,
         Kind::Packages => Compared::Packages,
         Kind::Source => Compared::Source,
+        Kind::Status => Compared::Status,
         _ => Compared::Sources,
     };
     let changes = diff(kind, number >= 8, &files[0], &files[1])?;

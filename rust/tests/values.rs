@@ -286,7 +286,7 @@ fn an_index_keeps_details() -> Result<(), Error> {
 
 #[test]
 fn names_are_read_and_printed() {
-    for name in ["binary", "packages", "source", "sources", "any"] {
+    for name in ["binary", "packages", "source", "sources", "any", "status"] {
         assert_eq!(
             name.parse().map(|kind: Kind| kind.to_string()),
             Ok(name.to_owned())

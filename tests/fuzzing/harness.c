@@ -465,7 +465,7 @@ int LLVMFuzzerTestOneInput(const uint8_t *data, size_t size) {
     struct deb_text texts[3] = {{0}};
     if (size < 3 || size > 1 << 15)
         return 0;
-    uint8_t what = data[0] % 7, kind = data[1] % 6;
+    uint8_t what = data[0] % 7, kind = data[1] % 7;
     const uint8_t *at = data + 3, *end = data + size;
     chosen = data[2];
     /* The texts themselves end at a guard page each. */

@@ -156,7 +156,8 @@ def answer(call, *words):
 def as_in_a_loaded_index():
     """Whether a loaded index answers of unmet relations as one that is read anew."""
     index, answers = debctl.Index(INDEX), set()
-    kinds, files = ["binary", "packages", "source", "sources", "any"], [INDEX, SOURCE, CONTROL, "\nx"]
+    kinds = ["binary", "packages", "source", "sources", "any", "status"]
+    files = [INDEX, SOURCE, CONTROL, "\nx"]
     for kind, file, more in itertools.product(kinds, files, (False, True)):
         for words in (["amd64", ["nocheck"]], ["any", []]):
             told = answer(index.unmet, file, *words, kind, more)
@@ -187,6 +188,10 @@ TESTS = {
     "nothing is unmet": debctl.unmet(INDEX, "", "amd64", ["nocheck"], kind="sources")
     == (True, ""),
     "unmet of any": isinstance(error(debctl.unmet, INDEX, INDEX, "amd64", kind="any"), ValueError),
+    "unmet of a status file": str(
+        error(debctl.unmet, INDEX, INDEX, "amd64", kind="status", recommends=True)
+    )
+    == "there are no relations of 'status'",
     "unmet of sources, with Recommends": isinstance(
         error(debctl.unmet, INDEX, "", "amd64", kind="sources", recommends=True), ValueError
     ),

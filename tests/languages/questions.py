@@ -2,7 +2,7 @@
 
 from pathlib import Path
 
-KINDS = ["binary", "packages", "source", "sources", "any"]
+KINDS = ["binary", "packages", "source", "sources", "any", "status"]
 ORDERS = {
     "lt": {-1}, "le": {-1, 0}, "eq": {0}, "ne": {-1, 1}, "ge": {0, 1}, "gt": {1},
     "<<": {-1}, "<=": {-1, 0}, "=": {0}, ">=": {0, 1}, ">>": {1},

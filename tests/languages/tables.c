@@ -141,6 +141,7 @@ static void try_unmet(void) {
         {DEB_PACKAGES, 0, "amd64", "\nx", "x", DEB_REFUSED, DEB_NO_COLON, 2, 0, NULL},
         {DEB_PACKAGES, 0, "amd64", packages, "\n\nx", DEB_SECOND_REFUSED, DEB_NO_COLON, 3, 0, NULL},
         {DEB_ANY, 0, "amd64", packages, packages, DEB_NO_KIND, 0, 0, 0, NULL},
+        {DEB_STATUS, 0, "amd64", packages, packages, DEB_NO_KIND, 0, 0, 0, NULL},
         {DEB_SOURCE, 1, "amd64", packages, source, DEB_NO_KIND, 0, 0, 0, NULL},
         {DEB_SOURCES, 1, "amd64", packages, "", DEB_NO_KIND, 0, 0, 0, NULL},
         {200, 0, "amd64", packages, packages, DEB_NO_KIND, 0, 0, 0, NULL},
@@ -228,7 +229,7 @@ static void try_fields(void) {
     IS(is(deb_fields(DEB_BINARY, NULL, 0, NULL, 0, &count, NULL, 0, &names_length, NULL, 0,
                      &values_length),
           DEB_REFUSED, DEB_NO_PARAGRAPH, 1, 0));
-    IS(is(deb_fields(5, bytes(file), size, NULL, 0, &count, NULL, 0, &names_length, NULL, 0,
+    IS(is(deb_fields(6, bytes(file), size, NULL, 0, &count, NULL, 0, &names_length, NULL, 0,
                      &values_length),
           DEB_NO_KIND, 0, 0, 0));
     IS(count == 0 && names_length == 0 && values_length == 0);
@@ -291,7 +292,7 @@ static void try_refusals(void) {
             try_table(&all[at], room);
     IS(is(deb_check_all(DEB_PACKAGES, NULL, 0, NULL, 0, &count), DEB_YES, 0, 0, 0) && count == 0);
     IS(is(deb_check_all(DEB_SOURCE, NULL, 0, NULL, 0, &count), DEB_NO_ROOM, 0, 0, 0) && count == 1);
-    for (at = 5; at <= 255; at += 250)
+    for (at = 6; at <= 255; at += 249)
         IS(is(deb_check_all((uint8_t)at, bytes(two_refused), strlen(two_refused), NULL, 0, &count),
               DEB_NO_KIND, 0, 0, 0) &&
            count == 0);

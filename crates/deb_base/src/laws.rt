@@ -6,7 +6,7 @@ ghost use Rattle.deb_base.specs.Names.{CanonicalNameTellsSameNames, CanonicalNam
 
 use crate::known_fields::rows::{
     ARCHITECTURE, BUILD_DEPENDS, BUILD_DEPENDS_ARCH, BUILD_DEPENDS_INDEP, DEPENDS, FORMAT,
-    MULTI_ARCH, PACKAGE, PRE_DEPENDS, PROVIDES, RECOMMENDS, SOURCE, VERSION,
+    MULTI_ARCH, PACKAGE, PRE_DEPENDS, PROVIDES, RECOMMENDS, SOURCE, STATUS, VERSION,
 };
 
 /// Two names have the same canonical spelling exactly if they are the same name.
@@ -31,8 +31,8 @@ pub fn rows_are_of_their_names()
         (codes "Architecture" ∷ codes "Build-Depends" ∷ codes "Build-Depends-Arch"
         ∷ codes "Build-Depends-Indep" ∷ codes "Depends" ∷ codes "Format" ∷ codes "Multi-Arch"
         ∷ codes "Package" ∷ codes "Pre-Depends" ∷ codes "Provides" ∷ codes "Recommends"
-        ∷ codes "Source" ∷ codes "Version" ∷ [])
+        ∷ codes "Source" ∷ codes "Status" ∷ codes "Version" ∷ [])
         ≡ ARCHITECTURE ∷ BUILD_DEPENDS ∷ BUILD_DEPENDS_ARCH ∷ BUILD_DEPENDS_INDEP ∷ DEPENDS
-        ∷ FORMAT ∷ MULTI_ARCH ∷ PACKAGE ∷ PRE_DEPENDS ∷ PROVIDES ∷ RECOMMENDS ∷ SOURCE ∷ VERSION
-        ∷ [] }
+        ∷ FORMAT ∷ MULTI_ARCH ∷ PACKAGE ∷ PRE_DEPENDS ∷ PROVIDES ∷ RECOMMENDS ∷ SOURCE ∷ STATUS
+        ∷ VERSION ∷ [] }
 {}

@@ -16,7 +16,7 @@ fn words(alloc: Global, line: &str) -> Result<Vec<String>, AllocError> {
 }
 
 /// A command line, and the task or the fault that it has.
-const LINES: [(&str, &str); 38] = [
+const LINES: [(&str, &str); 40] = [
     (
         "check",
         "Ok(Run(Call { job: Check(Packages), first: None, second: None }))",
@@ -65,6 +65,11 @@ const LINES: [(&str, &str); 38] = [
         first: Some(\"x\"), second: Some(\"y\") }))",
     ),
     (
+        "diff --kind status x y",
+        "Ok(Run(Call { job: Diff { kind: Status, detail: Fields, versions: Canonical }, \
+        first: Some(\"x\"), second: Some(\"y\") }))",
+    ),
+    (
         "diff --kind any x y",
         "Err(Usage(\"usage: diff takes no --kind any\"))",
     ),
@@ -108,6 +113,10 @@ const LINES: [(&str, &str); 38] = [
     (
         "unmet --arch amd64 -k source x",
         "Err(Usage(\"usage: unmet takes another --kind only with a second path\"))",
+    ),
+    (
+        "unmet --arch amd64 --kind status x y",
+        "Err(Usage(\"usage: unmet takes no --kind status\"))",
     ),
     (
         "unmet --arch amd64 --kind any x y",

@@ -13,7 +13,7 @@ use Rattle.deb_base.specs.declared.code.Code.{Code}
 use Rattle.deb_base.specs.declared.code.Code.TheVariants as code
 use Rattle.deb_base.specs.Docs.{doc_named}
 use Rattle.deb_base.specs.declared.doc.Doc.{Doc}
-use Rattle.deb_base.specs.declared.doc.Doc.TheVariants.{Packages, Binary, Sources, Source, Any}
+use Rattle.deb_base.specs.declared.doc.Doc.TheVariants.{Packages, Binary, Sources, Source, Status, Any}
 use Rattle.deb_base.specs.declared.version_text.VersionText.{VersionText}
 use Rattle.deb_base.specs.declared.version_text.VersionText.TheVariants.{Canonical, Spelled}
 use Rattle.debctl_args.specs.declared.jobs.Cmp.{Cmp}
@@ -323,6 +323,7 @@ pub data Asked : Type 0 where
   relation_or_file : Asked
   no_names : Asked
   no_relations : Asked
+  no_status : Asked
   no_recommends : Asked
   kind_of_path : Asked
   no_number : Asked
@@ -410,6 +411,7 @@ diff_of_kind rows Packages = diff_of_files rows diffed.Packages
 diff_of_kind rows Binary = diff_of_files rows diffed.Binary
 diff_of_kind rows Sources = diff_of_files rows diffed.Sources
 diff_of_kind rows Source = diff_of_files rows diffed.Source
+diff_of_kind rows Status = diff_of_files rows diffed.Status
 diff_of_kind rows Any = no_names
 
 -- `diff`
@@ -619,6 +621,7 @@ unmet_of_kind rows Packages = unmet_of_files rows (packages_in rows)
 unmet_of_kind rows Binary = unmet_of_path rows (dependents.Binary (strength_in rows))
 unmet_of_kind rows Sources = unmet_of_sources rows dependents.Sources
 unmet_of_kind rows Source = unmet_of_sources rows dependents.Source
+unmet_of_kind rows Status = no_status
 unmet_of_kind rows Any = no_relations
 
 -- `unmet`

@@ -4,7 +4,7 @@ use Rattle.std.specs.Prelude.{◌≡◌, ℕ, [], ◌∷◌, map, Option, Some, 
 use Rattle.std.specs.declared.alloc.Global.{Global}
 use Rattle.clap.specs.declared.error.kind.ErrorKind.TheVariants as kind
 use Rattle.deb_base.specs.declared.code.Code.TheVariants as code
-use Rattle.debctl_args.specs.Asked.{audits, canonicalises, checks, checks_all, checks_whole, compares, document_of, explain_takes_one, explains, explains_all, explains_relation, explains_version, finds_changes, finds_unmet, first_or_whole, keys, kind_of_path, listed, no_names, no_number, no_recommends, no_relations, normalises, paths, paths_or_list, queries, queries_from, reads_of, relation_or_file, request_of, sorts, standard_input_twice, explains_rule, compares_files, unknown_code, unknown_command, unknown_kind, unknown_operator, wanted_of, Request, Wanted}
+use Rattle.debctl_args.specs.Asked.{audits, canonicalises, checks, checks_all, checks_whole, compares, document_of, explain_takes_one, explains, explains_all, explains_relation, explains_version, finds_changes, finds_unmet, first_or_whole, keys, kind_of_path, listed, no_names, no_number, no_recommends, no_relations, no_status, normalises, paths, paths_or_list, queries, queries_from, reads_of, relation_or_file, request_of, sorts, standard_input_twice, explains_rule, compares_files, unknown_code, unknown_command, unknown_kind, unknown_operator, wanted_of, Request, Wanted}
 use Rattle.debctl_args.specs.Fitting.{has_mistake, has_request, is_request_kind, IsUsage, FitsKind}
 use Rattle.debctl_args.specs.declared.jobs.Demands.{Demands}
 use Rattle.debctl_args.specs.declared.jobs.Explain.TheVariants as explain
@@ -178,12 +178,13 @@ texts_of_mistakes : IsUsage unknown_kind (codes "usage: unknown kind")
     × IsUsage relation_or_file (codes "usage: query takes a relation, or --relation-from")
     × IsUsage no_names (codes "usage: diff takes no --kind any")
     × IsUsage no_relations (codes "usage: unmet takes no --kind any")
+    × IsUsage no_status (codes "usage: unmet takes no --kind status")
     × IsUsage no_recommends (codes "usage: unmet takes --recommends only for binary packages")
     × IsUsage kind_of_path (codes "usage: unmet takes another --kind only with a second path")
     × IsUsage no_number (codes "usage: --least takes a number")
     × IsUsage first_or_whole (codes "usage: --all takes neither --complete nor --least")
 texts_of_mistakes =
-    (refl, refl, refl, refl, refl, refl, refl, refl, refl, refl, refl, refl, refl, refl)
+    (refl, refl, refl, refl, refl, refl, refl, refl, refl, refl, refl, refl, refl, refl, refl)
 
 -- a call for help is answered with help, and a mistake as one
 kinds_of_errors : (FitsKind kind.DisplayHelp (Help one) ≡ (true ≡ true))

@@ -151,6 +151,8 @@ pub enum DiffKind {
     Sources,
     /// The description of a source package.
     Source,
+    /// The status file of dpkg.
+    Status,
 }
 
 /// What `diff` prints of each paragraph that changed.

@@ -184,8 +184,8 @@ is held in memory.
 
 Use `--kind sources` for an index of source packages. As `packages`, `binary` or
 `source` it is usually refused because of its Architecture or a missing field. Use
-`--kind any` for other control data, such as a `.changes`, `Release`, status or
-copyright file; its values aren't checked then.
+`--kind status` for `/var/lib/dpkg/status`, and `--kind any` for other control data,
+such as a `.changes`, `Release` or copyright file; its values aren't checked then.
 
 Exit statuses:
   0  accepted
@@ -332,9 +332,10 @@ Prints one line for each paragraph that changed in meaning:
   added NUMBER PACKAGE VERSION ARCHITECTURE
 NUMBER is the position of the paragraph, from 1: in OLD for `removed`, else in NEW.
 VERSION is canonical, or with `--spelled` as the file spells it. ARCHITECTURE is
-`source` for a source package. The FIELDs are those that differ or are in one
-paragraph only, in ascending order. The lines of the paragraphs of OLD are in its
-order. After them come those of the added ones, in the order of NEW.
+`source` for a source package. With `--kind status` either may be empty. The FIELDs
+are those that differ or are in one paragraph only, in ascending order. The lines of
+the paragraphs of OLD are in its order. After them come those of the added ones, in
+the order of NEW.
 
 Paragraphs that mean the same are taken away in pairs, the earliest first; in whatever
 order they are, they have no line. Of the others, those of the same package, version
