@@ -23,14 +23,14 @@ use std::alloc::{AllocError, Global};
 
 /// The packages that may meet a relation, and the environment of the relation.
 #[derive(Clone, Copy)]
-pub(crate) struct Question<'a> {
-    pub(crate) index: &'a Index,
-    pub(crate) environment: &'a Env,
+pub struct Question<'a> {
+    pub index: &'a Index,
+    pub environment: &'a Env,
 }
 
 /// Appends the line of each group that has one, of the relation with a canonical text in a field of
 /// a paragraph.
-pub(crate) fn append_groups(
+pub fn append_groups(
     alloc: Global,
     out: &mut Vec<u8>,
     question: &Question<'_>,

@@ -34,7 +34,7 @@ struct KeptTexts<'a> {
 
 impl<'a> KeptTexts<'a> {
     /// Those of a paragraph that was checked.
-    fn of(paragraph: &CheckedView<'a>, texts: &'a FieldTexts) -> KeptTexts<'a>
+    pub fn of(paragraph: &CheckedView<'a>, texts: &'a FieldTexts) -> KeptTexts<'a>
         ensures { (values : ValueEntries ValueMeaning) → HasTexts texts.now values
             → texts_in result ≡ paragraph_texts (fields_in paragraph.now) values }
     {
@@ -50,7 +50,7 @@ impl<'a> KeptTexts<'a> {
     }
 
     /// The lengths of all but the last.
-    fn lens(&self) -> Result<TextLens, AllocError>
+    pub fn lens(&self) -> Result<TextLens, AllocError>
         ensures { IfOk result (λ lens. lens_in lens ≡ length self.now.name.now
             ∷ length self.now.version.now ∷ length self.now.spelled.now
             ∷ length self.now.architecture.now ∷ length self.now.pre_depends.now
@@ -96,13 +96,13 @@ impl<'a> KeptTexts<'a> {
 
 /// The lengths of the texts that are kept of a paragraph; that of the last is left.
 #[derive(Clone, Copy)]
-pub(crate) struct TextLens {
-    pub(crate) name: u32,
-    pub(crate) version: u32,
-    pub(crate) spelled: u32,
-    pub(crate) architecture: u32,
-    pub(crate) pre_depends: u32,
-    pub(crate) depends: u32,
+pub struct TextLens {
+    pub name: u32,
+    pub version: u32,
+    pub spelled: u32,
+    pub architecture: u32,
+    pub pre_depends: u32,
+    pub depends: u32,
 }
 
 /// The length of a text in 32 bits, or out of memory if it has more.
@@ -114,14 +114,14 @@ fn len_of(text: &[u8]) -> Result<u32, AllocError>
 
 /// What is kept of a paragraph: the texts one after another.
 #[derive(Drop)]
-pub(crate) struct KeptParagraph {
-    pub(crate) bytes: Vec<u8>,
-    pub(crate) lens: TextLens,
+pub struct KeptParagraph {
+    pub bytes: Vec<u8>,
+    pub lens: TextLens,
 }
 
 impl KeptParagraph {
     /// That of a paragraph that was checked.
-    fn of(
+    pub fn of(
         alloc: Global,
         paragraph: &CheckedView<'_>,
         texts: &FieldTexts,
@@ -156,7 +156,7 @@ impl KeptParagraph {
     }
 
     /// Returns the texts that its lines have, with this text of its version.
-    pub(crate) fn line_texts(&self, versions: VersionText) -> LineTexts<'_>
+    pub fn line_texts(&self, versions: VersionText) -> LineTexts<'_>
         ensures texts { (fields : List Field) (values : ValueEntries ValueMeaning)
             (strength : Strength) → HoldsTexts fields values self.now
             → HasTextsOf (Packages strength) result values }
@@ -187,14 +187,14 @@ fn cut(bytes: &[u8], len: u32) -> (&[u8], &[u8])
 
 /// What is kept of the paragraphs of an index, in their order.
 #[derive(Drop)]
-pub(crate) struct KeptParagraphs {
-    pub(crate) alloc: Global,
-    pub(crate) paragraphs: Vec<KeptParagraph>,
+pub struct KeptParagraphs {
+    pub alloc: Global,
+    pub paragraphs: Vec<KeptParagraph>,
 }
 
 impl KeptParagraphs {
     /// Nothing is kept.
-    pub(crate) fn new(alloc: Global) -> KeptParagraphs
+    pub fn new(alloc: Global) -> KeptParagraphs
         ensures { KeepsParagraphs result [] }
     {
         KeptParagraphs {

@@ -27,4 +27,10 @@ mod trouble;
 
 pub use asked::{Asked, Request, Strength};
 pub use asking::{Summary, unmet};
-pub use own::unmet_in_itself;
+pub use applying::{Applies, applies_by};
+pub use group::Question;
+pub use kept::KeptParagraph;
+pub use line_texts::LineTexts;
+pub use lines::{append_lines, own_environment, own_or};
+pub use own::{OwnLines, unmet_in_itself, write_in_itself};
+pub use paragraph::Paragraph;

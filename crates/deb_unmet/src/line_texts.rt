@@ -20,16 +20,16 @@ const MOST_ASKED: usize = 3;
 /// The name, the version and the architecture that lines have of a paragraph, and the canonical
 /// texts of the relations that are asked, in their order.
 #[derive(Clone, Copy)]
-pub(crate) struct LineTexts<'a> {
-    pub(crate) name: &'a [u8],
-    pub(crate) version: &'a [u8],
-    pub(crate) architecture: &'a [u8],
-    pub(crate) relations: [&'a [u8]; MOST_ASKED],
+pub struct LineTexts<'a> {
+    pub name: &'a [u8],
+    pub version: &'a [u8],
+    pub architecture: &'a [u8],
+    pub relations: [&'a [u8]; MOST_ASKED],
 }
 
 impl<'a> LineTexts<'a> {
     /// Those of a paragraph that was checked, of which these texts are kept.
-    pub(crate) fn of(
+    pub fn of(
         request: Request,
         paragraph: &CheckedView<'a>,
         texts: &'a FieldTexts,
@@ -54,7 +54,7 @@ impl<'a> LineTexts<'a> {
 
     /// Returns the canonical text of the relation that is asked after so many; empty if there is
     /// none.
-    pub(crate) fn relation(&self, row: usize) -> &'a [u8]
+    pub fn relation(&self, row: usize) -> &'a [u8]
         ensures { result.now ≡ get_or (names_of self.now.relations) row [] }
     {
         if row < MOST_ASKED {
@@ -81,7 +81,7 @@ fn version_of<'a>(
 }
 
 /// Returns the text by which the file spells the version of a paragraph; empty if there is none.
-pub(crate) fn spelled_body<'a>(paragraph: &CheckedView<'a>) -> &'a [u8]
+pub fn spelled_body<'a>(paragraph: &CheckedView<'a>) -> &'a [u8]
     ensures { result.now ≡ spelled_in (fields_in paragraph.now) }
 {
     match paragraph.get(b"Version") {

@@ -17,7 +17,7 @@ use deb_relation::{Env, EnvFault};
 use std::alloc::{AllocError, Global};
 
 /// Appends the lines of a paragraph.
-pub(crate) fn append_lines(
+pub fn append_lines(
     alloc: Global,
     out: &mut Vec<u8>,
     question: &Question<'_>,
@@ -43,7 +43,7 @@ pub(crate) fn append_lines(
 }
 
 /// Returns the own environment, if there is one, and else the other.
-fn own_or<'a>(own: Option<&'a Env>, environment: &'a Env) -> &'a Env
+pub fn own_or<'a>(own: Option<&'a Env>, environment: &'a Env) -> &'a Env
     ensures { environment_of result.now
         ≡ own_or (option_map (λ e. environment_of e.now) own.entry)
         (environment_of environment.now) }
@@ -52,7 +52,7 @@ fn own_or<'a>(own: Option<&'a Env>, environment: &'a Env) -> &'a Env
 }
 
 /// Returns the environment of a binary package's own architecture, if that can be a target.
-fn own_environment(
+pub fn own_environment(
     alloc: Global,
     asked: Asked,
     environment: &Env,

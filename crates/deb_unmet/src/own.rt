@@ -26,6 +26,76 @@ use deb_index::Index;
 use deb_relation::Env;
 use std::alloc::Global;
 
+use crate::kept::KeptParagraph;
+use crate::lines::append_lines;
+use deb_base::put_all;
+use deb_control::{CheckedView, FieldTexts};
+use deb_index::Keeper;
+use std::alloc::AllocError;
+
+/// What is written of each package of an index over all of its packages.
+pub trait OwnLines {
+    /// What is kept of a paragraph.
+    type Kept;
+
+    fn keep(
+        &self,
+        alloc: Global,
+        paragraph: &CheckedView<'_>,
+        texts: &FieldTexts,
+    ) -> Result<Self::Kept, AllocError>;
+
+    fn append(
+        &self,
+        alloc: Global,
+        out: &mut Vec<u8>,
+        index: &Index,
+        number: u64,
+        kept: &Self::Kept,
+    ) -> Result<(), AllocError>;
+}
+
+struct KeptLines<'a, L: OwnLines> {
+    alloc: Global,
+    lines: &'a L,
+    kept: Vec<L::Kept>,
+}
+
+impl<L: OwnLines> Keeper for KeptLines<'_, L> {
+    fn keep(&mut self, paragraph: &CheckedView<'_>, texts: &FieldTexts) -> Result<(), AllocError> {
+        let kept = self.lines.keep(self.alloc, paragraph, texts)?;
+        self.kept.push(kept)?;
+        Ok(())
+    }
+}
+
+pub fn write_in_itself<L: OwnLines, R: Source, W: Sink>(
+    alloc: Global,
+    lines: &L,
+    reader: &mut R,
+    writer: &mut W,
+) -> Result<Summary, Fault> {
+    let mut kept = KeptLines {
+        alloc,
+        lines,
+        kept: Vec::new(alloc),
+    };
+    let index = Index::read_with(alloc, reader, &mut kept)?;
+    let mut is_empty = true;
+    let mut count = 0;
+    for one in kept.kept.iter() {
+        count = count + 1;
+        let mut out = Vec::new(alloc);
+        lines.append(alloc, &mut out, &index, count, one)?;
+        put_all(writer, &out)?;
+        is_empty = is_empty && out.is_empty();
+    }
+    Ok(Summary {
+        paragraphs: count,
+        is_empty,
+    })
+}
+
 /// Reads an index of packages once, and writes a line for each group of its own relations that none
 /// of its packages meets, or may not meet (Debian Policy 7.1 and 7.2).
 ///

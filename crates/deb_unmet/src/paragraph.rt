@@ -10,15 +10,15 @@ use std::alloc::AllocError;
 
 /// A paragraph: what its file is asked, its number there, and the texts that its lines have of it.
 #[derive(Clone, Copy)]
-pub(crate) struct Paragraph<'a> {
-    pub(crate) asked: Asked,
-    pub(crate) number: u64,
-    pub(crate) texts: &'a LineTexts<'a>,
+pub struct Paragraph<'a> {
+    pub asked: Asked,
+    pub number: u64,
+    pub texts: &'a LineTexts<'a>,
 }
 
 impl Paragraph<'_> {
     /// Appends the heading of the paragraph's lines.
-    pub(crate) fn append_heading(&self, out: &mut Vec<u8>) -> Result<(), AllocError>
+    pub fn append_heading(&self, out: &mut Vec<u8>) -> Result<(), AllocError>
         ensures { OnOk result (out.new.items ≡ out.old.items ++ heading_in self.now) }
     {
         let mut buffer = Buffer::new();

@@ -522,6 +522,19 @@ fn unmet_of_files(
     }))
 }
 
+pub(crate) fn healthy_task(alloc: Global, found: &ArgMatches<'_>) -> Result<Task, UsageFault> {
+    let arch = String::from_str(alloc, word_in(found, "arch"))?;
+    let first = path_in(alloc, found)?;
+    Ok(Task::Run(Call {
+        job: Job::Healthy {
+            arch,
+            strength: strength_in(found),
+        },
+        first,
+        second: None,
+    }))
+}
+
 /// The help of the program, or of the command that a word names.
 pub(crate) fn help_on(alloc: Global, word: Option<&str>) -> UsageFault
     ensures { AnswersError (help_asked (option_copied word.entry)) result }

@@ -91,6 +91,11 @@ pub enum Job {
         dependents: Dependents,
         versions: VersionText,
     },
+    /// `healthy`: find out whether a set of packages is consistent.
+    Healthy {
+        arch: String,
+        strength: Strength,
+    },
 }
 
 /// The files that a job reads.
@@ -112,6 +117,7 @@ impl Job {
         match self {
             Job::Check(_) | Job::CheckAll(_) | Job::Normalise(_) => Reads::OneFile,
             Job::CheckWhole { .. } | Job::Sort { .. } | Job::Query { .. } => Reads::OneFile,
+            Job::Healthy { .. } => Reads::OneFile,
             Job::Same(_) | Job::Diff { .. } => Reads::Paths,
             Job::QueryFrom { .. } | Job::Unmet { .. } => Reads::Paths,
             Job::Compare(..) | Job::CanonVersion(_) | Job::VersionKey(_) => Reads::Nothing,

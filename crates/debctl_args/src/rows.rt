@@ -7,7 +7,7 @@ ghost use Rattle.debctl_args.specs.Fitting.{Answers};
 ghost use Rattle.debctl_args.specs.Commands.{row_in};
 
 use crate::arguments::{
-    UsageFault, audit_task, canon_version_task, check_task, compare_task, diff_task, explain_task,
+    UsageFault, audit_task, canon_version_task, check_task, compare_task, diff_task, explain_task, healthy_task,
     help_on, query_task, same_task, sort_task, unmet_task, version_key_task,
 };
 use crate::found_arguments::{given, kind_in, path_in};
@@ -31,7 +31,7 @@ pub(crate) struct Row {
 }
 
 /// The commands, in the order of the program's help.
-static COMMANDS: [Row; 13] = [
+static COMMANDS: [Row; 14] = [
     Row {
         name: "check",
         about: "Checks whether a file is well formed",
@@ -103,6 +103,11 @@ static COMMANDS: [Row; 13] = [
         ],
     },
     Row {
+        name: "healthy",
+        about: "Checks whether a set of packages is consistent",
+        takes: &[ARCH, RECOMMENDS, PATH],
+    },
+    Row {
         name: "help",
         about: "Prints the help of the program or of a command",
         takes: &[COMMAND],
@@ -152,6 +157,7 @@ pub(crate) fn task_by(alloc: Global, name: &str, found: &ArgMatches<'_>) -> Resu
         "sort" => sort_task(alloc, found),
         "query" => query_task(alloc, found),
         "unmet" => unmet_task(alloc, found),
+        "healthy" => healthy_task(alloc, found),
         _ => Err(help_on(alloc, given(found, "command"))),
     }
 }

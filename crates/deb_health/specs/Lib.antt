@@ -1,0 +1,5 @@
+pub mod Excluding
+pub mod Together
+pub mod Lines
+pub mod Kept
+pub mod Health
