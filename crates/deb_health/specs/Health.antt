@@ -38,18 +38,14 @@ is_abundant strength environment packages values =
     (trouble (environment_for (Packages strength) environment values) packages group))
     (groups_of (value_under field values))) (fields_with strength)
 
--- an alternative of its Conflicts or Breaks that applies, or may apply, excludes this one
-abbrev pub may_exclude : Strength → Environment → ValueEntries ValueMeaning → Listed → Bool
-may_exclude strength environment values p =
-    list_any (λ field. list_any (λ group. list_any
-    (λ a. may (applies_by (environment_for (Packages strength) environment values) a)
-    && excludes environment.target (word_under (codes "Package") values) a p) group)
-    (groups_of (value_under field values))) negative_fields
-
--- It excludes no package of the set.
+-- No alternative of its Conflicts or Breaks that applies, or may apply, excludes a package of the
+-- set.
 abbrev pub is_peaceful : Strength → Environment → List Listed → ValueEntries ValueMeaning → Bool
 is_peaceful strength environment packages values =
-    not (list_any (may_exclude strength environment values) packages)
+    list_all (λ field. list_all (λ group. list_all
+    (λ a. not (may (applies_by (environment_for (Packages strength) environment values) a)
+    && list_any (excludes environment.target (word_under (codes "Package") values) a) packages))
+    group) (groups_of (value_under field values))) negative_fields
 
 -- Packages of one name can be installed together.
 abbrev pub are_apart : List ℕ → List Listed → Bool
@@ -72,11 +68,14 @@ alone_in field = (field, RelationMeans ((alone (codes "ee") ∷ []) ∷ [])) ∷
 abbrev ee : Listed
 ee = listed (codes "ee") (codes "1") (codes "amd64")
 
-worked-peace : (map (may_exclude Depends for_amd64 those_of_bb) several
-    ≡ false ∷ true ∷ true ∷ false ∷ false ∷ [])
-    × (is_peaceful Depends for_amd64 several those_of_bb ≡ false)
+-- with cc, which it excludes; with dd for i386, which it may exclude; with its own name; and with ee
+worked-peace : (is_peaceful Depends for_amd64 several those_of_bb ≡ false)
+    × (is_peaceful Depends for_amd64
+    (listed (codes "dd") (codes "3") (codes "i386") ∷ []) those_of_bb ≡ false)
+    × (is_peaceful Depends for_amd64
+    (listed (codes "bb") (codes "1") (codes "amd64") ∷ []) those_of_bb ≡ true)
     × (is_peaceful Depends for_amd64 (ee ∷ []) those_of_bb ≡ true)
-worked-peace = (refl, refl, refl)
+worked-peace = (refl, refl, refl, refl)
 
 worked-abundance : (is_abundant Depends for_amd64 several those_of_bb ≡ false)
     × (is_abundant Depends for_amd64 (ee ∷ []) those_of_bb ≡ true)

@@ -4,6 +4,7 @@ use Rattle.std.specs.Prelude.{◌≡◌, ℕ, cond, List, [], ◌∷◌, ◌++�
 use Rattle.std.specs.Fmt.{decimal, digits}
 use Rattle.std.specs.List.{concat, filter, flat_map}
 use Rattle.std.specs.Option.{option_map_or}
+use Rattle.deb_version.specs.Canonical.{version_text}
 use Rattle.deb_version.specs.Places.{version_in}
 use Rattle.deb_relation.specs.Applying.{Environment}
 use Rattle.deb_relation.specs.Environments.{environment_with}
@@ -18,6 +19,7 @@ use Rattle.deb_index.specs.Alternatives.{alone, with_list, with_qualifier}
 use Rattle.deb_index.specs.Listed.{Listed}
 use Rattle.deb_index.specs.Named.{numbers_of, package_at}
 use Rattle.deb_index.specs.ReportText.{canonical_version, package_line}
+use Rattle.deb_index.specs.Reports.{Numbered}
 use Rattle.deb_unmet.specs.Fields.{environment_for, heading, paragraph_lines}
 use Rattle.deb_unmet.specs.Readings.{applies_by, may}
 use Rattle.deb_unmet.specs.declared.applying.Applies.{Applies}
@@ -28,29 +30,32 @@ use Rattle.deb_unmet.specs.declared.asked.Strength.TheVariants.{Depends, Recomme
 use Rattle.deb_health.specs.Excluding.{excludes}
 use Rattle.deb_health.specs.Together.{rules_out}
 
--- `FRONT NUMBER PACKAGE VERSION ARCHITECTURE`, for the package with this number
-abbrev pub line_with : List ℕ → List Listed → ℕ → List ℕ
-line_with front packages number =
-    option_map_or (λ p. front ++ package_line canonical_version (number, p))
-    (package_at number packages) []
+-- the line that the package with this number has
+abbrev pub line_at : (Numbered → List ℕ) → List Listed → ℕ → List ℕ
+line_at line packages number =
+    option_map_or (λ p. line (number, p)) (package_at number packages) []
 
 abbrev pub exclusion_word : Applies → List ℕ
 exclusion_word Surely = codes "conflict"
 exclusion_word Maybe = codes "unsure"
 exclusion_word Never = []
 
--- `WORD NUMBER PACKAGE VERSION ARCHITECTURE FIELD GROUP by`, as the lines of an alternative begin
+-- `WORD NUMBER PACKAGE VERSION ARCHITECTURE FIELD GROUP by`
 abbrev pub exclusion_front : Applies → List ℕ → List ℕ → List ℕ → List ℕ
 exclusion_front applies heading field text =
     concat (exclusion_word applies ∷ heading ∷ field ∷ codes " " ∷ text ∷ codes " by" ∷ [])
+
+-- and then ` NUMBER PACKAGE VERSION ARCHITECTURE` of the package that is excluded
+abbrev pub exclusion_line : List ℕ → Numbered → List ℕ
+exclusion_line front p = front ++ package_line canonical_version p
 
 -- An alternative that applies, or may apply, has a line for each package that it excludes.
 abbrev pub alternative_lines : Environment → List ℕ → List Listed → List ℕ → List ℕ → List ℕ
     → List ℕ → Alternative → List ℕ
 alternative_lines environment target packages name heading field text a =
     cond (may (applies_by environment a))
-    (flat_map
-    (line_with (exclusion_front (applies_by environment a) heading field text) packages)
+    (flat_map (line_at
+    (exclusion_line (exclusion_front (applies_by environment a) heading field text)) packages)
     (numbers_of (excludes target name a) packages)) []
 
 -- the lines of a group: those of its alternatives, of which Conflicts and Breaks allow one
@@ -71,11 +76,16 @@ exclusion_lines environment target packages heading values =
     (group_lines environment target packages (word_under (codes "Package") values) heading field)
     (groups_of (value_under field values))) negative_fields
 
+-- `duplicate NUMBER PACKAGE VERSION ARCHITECTURE with NUMBER VERSION ARCHITECTURE`
+abbrev pub duplicate_line : List ℕ → Numbered → List ℕ
+duplicate_line heading p =
+    concat (codes "duplicate" ∷ heading ∷ codes "with " ∷ decimal p.0 ∷ codes " "
+    ∷ version_text p.1.version ∷ codes " " ∷ p.1.architecture ∷ codes "\n" ∷ [])
+
 -- A package has a line for each later one of its name that can't be installed together with it.
 abbrev pub duplicate_lines : List ℕ → List Listed → List ℕ → ℕ → List ℕ
 duplicate_lines target packages heading number =
-    option_map_or (λ p. flat_map
-    (line_with (concat (codes "duplicate" ∷ heading ∷ codes "with" ∷ [])) packages)
+    option_map_or (λ p. flat_map (line_at (duplicate_line heading) packages)
     (filter (λ other. ltb number other) (numbers_of (rules_out target p) packages)))
     (package_at number packages) []
 
@@ -138,14 +148,14 @@ worked-member : member_lines Depends (environment_with (codes "amd64") []) packa
     ++ (codes "conflict 1 bb 1.0 amd64 Conflicts cc by 2 cc 2 all\n"
     ++ (codes "conflict 1 bb 1.0 amd64 Conflicts vv by 2 cc 2 all\n"
     ++ (codes "unsure 1 bb 1.0 amd64 Breaks dd [linux-any] by 3 dd 3 i386\n"
-    ++ codes "duplicate 1 bb 1.0 amd64 with 4 bb 1.1 i386\n")))
+    ++ codes "duplicate 1 bb 1.0 amd64 with 4 1.1 i386\n")))
 unfolding group_text digits
 worked-member = refl
 
 -- each pair of one name has its line at the first of them; a number that no package has, none
 worked-duplicates : map (duplicate_lines (codes "amd64") packages (codes " "))
     (2 ∷ 4 ∷ 5 ∷ 6 ∷ [])
-    ≡ [] ∷ codes "duplicate with 5 bb 1.0 i386\n" ∷ [] ∷ [] ∷ []
+    ≡ [] ∷ codes "duplicate with 5 1.0 i386\n" ∷ [] ∷ [] ∷ []
 unfolding digits
 worked-duplicates = refl
 

@@ -14,7 +14,7 @@ ghost use Rattle.deb_index.specs.Meeting.{meets_by_name};
 ghost use Rattle.deb_index.specs.Named.{numbers_of};
 ghost use Rattle.deb_unmet.specs.Paragraphs.{heading_in};
 ghost use Rattle.deb_health.specs.Excluding.{excludes, is_spoken_of};
-ghost use Rattle.deb_health.specs.Lines.{alternative_lines, exclusion_front, exclusion_word, group_lines, line_with};
+ghost use Rattle.deb_health.specs.Lines.{alternative_lines, exclusion_front, exclusion_line, exclusion_word, group_lines, line_at};
 
 use crate::lines::append_package;
 use crate::together::effective;
@@ -114,8 +114,8 @@ fn append_excluded(
 ) -> Result<(), AllocError>
     ensures { numbers.now ≡ numbers_of (meets_by_name (alternative_of alternative.now))
         (packages_of negative.now.index.now) → OnOk result (out.new.items
-        ≡ out.old.items ++ flat_map (line_with (exclusion_front applies
-        (heading_in negative.now.paragraph.now) negative.now.field.now group.now)
+        ≡ out.old.items ++ flat_map (line_at (exclusion_line (exclusion_front applies
+        (heading_in negative.now.paragraph.now) negative.now.field.now group.now))
         (packages_of negative.now.index.now)) (numbers_of (excludes negative.now.target.now
         negative.now.paragraph.now.texts.now.name.now (alternative_of alternative.now))
         (packages_of negative.now.index.now))) }

@@ -13,7 +13,7 @@ ghost use Rattle.deb_unmet.specs.Fields.{environment_for};
 ghost use Rattle.deb_unmet.specs.Paragraphs.{HasTextsOf, heading_in};
 ghost use Rattle.deb_unmet.specs.declared.asked.Asked.TheVariants.{Packages};
 ghost use Rattle.deb_health.specs.Kept.{HoldsMember};
-ghost use Rattle.deb_health.specs.Lines.{duplicate_lines, exclusion_lines, member_lines};
+ghost use Rattle.deb_health.specs.Lines.{duplicate_line, duplicate_lines, exclusion_lines, member_lines};
 
 use crate::excluding::{Negative, append_exclusions};
 use crate::kept::Kept;
@@ -118,12 +118,30 @@ fn append_duplicates(
             return Ok(());
         };
         if number > paragraph.number && !are_together(set.environment.target(), &package, &other) {
-            out.extend_from_slice(b"duplicate")?;
-            paragraph.append_heading(out)?;
-            out.extend_from_slice(b"with")?;
-            append_package(out, number, &other)?;
+            append_duplicate(out, paragraph, number, &other)?;
         }
     }
+    Ok(())
+}
+
+/// Appends the line of a later package of the same name.
+fn append_duplicate(
+    out: &mut Vec<u8>,
+    paragraph: &Paragraph<'_>,
+    number: u64,
+    other: &Package<'_>,
+) -> Result<(), AllocError>
+    ensures { OnOk result (out.new.items ≡ out.old.items
+        ++ duplicate_line (heading_in paragraph.now) (number, listed_of other.now)) }
+{
+    let mut buffer = Buffer::new();
+    out.extend_from_slice(b"duplicate")?;
+    paragraph.append_heading(out)?;
+    out.extend_from_slice(b"with")?;
+    append_spaced(out, buffer.format(number).as_bytes())?;
+    append_spaced(out, other.version())?;
+    append_spaced(out, other.architecture())?;
+    out.push(b'\n')?;
     Ok(())
 }
 
