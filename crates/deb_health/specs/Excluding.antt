@@ -20,12 +20,16 @@ is_spoken_of target (Some qualifier) p =
     (bytes_eq (effective target p.architecture) target)
     (bytes_eq (effective target p.architecture) qualifier))
 
--- An alternative of a package of this name excludes another package: one of another name that has
--- or provides the name of the alternative, in a version that meets its bound. No package excludes
--- one of its own name, also not by what that provides.
+-- A package of this name may speak of another one: one of another name, and of such an architecture.
+-- No package excludes one of its own name, also not by what that provides.
+abbrev pub is_other : List ℕ → List ℕ → Option (List ℕ) → Listed → Bool
+is_other target name qualifier p =
+    not (bytes_eq p.name name) && is_spoken_of target qualifier p
+
+-- An alternative of a package of this name excludes each such package that has or provides the name
+-- of the alternative, in a version that meets its bound.
 abbrev pub excludes : List ℕ → List ℕ → Alternative → Listed → Bool
-excludes target name a p =
-    not (bytes_eq p.name name) && (meets_by_name a p && is_spoken_of target a.qualifier p)
+excludes target name a p = meets_by_name a p && is_other target name a.qualifier p
 
 -- cc 1.0, which provides vv
 abbrev cc_for : List ℕ → Listed
@@ -62,6 +66,10 @@ excluded name =
 worked-others : excluded (codes "bb") ≡ true ∷ true ∷ true ∷ false ∷ false ∷ false ∷ false ∷ []
 worked-others = refl
 
--- its own name, and what a package of its own name provides
+-- of its own name: also by what that provides
 worked-own : excluded (codes "cc") ≡ false ∷ false ∷ false ∷ false ∷ false ∷ false ∷ false ∷ []
 worked-own = refl
+
+worked-other : map (λ name. is_other (codes "amd64") name None (cc_for (codes "i386")))
+    (codes "bb" ∷ codes "cc" ∷ []) ≡ true ∷ false ∷ []
+worked-other = refl

@@ -1,8 +1,8 @@
 //! Lines of packages that Conflicts and Breaks exclude.
 
-ghost use Rattle.std.specs.Prelude.{◌≡◌, ◌++◌, ◌∷◌, [], OnOk};
+ghost use Rattle.std.specs.Prelude.{◌≡◌, ◌++◌, ◌∷◌, [], OnOk, cond, false};
 ghost use Rattle.std.specs.List.{flat_map};
-ghost use Rattle.std.specs.Option.{option_copied};
+ghost use Rattle.std.specs.Option.{option_copied, option_map_or};
 ghost use Rattle.deb_relation.specs.Environments.{environment_of};
 ghost use Rattle.deb_relation.specs.Meaning.{Alternative as Meaning};
 ghost use Rattle.deb_relation.specs.Relations.{relation_of};
@@ -11,9 +11,9 @@ ghost use Rattle.deb_index.specs.CanonicalTexts.{OfGroup, OfRelation};
 ghost use Rattle.deb_index.specs.Indexes.{packages_of};
 ghost use Rattle.deb_index.specs.Kept.{listed_of};
 ghost use Rattle.deb_index.specs.Meeting.{meets_by_name};
-ghost use Rattle.deb_index.specs.Named.{numbers_of};
+ghost use Rattle.deb_index.specs.Named.{numbers_of, package_at};
 ghost use Rattle.deb_unmet.specs.Paragraphs.{heading_in};
-ghost use Rattle.deb_health.specs.Excluding.{excludes, is_spoken_of};
+ghost use Rattle.deb_health.specs.Excluding.{excludes, is_other, is_spoken_of};
 ghost use Rattle.deb_health.specs.Lines.{alternative_lines, exclusion_front, exclusion_line, exclusion_word, group_lines, line_at};
 
 use crate::lines::append_package;
@@ -121,17 +121,46 @@ fn append_excluded(
         (packages_of negative.now.index.now))) }
 {
     for &number in numbers {
-        let Some(package) = negative.index.package(number) else {
-            return Ok(());
-        };
-        if package.name() != negative.paragraph.texts.name
-            && is_spoken_of(negative.target, alternative.qualifier(), &package)
-        {
-            append_front(out, negative, group, applies)?;
-            append_package(out, number, &package)?;
-        }
+        append_if_other(out, negative, group, applies, alternative.qualifier(), number)?;
     }
     Ok(())
+}
+
+/// Appends the line of the package with this number, if Conflicts or Breaks with this qualifier may
+/// speak of it.
+fn append_if_other(
+    out: &mut Vec<u8>,
+    negative: &Negative<'_>,
+    group: &[u8],
+    applies: Applies,
+    qualifier: Option<&[u8]>,
+    number: u64,
+) -> Result<(), AllocError>
+    ensures { OnOk result (out.new.items ≡ out.old.items ++ cond (option_map_or
+        (is_other negative.now.target.now negative.now.paragraph.now.texts.now.name.now
+        (option_copied qualifier.entry)) (package_at number (packages_of negative.now.index.now))
+        false) (line_at (exclusion_line (exclusion_front applies
+        (heading_in negative.now.paragraph.now) negative.now.field.now group.now))
+        (packages_of negative.now.index.now) number) []) }
+{
+    let Some(package) = negative.index.package(number) else {
+        return Ok(());
+    };
+    if is_other(negative, qualifier, &package) {
+        append_front(out, negative, group, applies)?;
+        append_package(out, number, &package)?;
+    }
+    Ok(())
+}
+
+/// Returns whether Conflicts or Breaks of a package may speak of another one.
+fn is_other(negative: &Negative<'_>, qualifier: Option<&[u8]>, package: &Package<'_>) -> bool
+    ensures { result ≡ is_other negative.now.target.now
+        negative.now.paragraph.now.texts.now.name.now (option_copied qualifier.entry)
+        (listed_of package.now) }
+{
+    package.name() != negative.paragraph.texts.name
+        && is_spoken_of(negative.target, qualifier, package)
 }
 
 /// Appends what a line of an alternative of a group begins with.

@@ -1,11 +1,13 @@
 //! Lines of a package of a set.
 
-ghost use Rattle.std.specs.Prelude.{◌≡◌, ◌++◌, List, OnOk, codes};
+ghost use Rattle.std.specs.Prelude.{◌≡◌, ◌++◌, ◌&&◌, List, [], OnOk, codes, cond, false, ltb, not};
+ghost use Rattle.std.specs.Option.{option_map_or};
 ghost use Rattle.deb_control.specs.FieldWords.{word_under};
 ghost use Rattle.deb_control.specs.ValueFiles.{ValueEntries};
 ghost use Rattle.deb_field.specs.Values.{ValueMeaning};
 ghost use Rattle.deb_index.specs.Indexes.{packages_of};
 ghost use Rattle.deb_index.specs.Kept.{listed_of};
+ghost use Rattle.deb_index.specs.Named.{package_at};
 ghost use Rattle.deb_index.specs.ReportText.{canonical_version, package_line};
 ghost use Rattle.deb_relation.specs.Environments.{environment_of};
 ghost use Rattle.deb_syntax.specs.Fields.{Field};
@@ -13,7 +15,8 @@ ghost use Rattle.deb_unmet.specs.Fields.{environment_for};
 ghost use Rattle.deb_unmet.specs.Paragraphs.{HasTextsOf, heading_in};
 ghost use Rattle.deb_unmet.specs.declared.asked.Asked.TheVariants.{Packages};
 ghost use Rattle.deb_health.specs.Kept.{HoldsMember};
-ghost use Rattle.deb_health.specs.Lines.{duplicate_line, duplicate_lines, exclusion_lines, member_lines};
+ghost use Rattle.deb_health.specs.Lines.{duplicate_line, duplicate_lines, exclusion_lines, line_at, member_lines};
+ghost use Rattle.deb_health.specs.Together.{are_together};
 
 use crate::excluding::{Negative, append_exclusions};
 use crate::kept::Kept;
@@ -114,12 +117,31 @@ fn append_duplicates(
         return Ok(());
     };
     for &number in set.index.packages(package.name()) {
-        let Some(other) = set.index.package(number) else {
-            return Ok(());
-        };
-        if number > paragraph.number && !are_together(set.environment.target(), &package, &other) {
-            append_duplicate(out, paragraph, number, &other)?;
-        }
+        append_if_duplicate(out, set, paragraph, &package, number)?;
+    }
+    Ok(())
+}
+
+/// Appends the line of the package with this number, which has the same name, if it comes later and
+/// can't be installed together with this one.
+fn append_if_duplicate(
+    out: &mut Vec<u8>,
+    set: &Set<'_>,
+    paragraph: &Paragraph<'_>,
+    package: &Package<'_>,
+    number: u64,
+) -> Result<(), AllocError>
+    ensures { OnOk result (out.new.items ≡ out.old.items ++ cond (option_map_or
+        (λ q. not (are_together (environment_of set.now.environment.now).target
+        (listed_of package.now) q)) (package_at number (packages_of set.now.index.now)) false
+        && ltb paragraph.now.number number) (line_at (duplicate_line (heading_in paragraph.now))
+        (packages_of set.now.index.now) number) []) }
+{
+    let Some(other) = set.index.package(number) else {
+        return Ok(());
+    };
+    if !are_together(set.environment.target(), package, &other) && paragraph.number < number {
+        append_duplicate(out, paragraph, number, &other)?;
     }
     Ok(())
 }
