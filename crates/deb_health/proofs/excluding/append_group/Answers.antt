@@ -1,5 +1,6 @@
 use Rattle.std.proofs.Common.{◌≡◌, ◌++◌, append-nil, sym, ap, ◌∙◌, subst}
 use Rattle.std.specs.List.{flat_map}
+use Rattle.deb_relation.specs.Texts.{group_text}
 use Rattle.deb_index.proofs.TextPieces.{alternatives_all, alternatives_more, alternatives_none, lines_more}
 use Rattle.deb_health.proofs.Exclusions.{alternatives_of}
 use Rattle.deb_health.proofs.excluding.append_group.Goals as goal
@@ -11,8 +12,12 @@ loop-rest-init c = λ g regular is.
 pub loop-rest-preserved : goal.loop-rest-preserved
 loop-rest-preserved c = λ g regular is.
     let lines = alternatives_of c.args.negative.now c.args.group.now in
-    alternatives_more (λ done. c.loop-rest.out.items ≡ c.args.out.now.items ++ flat_map lines done) (λ done. c.append_only.new.out.items ≡ c.args.out.now.items ++ flat_map lines done) g c.loop-rest.rest.now c.in_ok-next_alternative.field-0.1.now (c.loop-rest.invariant g regular is) (sym c.is_empty.ensures ∙ c.loop-rest-test.true) ?
-    (λ a more done good text so_far. lines_more lines done a c.args.out.now.items c.loop-rest.out.items c.append_only.new.out.items so_far ?)
+    alternatives_more (λ done. c.loop-rest.out.items ≡ c.args.out.now.items ++ flat_map lines done) (λ done. c.append_only.new.out.items ≡ c.args.out.now.items ++ flat_map lines done) g c.loop-rest.rest.now c.in_ok-next_alternative.field-0.1.now (c.loop-rest.invariant g regular is) (sym c.is_empty.ensures ∙ c.loop-rest-test.true)
+    (λ a more good text. c.in_ok-next_alternative.ensures.others a more good text)
+    (λ a more done good text so_far. lines_more lines done a c.args.out.now.items c.loop-rest.out.items c.append_only.new.out.items so_far (c.in_ok-append_only.ensures a (c.in_ok-next_alternative.ensures.first a more good text)))
 
 pub returns : goal.returns
-returns c = λ g regular is. ?
+returns c = λ g regular is.
+    let lines = alternatives_of c.args.negative.now c.args.group.now in
+    alternatives_all (λ done. c.loop-rest.out.items ≡ c.args.out.now.items ++ flat_map lines done) g c.loop-rest.rest.now (c.loop-rest.invariant g regular is) (sym c.is_empty.ensures ∙ c.loop-rest-test.false)
+    ∙ ap (λ t. c.args.out.now.items ++ flat_map (alternatives_of c.args.negative.now t) g) is
