@@ -16,8 +16,13 @@ use crate::paragraph::Paragraph;
 use deb_relation::{Env, EnvFault};
 use std::alloc::{AllocError, Global};
 
-/// Appends the lines of a paragraph.
-pub(crate) fn append_lines(
+/// Appends the lines of a paragraph: one for each group of its relations that no package of the
+/// index meets, or may not meet, as [`crate::unmet`] writes them.
+///
+/// # Errors
+///
+/// Out of memory.
+pub fn append_lines(
     alloc: Global,
     out: &mut Vec<u8>,
     question: &Question<'_>,
