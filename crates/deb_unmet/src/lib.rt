@@ -27,13 +27,14 @@ mod paragraph;
 mod plain;
 mod trouble;
 
+pub use applying::{Applies, applies_by};
 pub use asked::{Asked, Request, Strength};
 pub use asking::{Summary, unmet};
 pub use group::Question;
 pub use in_itself::write_in_itself;
 pub use kept::KeptParagraph;
 pub use line_texts::LineTexts;
-pub use lines::append_lines;
+pub use lines::{append_lines, own_environment, own_or};
 pub use own::unmet_in_itself;
 pub use own_lines::OwnLines;
-pub use paragraph::Paragraph;
+pub use paragraph::{Paragraph, append_spaced};

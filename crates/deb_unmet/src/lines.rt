@@ -48,7 +48,7 @@ pub fn append_lines(
 }
 
 /// Returns the own environment, if there is one, and else the other.
-fn own_or<'a>(own: Option<&'a Env>, environment: &'a Env) -> &'a Env
+pub fn own_or<'a>(own: Option<&'a Env>, environment: &'a Env) -> &'a Env
     ensures { environment_of result.now
         ≡ own_or (option_map (λ e. environment_of e.now) own.entry)
         (environment_of environment.now) }
@@ -56,8 +56,13 @@ fn own_or<'a>(own: Option<&'a Env>, environment: &'a Env) -> &'a Env
     own.unwrap_or(environment)
 }
 
-/// Returns the environment of a binary package's own architecture, if that can be a target.
-fn own_environment(
+/// Returns the environment of a binary package's own architecture, with the same profiles; none for
+/// a source package, and if that architecture can't be a target, as `all`.
+///
+/// # Errors
+///
+/// Out of memory.
+pub fn own_environment(
     alloc: Global,
     asked: Asked,
     environment: &Env,

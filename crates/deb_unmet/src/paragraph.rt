@@ -40,7 +40,11 @@ impl Paragraph<'_> {
 }
 
 /// Appends a space and a text.
-fn append_spaced(out: &mut Vec<u8>, text: &[u8]) -> Result<(), AllocError>
+///
+/// # Errors
+///
+/// Out of memory.
+pub fn append_spaced(out: &mut Vec<u8>, text: &[u8]) -> Result<(), AllocError>
     ensures { OnOk result (out.new.items ≡ out.old.items ++ 32 ∷ text.now) }
 {
     out.push(b' ')?;
