@@ -23,7 +23,7 @@ pub enum Applies {
     Never,
 }
 
-/// Returns whether an alternative applies to an environment.
+/// Returns whether an alternative applies to an environment (Debian Policy 7.1 and 11.1).
 pub fn applies_by(alternative: &Alternative<'_>, environment: &Env) -> Applies
     ensures { result
         ≡ applies_by (environment_of environment.now) (alternative_of alternative.now) }

@@ -24,13 +24,16 @@ use std::alloc::{AllocError, Global};
 /// The packages that may meet a relation, and the environment of the relation.
 #[derive(Clone, Copy)]
 pub struct Question<'a> {
+    /// The index of the packages.
     pub index: &'a Index,
+    /// The environment of the relation. [`crate::append_lines`] takes a binary package's own
+    /// architecture in place of its target, if that can be a target.
     pub environment: &'a Env,
 }
 
 /// Appends the line of each group that has one, of the relation with a canonical text in a field of
 /// a paragraph.
-pub fn append_groups(
+pub(crate) fn append_groups(
     alloc: Global,
     out: &mut Vec<u8>,
     question: &Question<'_>,

@@ -17,19 +17,23 @@ use deb_control::{CheckedView, FieldTexts};
 /// How many relations are asked at most.
 const MOST_ASKED: usize = 3;
 
-/// The name, the version and the architecture that lines have of a paragraph, and the canonical
-/// texts of the relations that are asked, in their order.
+/// The texts that lines have of a paragraph.
 #[derive(Clone, Copy)]
 pub struct LineTexts<'a> {
+    /// The name of its package.
     pub name: &'a [u8],
+    /// The text of its version that is chosen.
     pub version: &'a [u8],
+    /// The architecture of a binary package, and `source` for a source package.
     pub architecture: &'a [u8],
+    /// The canonical texts of the relations that are asked, in their order; each is empty if there
+    /// is no such relation.
     pub relations: [&'a [u8]; MOST_ASKED],
 }
 
 impl<'a> LineTexts<'a> {
     /// Those of a paragraph that was checked, of which these texts are kept.
-    pub fn of(
+    pub(crate) fn of(
         request: Request,
         paragraph: &CheckedView<'a>,
         texts: &'a FieldTexts,
@@ -54,7 +58,7 @@ impl<'a> LineTexts<'a> {
 
     /// Returns the canonical text of the relation that is asked after so many; empty if there is
     /// none.
-    pub fn relation(&self, row: usize) -> &'a [u8]
+    pub(crate) fn relation(&self, row: usize) -> &'a [u8]
         ensures { result.now ≡ get_or (names_of self.now.relations) row [] }
     {
         if row < MOST_ASKED {
@@ -81,7 +85,7 @@ fn version_of<'a>(
 }
 
 /// Returns the text by which the file spells the version of a paragraph; empty if there is none.
-pub fn spelled_body<'a>(paragraph: &CheckedView<'a>) -> &'a [u8]
+pub(crate) fn spelled_body<'a>(paragraph: &CheckedView<'a>) -> &'a [u8]
     ensures { result.now ≡ spelled_in (fields_in paragraph.now) }
 {
     match paragraph.get(b"Version") {

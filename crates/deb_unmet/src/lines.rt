@@ -16,7 +16,12 @@ use crate::paragraph::Paragraph;
 use deb_relation::{Env, EnvFault};
 use std::alloc::{AllocError, Global};
 
-/// Appends the lines of a paragraph.
+/// Appends the lines of a paragraph: one for each group of its relations that no package of the
+/// index meets, or may not meet, as [`crate::unmet`] writes them.
+///
+/// # Errors
+///
+/// Out of memory.
 pub fn append_lines(
     alloc: Global,
     out: &mut Vec<u8>,
@@ -51,7 +56,12 @@ pub fn own_or<'a>(own: Option<&'a Env>, environment: &'a Env) -> &'a Env
     own.unwrap_or(environment)
 }
 
-/// Returns the environment of a binary package's own architecture, if that can be a target.
+/// Returns the environment of a binary package's own architecture, with the same profiles; none for
+/// a source package, and if that architecture can't be a target, as `all`.
+///
+/// # Errors
+///
+/// Out of memory.
 pub fn own_environment(
     alloc: Global,
     asked: Asked,
