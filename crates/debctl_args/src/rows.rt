@@ -556,8 +556,8 @@ Prints one line for each reason why a set of packages isn't consistent:
   conflict N P V A FIELD GROUP by M P V A
   duplicate N P V A with M P V A
 Each package is printed as the number of its paragraph, from 1, its name, canonical
-version and architecture. The order is that of the paragraphs, then of the fields as
-below; duplicates are last. Each package is compared with the whole set.
+version and architecture. The order is that of the paragraphs, then of Pre-Depends,
+Depends, Recommends, Conflicts and Breaks; duplicates are last.
 
 `unmet`: no package of the set meets the group of Pre-Depends or Depends, or with
 `--recommends` of Recommends. `query` says when a package meets a group.
@@ -568,11 +568,11 @@ a qualifier, or with `any`, a group speaks of packages of every architecture; wi
 `native` of those of A. No package excludes one of its own name.
 
 `duplicate`: the second package has the same name and can't be installed together with
-the first. Packages of one name can only if both are `Multi-Arch: same`, of different
+the first. Two of one name can only if both are `Multi-Arch: same`, of different
 architectures and of equal versions. A package for `all` counts as one for A.
 
-`unsure` is printed in place of `unmet` or `conflict` if that depends on how an
-architecture list with a wildcard is read, as `debctl help unmet` says.
+`unsure` is printed in place of `unmet` or `conflict` if the answer depends on how an
+architecture list with a wildcard is read: see `debctl help unmet`.
 
 Nothing is printed before the whole file has been read.
 
