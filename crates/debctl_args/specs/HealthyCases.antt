@@ -72,7 +72,8 @@ unfolding clap_on_literals
 no_architecture = refl
 
 -- options of `unmet` that `healthy` doesn't have, and one that no command has
-unknown_options : map (λ word. fault_of debctl_app (healthy_line (codes "--arch=amd64" ∷ word ∷ [])))
+unknown_options : map
+    (λ word. fault_of debctl_app (healthy_line (codes "--arch=amd64" ∷ word ∷ [])))
     (codes "--kind=binary" ∷ codes "-ksource" ∷ codes "--profiles=a" ∷ codes "--spelled"
     ∷ codes "--frob" ∷ [])
     ≡ (kind.UnknownArgument ∷ []) ∷ (kind.UnknownArgument ∷ []) ∷ (kind.UnknownArgument ∷ [])

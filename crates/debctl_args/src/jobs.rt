@@ -205,8 +205,8 @@ pub enum Strength {
 /// A command and the paths of the files that it reads.
 ///
 /// If `check`, `normalise`, `sort`, `query` or `healthy` has no path, the file is standard input.
-/// `same`, `diff`, `query --relation-from` and `unmet` have both paths, except for an `unmet` of the
-/// index itself, and no other job has a second one.
+/// `same`, `diff`, `query --relation-from` and `unmet` have both paths, except for an `unmet` of
+/// the index itself, and no other job has a second one.
 #[derive(Debug, PartialEq, Eq, Drop)]
 pub struct Call {
     pub job: Job,
