@@ -16,7 +16,7 @@ fn words(alloc: Global, line: &str) -> Result<Vec<String>, AllocError> {
 }
 
 /// A command line, and the task or the fault that it has.
-const LINES: [(&str, &str); 38] = [
+const LINES: [(&str, &str); 40] = [
     (
         "check",
         "Ok(Run(Call { job: Check(Packages), first: None, second: None }))",
@@ -112,6 +112,16 @@ const LINES: [(&str, &str); 38] = [
     (
         "unmet --arch amd64 --kind any x y",
         "Err(Usage(\"usage: unmet takes no --kind any\"))",
+    ),
+    (
+        "healthy --arch amd64 x",
+        "Ok(Run(Call { job: Healthy { arch: \"amd64\", strength: Depends }, first: Some(\"x\"), \
+        second: None }))",
+    ),
+    (
+        "healthy --recommends --arch=amd64",
+        "Ok(Run(Call { job: Healthy { arch: \"amd64\", strength: Recommends }, first: None, \
+        second: None }))",
     ),
     ("compare 1 xx 2", "Err(Usage(\"usage: unknown operator\"))"),
     ("check --kind foo", "Err(Usage(\"usage: unknown kind\"))"),

@@ -91,7 +91,8 @@ pub enum Job {
         dependents: Dependents,
         versions: VersionText,
     },
-    /// `healthy`: find out whether a set of packages is consistent.
+    /// `healthy`: find the reasons why a set of packages isn't consistent, for a target
+    /// architecture.
     Healthy {
         arch: String,
         strength: Strength,
@@ -192,7 +193,7 @@ pub enum Dependents {
     Source,
 }
 
-/// The fields of a binary package whose groups `unmet` tries.
+/// The fields of a binary package whose groups `unmet` and `healthy` try.
 #[derive(Clone, Copy, Debug, PartialEq, Eq)]
 pub enum Strength {
     /// Pre-Depends and Depends.
@@ -203,9 +204,9 @@ pub enum Strength {
 
 /// A command and the paths of the files that it reads.
 ///
-/// If `check`, `normalise`, `sort` or `query` has no path, the file is standard input. `same`,
-/// `diff`, `query --relation-from` and `unmet` have both paths, except for an `unmet` of the index
-/// itself, and no other job has a second one.
+/// If `check`, `normalise`, `sort`, `query` or `healthy` has no path, the file is standard input.
+/// `same`, `diff`, `query --relation-from` and `unmet` have both paths, except for an `unmet` of
+/// the index itself, and no other job has a second one.
 #[derive(Debug, PartialEq, Eq, Drop)]
 pub struct Call {
     pub job: Job,
