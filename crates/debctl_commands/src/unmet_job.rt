@@ -262,7 +262,7 @@ fn asked_of(dependents: Dependents) -> Asked
     }
 }
 
-fn fields_tried(strength: Strength) -> deb_unmet::Strength
+pub(crate) fn fields_tried(strength: Strength) -> deb_unmet::Strength
     ensures { result ≡ fields_tried strength }
 {
     match strength {
