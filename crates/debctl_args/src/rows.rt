@@ -554,7 +554,7 @@ const HEALTHY_HELP: &str = "\
 Prints one line for each reason why a set of packages isn't consistent:
   unmet N P V A FIELD GROUP
   conflict N P V A FIELD GROUP by M P V A
-  duplicate N P V A with M P V A
+  duplicate N P V A with M V A
 Each package is printed as the number of its paragraph, from 1, its name, canonical
 version and architecture. The order is that of the paragraphs, then of Pre-Depends,
 Depends, Recommends, Conflicts and Breaks; duplicates are last.
@@ -590,5 +590,5 @@ Example:
   $ debctl healthy --arch amd64 set; echo $?
   unmet 1 aa 1 all Depends bb
   conflict 1 aa 1 all Conflicts mm by 2 cc 2 amd64
-  duplicate 1 aa 1 all with 3 aa 3 all
+  duplicate 1 aa 1 all with 3 3 all
   1";
