@@ -20,14 +20,14 @@ is_spoken_of target (Some qualifier) p =
     (bytes_eq (effective target p.architecture) target)
     (bytes_eq (effective target p.architecture) qualifier))
 
--- A package of this name may speak of another one: one of another name, and of such an architecture.
--- No package excludes one of its own name, also not by what that provides.
+-- A package of this name may speak of another one: of another name, and of such an architecture. No
+-- package excludes one of its own name, also not by what that provides.
 abbrev pub is_other : List ℕ → List ℕ → Option (List ℕ) → Listed → Bool
 is_other target name qualifier p =
     not (bytes_eq p.name name) && is_spoken_of target qualifier p
 
--- An alternative of a package of this name excludes each such package that has or provides the name
--- of the alternative, in a version that meets its bound.
+-- An alternative of a package of this name excludes each such package that has or provides the
+-- name of the alternative, in a version that meets its bound.
 abbrev pub excludes : List ℕ → List ℕ → Alternative → Listed → Bool
 excludes target name a p = meets_by_name a p && is_other target name a.qualifier p
 

@@ -2,10 +2,12 @@
 -- another. Debian Policy 7.2 to 7.5; the two conditions are those of Mancinelli and others,
 -- 'Managing the Complexity of Large Free and Open Source Package-Based Software Distributions'.
 use Rattle.std.specs.Prelude.{◌≡◌, ℕ, ◌&&◌, Bool, true, false, not, List, [], ◌∷◌, map, is_none, None, codes, refl}
+use Rattle.std.specs.Fmt.{digits}
 use Rattle.std.specs.List.{list_all, list_any}
 use Rattle.deb_base.specs.declared.version_text.VersionText.TheVariants.{Canonical}
 use Rattle.deb_relation.specs.Applying.{Environment}
 use Rattle.deb_relation.specs.Environments.{environment_with}
+use Rattle.deb_relation.specs.Texts.{group_text}
 use Rattle.deb_field.specs.Values.{ValueMeaning, RelationMeans}
 use Rattle.deb_control.specs.Documents.{Meaning}
 use Rattle.deb_control.specs.FieldWords.{groups_of, value_under, word_under}
@@ -68,7 +70,7 @@ alone_in field = (field, RelationMeans ((alone (codes "ee") ∷ []) ∷ [])) ∷
 abbrev ee : Listed
 ee = listed (codes "ee") (codes "1") (codes "amd64")
 
--- with cc, which it excludes; with dd for i386, which it may exclude; with its own name; and with ee
+-- with cc, which it excludes; with dd, which it may exclude; with its own name; and with ee
 worked-peace : (is_peaceful Depends for_amd64 several those_of_bb ≡ false)
     × (is_peaceful Depends for_amd64
     (listed (codes "dd") (codes "3") (codes "i386") ∷ []) those_of_bb ≡ false)
@@ -95,3 +97,9 @@ worked-healthy : (is_healthy Depends for_amd64 (ee ∷ []) (alone_in (codes "Dep
     × (is_healthy Depends for_amd64 (ee ∷ ee ∷ []) [] ≡ false)
     × (is_healthy Depends for_amd64 [] [] ≡ true)
 worked-healthy = (refl, refl, refl, refl, refl)
+
+-- what is written of a package that has no name
+worked-asks : (asks_healthy Depends for_amd64).lines [] 3 (codes "1") (alone_in (codes "Depends"))
+    ≡ codes "unmet 3  1  Depends ee\n"
+unfolding group_text digits
+worked-asks = refl
