@@ -3,3 +3,4 @@ pub mod Together
 pub mod Lines
 pub mod Kept
 pub mod Health
+pub mod Laws

@@ -13,6 +13,7 @@
 mod excluding;
 mod healthy;
 mod kept;
+pub mod laws;
 mod lines;
 mod together;
 
