@@ -7,9 +7,13 @@ ghost use Rattle.deb_base.specs.Reading.{TakesNoMore};
 ghost use Rattle.deb_control.specs.Calls.{IfRefused};
 ghost use Rattle.deb_control.specs.Checking.{IsRefusalOfDocument};
 ghost use Rattle.deb_control.specs.Documents.{refusal_of};
+ghost use Rattle.deb_control.specs.FieldTexts.{HasTexts};
+ghost use Rattle.deb_control.specs.ValueFiles.{ValueEntries};
+ghost use Rattle.deb_field.specs.Values.{ValueMeaning};
 ghost use Rattle.deb_relation.specs.Environments.{environment_of};
 ghost use Rattle.deb_unmet.specs.KeptParagraphs.{HoldsTexts};
 ghost use Rattle.deb_unmet.specs.Own.{StopsOwn, WritesOwn, asks_own};
+ghost use Rattle.deb_unmet.specs.Paragraphs.{fields_in};
 
 use crate::asked::{Asked, Strength};
 use crate::asking::Summary;
@@ -106,7 +110,10 @@ impl OwnLines for UnmetLines<'_> {
         alloc: Global,
         paragraph: &CheckedView<'_>,
         texts: &FieldTexts,
-    ) -> Result<KeptParagraph, AllocError> {
+    ) -> Result<KeptParagraph, AllocError>
+        ensures { (values : ValueEntries ValueMeaning) → HasTexts texts.now values
+            → IfOk result (HoldsTexts (fields_in paragraph.now) values) }
+    {
         KeptParagraph::of(alloc, paragraph, texts)
     }
 

@@ -2,7 +2,7 @@ use Rattle.std.proofs.Common.{sym, ◌∙◌, subst}
 use Rattle.std.proofs.lemmas.Result.{err_from_is_err_and}
 use Rattle.deb_index.specs.Keeping.{KeepsAll}
 use Rattle.deb_unmet.specs.Own.{AreKept}
-use Rattle.deb_unmet.proofs.OwnLines.{unread, unrefused, unstarted, write_told}
+use Rattle.deb_unmet.proofs.OwnFiles.{unread, unrefused, unstarted, write_told}
 use Rattle.deb_unmet.proofs.in_itself.write_in_itself.Goals as goal
 
 pub returns-in_err-index-clause-stopped : goal.returns-in_err-index-clause-stopped

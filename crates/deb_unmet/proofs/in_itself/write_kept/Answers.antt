@@ -1,7 +1,7 @@
 use Rattle.std.proofs.Common.{◌≡◌, ◌+◌, ◌&&◌, Ok, Err, refl, sym, ap, ◌∙◌}
 use Rattle.std.proofs.lemmas.Result.{err_from_is_err_and}
 use Rattle.deb_index.specs.Indexes.{packages_of}
-use Rattle.deb_unmet.proofs.OwnLines.{end_own, next_own, none_own, one_own, stopped_own}
+use Rattle.deb_unmet.proofs.OwnFiles.{end_own, next_own, none_own, one_own, stopped_own}
 use Rattle.deb_unmet.proofs.in_itself.write_kept.Goals as goal
 use Rattle.deb_unmet.proofs.in_itself.write_kept.Goals.{then-is_empty, else-is_empty}
 

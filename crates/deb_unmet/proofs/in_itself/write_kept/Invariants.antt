@@ -2,7 +2,7 @@ use Rattle.std.proofs.Common.{◌≡◌, List}
 use Rattle.deb_syntax.specs.Answers.{Seen}
 use Rattle.deb_index.specs.Indexes.{packages_of}
 use Rattle.deb_unmet.specs.Own.{AreKept}
-use Rattle.deb_unmet.proofs.OwnLines.{HasOwn}
+use Rattle.deb_unmet.proofs.OwnFiles.{HasOwn}
 use Rattle.deb_unmet.proofs.in_itself.write_kept.Given as goal
 
 abbrev pub invariant-loop-count : goal.invariant-loop-count

@@ -2,7 +2,7 @@ use Rattle.std.proofs.Common.{◌++◌, [], ◌∷◌, sym, subst}
 use Rattle.deb_control.specs.Pairs.{Pairwise}
 use Rattle.deb_control.proofs.GivenValues.{pairwise-push}
 use Rattle.deb_unmet.specs.Own.{IsKept}
-use Rattle.deb_unmet.proofs.OwnLines.{is_kept}
+use Rattle.deb_unmet.proofs.OwnFiles.{is_kept}
 use Rattle.deb_unmet.proofs.own_lines.KeptLinesKeeper.keep.Goals as goal
 
 pub returns : goal.returns
