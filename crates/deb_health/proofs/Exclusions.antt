@@ -1,5 +1,5 @@
 -- The lines of packages that Conflicts and Breaks exclude.
-use Rattle.std.proofs.Common.{◌≡◌, ℕ, zero, suc, ◌+◌, ◌-◌, ◌<◌, ◌≤◌, Bool, true, false, cond, ◌&&◌, List, [], ◌∷◌, ◌++◌, length, Option, None, Some, refl, sym, ap, ◌∙◌, arith}
+use Rattle.std.proofs.Common.{◌≡◌, ℕ, ◌+◌, ◌-◌, ◌<◌, ◌≤◌, Bool, true, false, cond, if◌then◌else◌, ◌&&◌, List, [], ◌∷◌, ◌++◌, length, Option, None, Some, refl, sym, ap, ◌∙◌, arith}
 use Rattle.std.specs.List.{AllByRecursion, filter, flat_map, slice_get}
 use Rattle.std.specs.Option.{option_map_or}
 use Rattle.deb_relation.specs.Environments.{environment_of}
@@ -8,6 +8,7 @@ use Rattle.deb_index.specs.Indexes.{packages_of}
 use Rattle.deb_index.specs.Listed.{Listed}
 use Rattle.deb_index.specs.Named.{numbers_of, package_at, passes_at}
 use Rattle.deb_index.proofs.Counted.{numbers-within}
+use Rattle.deb_index.proofs.Numbered.{from-one}
 use Rattle.deb_index.proofs.Picked.{filtered}
 use Rattle.deb_unmet.specs.Paragraphs.{heading_in}
 use Rattle.deb_health.specs.Lines.{alternative_lines, group_lines}
@@ -25,8 +26,7 @@ abbrev pub lines_if : (Listed → Bool) → List Listed → (ℕ → List ℕ) �
 lines_if test packages line k = cond (option_map_or test (package_at k packages) false) (line k) []
 
 pub numbered : (test : Listed → Bool) (packages : List Listed) (k : ℕ) → 1 ≤ k → option_map_or test (package_at k packages) false ≡ passes_at test packages k
-numbered test packages zero from = absurd (omega (arith, from))
-numbered test packages (suc k) from = refl
+numbered test packages k from = ap (λ b. option_map_or test (if b then None else slice_get packages (k - 1)) false) (from-one k from)
 
 pub flat-cond : {X : Type 0} (f : X → List ℕ) (v : Bool) (x : X) (xs : List X) → cond v (f x) [] ++ flat_map f xs ≡ flat_map f (cond v (x ∷ xs) xs)
 flat-cond f true x xs = refl

@@ -1,6 +1,6 @@
 -- The lines of one package of a set. Debian Policy 7.2 to 7.5; the form of the lines is this
 -- project's own.
-use Rattle.std.specs.Prelude.{◌≡◌, ℕ, cond, List, [], ◌∷◌, ◌++◌, map, ltb, Option, Some, None, codes, refl}
+use Rattle.std.specs.Prelude.{◌≡◌, ℕ, false, cond, List, [], ◌∷◌, ◌++◌, map, ltb, Option, Some, None, codes, refl}
 use Rattle.std.specs.Fmt.{decimal, digits}
 use Rattle.std.specs.List.{concat, filter, flat_map}
 use Rattle.std.specs.Option.{option_map_or}

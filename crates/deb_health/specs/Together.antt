@@ -2,10 +2,8 @@
 -- is that of deb-control(5).
 use Rattle.std.specs.Prelude.{◌≡◌, ℕ, ◌&&◌, Bool, true, false, not, List, [], ◌∷◌, map, Option, Some, None, codes, refl}
 use Rattle.std.specs.Str.{bytes_eq}
-use Rattle.deb_version.specs.Order.{version_cmp}
+use Rattle.deb_version.specs.Canonical.{version_text}
 use Rattle.deb_version.specs.Places.{version_in}
-use Rattle.deb_relation.specs.Applying.{holds}
-use Rattle.deb_relation.specs.declared.operator.Op.TheVariants.{Equal}
 use Rattle.deb_field.specs.declared.flag.MultiArch.{MultiArch}
 use Rattle.deb_field.specs.declared.flag.MultiArch.TheVariants.{No, Same, Foreign, Allowed}
 use Rattle.deb_index.specs.Listed.{Listed}
@@ -18,12 +16,13 @@ is_same Foreign = false
 is_same Allowed = false
 
 -- Two packages of one name can be installed together if both are `Multi-Arch: same`, of different
--- architectures, and of equal versions. A package of the architecture `all` is one of the target.
+-- architectures, and of equal versions, which have one canonical text. A package of the
+-- architecture `all` is one of the target.
 abbrev pub are_together : List ℕ → Listed → Listed → Bool
 are_together target p q =
     (is_same (multi_arch_or_no p.multi_arch) && is_same (multi_arch_or_no q.multi_arch))
     && (not (bytes_eq (effective target p.architecture) (effective target q.architecture))
-    && holds Equal (version_cmp p.version q.version))
+    && bytes_eq (version_text p.version) (version_text q.version))
 
 -- A package rules out another of its name that can't be installed together with it.
 abbrev pub rules_out : List ℕ → Listed → Listed → Bool

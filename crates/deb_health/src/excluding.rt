@@ -154,13 +154,13 @@ fn append_if_other(
 }
 
 /// Returns whether Conflicts or Breaks of a package may speak of another one.
-fn is_other(negative: &Negative<'_>, qualifier: Option<&[u8]>, package: &Package<'_>) -> bool
+fn is_other(negative: &Negative<'_>, qualifier: Option<&[u8]>, other: &Package<'_>) -> bool
     ensures { result ≡ is_other negative.now.target.now
         negative.now.paragraph.now.texts.now.name.now (option_copied qualifier.entry)
-        (listed_of package.now) }
+        (listed_of other.now) }
 {
-    package.name() != negative.paragraph.texts.name
-        && is_spoken_of(negative.target, qualifier, package)
+    other.name() != negative.paragraph.texts.name
+        && is_spoken_of(negative.target, qualifier, other)
 }
 
 /// Appends what a line of an alternative of a group begins with.
@@ -182,9 +182,9 @@ fn append_front(
 }
 
 /// Returns whether Conflicts or Breaks with this qualifier speaks of a package (deb-control(5)).
-fn is_spoken_of(target: &[u8], qualifier: Option<&[u8]>, package: &Package<'_>) -> bool
+fn is_spoken_of(target: &[u8], qualifier: Option<&[u8]>, other: &Package<'_>) -> bool
     ensures { result
-        ≡ is_spoken_of target.now (option_copied qualifier.entry) (listed_of package.now) }
+        ≡ is_spoken_of target.now (option_copied qualifier.entry) (listed_of other.now) }
 {
     let Some(qualifier) = qualifier else {
         return true;
@@ -192,9 +192,9 @@ fn is_spoken_of(target: &[u8], qualifier: Option<&[u8]>, package: &Package<'_>) 
     if qualifier == b"any".as_slice() {
         true
     } else if qualifier == b"native".as_slice() {
-        effective(target, package) == target
+        effective(target, other.architecture()) == target
     } else {
-        effective(target, package) == qualifier
+        effective(target, other.architecture()) == qualifier
     }
 }
 

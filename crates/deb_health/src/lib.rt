@@ -11,10 +11,10 @@
 #![tactic(auto)]
 
 mod excluding;
-mod healthy;
 mod kept;
 pub mod laws;
 mod lines;
+mod members;
 mod together;
 
-pub use healthy::healthy;
+pub use members::healthy;

@@ -87,19 +87,20 @@ fn append_negatives(
         set.environment,
         paragraph.texts.architecture,
     )?;
-    let conflicts = Negative {
+    let environment = own_or(own.as_ref(), set.environment);
+    let asked = Negative {
         index: set.index,
-        environment: own_or(own.as_ref(), set.environment),
+        environment,
         target: set.environment.target(),
-        paragraph,
+        paragraph: &*paragraph,
         field: b"Conflicts",
     };
-    append_exclusions(alloc, out, &conflicts, &kept.conflicts)?;
-    let breaks = Negative {
+    append_exclusions(alloc, out, &asked, &kept.conflicts)?;
+    let asked = Negative {
         field: b"Breaks",
-        ..conflicts
+        ..asked
     };
-    append_exclusions(alloc, out, &breaks, &kept.breaks)
+    append_exclusions(alloc, out, &asked, &kept.breaks)
 }
 
 /// Appends a line for each later package of the same name that can't be installed together with
@@ -128,19 +129,19 @@ fn append_if_duplicate(
     out: &mut Vec<u8>,
     set: &Set<'_>,
     paragraph: &Paragraph<'_>,
-    package: &Package<'_>,
+    own: &Package<'_>,
     number: u64,
 ) -> Result<(), AllocError>
     ensures { OnOk result (out.new.items ≡ out.old.items ++ cond (option_map_or
         (λ q. not (are_together (environment_of set.now.environment.now).target
-        (listed_of package.now) q)) (package_at number (packages_of set.now.index.now)) false
+        (listed_of own.now) q)) (package_at number (packages_of set.now.index.now)) false
         && ltb paragraph.now.number number) (line_at (duplicate_line (heading_in paragraph.now))
         (packages_of set.now.index.now) number) []) }
 {
     let Some(other) = set.index.package(number) else {
         return Ok(());
     };
-    if !are_together(set.environment.target(), package, &other) && paragraph.number < number {
+    if !are_together(set.environment.target(), own, &other) && paragraph.number < number {
         append_duplicate(out, paragraph, number, &other)?;
     }
     Ok(())
@@ -172,16 +173,16 @@ fn append_duplicate(
 pub(crate) fn append_package(
     out: &mut Vec<u8>,
     number: u64,
-    package: &Package<'_>,
+    other: &Package<'_>,
 ) -> Result<(), AllocError>
     ensures { OnOk result (out.new.items
-        ≡ out.old.items ++ package_line canonical_version (number, listed_of package.now)) }
+        ≡ out.old.items ++ package_line canonical_version (number, listed_of other.now)) }
 {
     let mut buffer = Buffer::new();
     append_spaced(out, buffer.format(number).as_bytes())?;
-    append_spaced(out, package.name())?;
-    append_spaced(out, package.version())?;
-    append_spaced(out, package.architecture())?;
+    append_spaced(out, other.name())?;
+    append_spaced(out, other.version())?;
+    append_spaced(out, other.architecture())?;
     out.push(b'\n')?;
     Ok(())
 }

@@ -15,22 +15,21 @@ pub(crate) fn are_together(target: &[u8], first: &Package<'_>, second: &Package<
 {
     is_same(first)
         && is_same(second)
-        && effective(target, first) != effective(target, second)
+        && effective(target, first.architecture()) != effective(target, second.architecture())
         && first.version() == second.version()
 }
 
 /// Returns whether a package is `Multi-Arch: same`.
-fn is_same(package: &Package<'_>) -> bool
-    ensures { result ≡ is_same (multi_arch_or_no (listed_of package.now).multi_arch) }
+fn is_same(of: &Package<'_>) -> bool
+    ensures { result ≡ is_same (multi_arch_or_no (listed_of of.now).multi_arch) }
 {
-    matches!(package.multi_arch(), Some(MultiArch::Same))
+    matches!(of.multi_arch(), Some(MultiArch::Same))
 }
 
 /// Returns the architecture of a package for a target: the target if it is `all`.
-pub(crate) fn effective<'a>(target: &'a [u8], package: &Package<'a>) -> &'a [u8]
-    ensures { result.now ≡ effective target.now (listed_of package.now).architecture }
+pub(crate) fn effective<'a>(target: &'a [u8], architecture: &'a [u8]) -> &'a [u8]
+    ensures { result.now ≡ effective target.now architecture.now }
 {
-    let architecture = package.architecture();
     if architecture == b"all".as_slice() {
         target
     } else {

@@ -12,9 +12,9 @@ loop-rest-init c = λ g regular is.
 pub loop-rest-preserved : goal.loop-rest-preserved
 loop-rest-preserved c = λ g regular is.
     let lines = alternatives_of c.args.negative.now c.args.group.now in
-    alternatives_more (λ done. c.loop-rest.out.items ≡ c.args.out.now.items ++ flat_map lines done) (λ done. c.append_only.new.out.items ≡ c.args.out.now.items ++ flat_map lines done) g c.loop-rest.rest.now c.in_ok-next_alternative.field-0.1.now (c.loop-rest.invariant g regular is) (sym c.is_empty.ensures ∙ c.loop-rest-test.true)
-    (λ a more good text. c.in_ok-next_alternative.ensures.others a more good text)
-    (λ a more done good text so_far. lines_more lines done a c.args.out.now.items c.loop-rest.out.items c.append_only.new.out.items so_far (c.in_ok-append_only.ensures a (c.in_ok-next_alternative.ensures.first a more good text)))
+    alternatives_more (λ done. c.loop-rest.out.items ≡ c.args.out.now.items ++ flat_map lines done) (λ done. c.append_only.new.out.items ≡ c.args.out.now.items ++ flat_map lines done) g c.loop-rest.rest.now c.in_ok-relation.others.now (c.loop-rest.invariant g regular is) (sym c.is_empty.ensures ∙ c.loop-rest-test.true)
+    c.in_ok-relation.ensures.others
+    (λ a more done good text so_far. lines_more lines done a c.args.out.now.items c.loop-rest.out.items c.append_only.new.out.items so_far (c.in_ok-append_only.ensures a (c.in_ok-relation.ensures.first a more good text)))
 
 pub returns : goal.returns
 returns c = λ g regular is.

@@ -7,8 +7,12 @@ ghost use Rattle.deb_base.specs.Reading.{TakesNoMore};
 ghost use Rattle.deb_control.specs.Calls.{IfRefused};
 ghost use Rattle.deb_control.specs.Checking.{IsRefusalOfDocument};
 ghost use Rattle.deb_control.specs.Documents.{refusal_of};
+ghost use Rattle.deb_control.specs.FieldTexts.{HasTexts};
+ghost use Rattle.deb_control.specs.ValueFiles.{ValueEntries};
+ghost use Rattle.deb_field.specs.Values.{ValueMeaning};
 ghost use Rattle.deb_relation.specs.Environments.{environment_of};
 ghost use Rattle.deb_unmet.specs.Own.{StopsOwn, WritesOwn};
+ghost use Rattle.deb_unmet.specs.Paragraphs.{fields_in};
 ghost use Rattle.deb_health.specs.Health.{asks_healthy};
 ghost use Rattle.deb_health.specs.Kept.{HoldsMember};
 
@@ -106,7 +110,10 @@ impl OwnLines for Members<'_> {
         alloc: Global,
         paragraph: &CheckedView<'_>,
         texts: &FieldTexts,
-    ) -> Result<Kept, AllocError> {
+    ) -> Result<Kept, AllocError>
+        ensures { (values : ValueEntries ValueMeaning) → HasTexts texts.now values
+            → IfOk result (HoldsMember (fields_in paragraph.now) values) }
+    {
         Kept::of(alloc, paragraph, texts)
     }
 
