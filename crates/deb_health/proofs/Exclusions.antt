@@ -1,5 +1,5 @@
 -- The lines of packages that Conflicts and Breaks exclude.
-use Rattle.std.proofs.Common.{◌≡◌, ℕ, ◌+◌, ◌-◌, ◌<◌, ◌≤◌, Bool, true, false, cond, if◌then◌else◌, ◌&&◌, List, [], ◌∷◌, ◌++◌, length, Option, None, Some, refl, sym, ap, ◌∙◌, arith}
+use Rattle.std.proofs.Common.{◌≡◌, ℕ, ◌+◌, ◌-◌, ◌<◌, ◌≤◌, Bool, true, false, cond, if◌then◌else◌, ◌&&◌, List, [], ◌∷◌, ◌++◌, length, take, get_or, Option, None, Some, refl, sym, ap, ◌∙◌, arith}
 use Rattle.std.specs.List.{AllByRecursion, filter, flat_map, slice_get}
 use Rattle.std.specs.Option.{option_map_or}
 use Rattle.deb_relation.specs.Environments.{environment_of}
@@ -10,6 +10,8 @@ use Rattle.deb_index.specs.Named.{numbers_of, package_at, passes_at}
 use Rattle.deb_index.proofs.Counted.{numbers-within}
 use Rattle.deb_index.proofs.Numbered.{from-one}
 use Rattle.deb_index.proofs.Picked.{filtered}
+use Rattle.deb_index.proofs.TextPieces.{lines_more}
+use Rattle.std.proofs.lemmas.List.{take_more}
 use Rattle.deb_unmet.specs.Paragraphs.{heading_in}
 use Rattle.deb_health.specs.Lines.{alternative_lines, group_lines}
 use Rattle.deb_health.specs.declared.excluding.Negative.{Negative}
@@ -44,3 +46,9 @@ pub lines-passing : (asked test : Listed → Bool) (packages : List Listed) (lin
 lines-passing asked test packages line =
     lines-filter test packages line (length packages + 1) (numbers_of asked packages) (numbers-within 1 1 (length packages + 1) asked packages (omega arith) (omega arith))
     ∙ ap (flat_map line) (filtered asked test packages)
+
+-- the lines of one more of some numbers
+pub one-more : (line : ℕ → List ℕ) (ks : List ℕ) (i d : ℕ) (start old new : List ℕ) → i < length ks → old ≡ start ++ flat_map line (take i ks) → new ≡ old ++ line (get_or ks i d) → new ≡ start ++ flat_map line (take (i + 1) ks)
+one-more line ks i d start old new within so_far is =
+    lines_more line (take i ks) (get_or ks i d) start old new so_far is
+    ∙ ap (λ l. start ++ flat_map line l) (sym (take_more ks i d within))
