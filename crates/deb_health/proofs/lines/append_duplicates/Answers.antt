@@ -1,10 +1,11 @@
-use Rattle.std.proofs.Common.{◌≡◌, ◌++◌, [], ltb, not, sym, ap, ◌∙◌}
+use Rattle.std.proofs.Common.{◌≡◌, ◌++◌, Bool, [], ltb, not, ap, ◌∙◌}
 use Rattle.std.specs.List.{filter, flat_map}
 use Rattle.std.specs.Option.{option_map_or}
 use Rattle.std.proofs.lemmas.List.{take_all}
 use Rattle.deb_relation.specs.Environments.{environment_of}
 use Rattle.deb_index.specs.Indexes.{packages_of}
 use Rattle.deb_index.specs.Kept.{listed_of}
+use Rattle.deb_index.specs.Listed.{Listed}
 use Rattle.deb_index.specs.Named.{has_name, numbers_of}
 use Rattle.deb_unmet.specs.Paragraphs.{heading_in}
 use Rattle.deb_health.specs.Lines.{duplicate_line, line_at}
@@ -17,7 +18,7 @@ pub loop-number-preserved : goal.loop-number-preserved
 loop-number-preserved c =
     let packages = packages_of c.args.set.now.index.now in
     let p = listed_of c.in-Some.«package» in
-    let test = λ q. not (are_together (environment_of c.args.set.now.environment.now).target p q) in
+    let test : Listed → Bool = λ q. not (are_together (environment_of c.args.set.now.environment.now).target p q) in
     let line = line_at (duplicate_line (heading_in c.args.paragraph.now)) packages in
     one-more (lines_behind c.args.paragraph.now.number test packages line) c.packages-number-items.result.now c.loop-number.number-index _ c.args.out.now.items c.loop-number.out.items c.append_if_duplicate.new.out.items c.loop-number-test.true c.loop-number.invariant c.in_ok-append_if_duplicate.ensures
 
@@ -26,7 +27,7 @@ returns c =
     let packages = packages_of c.args.set.now.index.now in
     let p = listed_of c.in-Some.«package» in
     let target = (environment_of c.args.set.now.environment.now).target in
-    let test = λ q. not (are_together target p q) in
+    let test : Listed → Bool = λ q. not (are_together target p q) in
     let line = line_at (duplicate_line (heading_in c.args.paragraph.now)) packages in
     let n = c.args.paragraph.now.number in
     c.loop-number.invariant
