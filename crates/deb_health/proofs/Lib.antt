@@ -1,2 +1,3 @@
 pub mod Exclusions
 pub mod Duplicates
+pub mod NoLines
