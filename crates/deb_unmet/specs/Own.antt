@@ -154,10 +154,10 @@ worked-spelled = refl
 
 -- they are the lines that `unmet` writes of the index as a file
 worked-same : (strength : Strength) (versions : VersionText) (environment : Environment)
-    (packages : List Listed)
-    → asks_over (asks_own strength versions environment) packages
-    ≡ asks_of (request_for (Packages strength) versions) environment packages
-worked-same strength versions environment packages = refl
+    (over : List Listed)
+    → asks_over (asks_own strength versions environment) over
+    ≡ asks_of (request_for (Packages strength) versions) environment over
+worked-same strength versions environment over = refl
 
 -- nothing is kept of no paragraph, and no paragraph is left out
 worked-kept : {Kept : Type 0} (Holds : List Field → ValueEntries ValueMeaning → Kept → Type 0)
