@@ -21,13 +21,12 @@ use Rattle.deb_unmet.specs.Fields.{environment_for, heading, paragraph_lines}
 use Rattle.deb_unmet.specs.Files.{Asks, is_nothing, lines_from}
 use Rattle.deb_unmet.specs.Own.{asks_over}
 use Rattle.deb_unmet.specs.Readings.{applies_by, may}
-use Rattle.deb_unmet.specs.Troubles.{group_lines as needed_lines, trouble, trouble_line}
+use Rattle.deb_unmet.specs.Troubles.{group_lines as needed_lines, trouble}
 use Rattle.deb_unmet.specs.declared.applying.Applies.{Applies}
 use Rattle.deb_unmet.specs.declared.applying.Applies.TheVariants.{Surely, Maybe, Never}
 use Rattle.deb_unmet.specs.declared.asked.Asked.TheVariants.{Packages}
 use Rattle.deb_unmet.specs.declared.asked.Strength.{Strength}
-use Rattle.deb_unmet.specs.declared.trouble.Trouble.{Trouble}
-use Rattle.deb_unmet.specs.declared.trouble.Trouble.TheVariants.{Unmet, Unsure}
+use Rattle.deb_unmet.proofs.Groups.{nothing-group}
 use Rattle.deb_health.specs.Excluding.{excludes}
 use Rattle.deb_health.specs.Health.{are_apart, asks_healthy, is_abundant, is_peaceful}
 use Rattle.deb_health.specs.Laws.{NoLineIfHealthy}
@@ -97,11 +96,6 @@ later-from test (q ∷ front) more p m b is =
     ∙ later-from test front more p (m + 1) b (omega (arith, is))
 
 -- no line of groups
-nothing-trouble : (why : Option Trouble) (heading field text : List ℕ) → is_nothing (trouble_line why heading field text) ≡ is_none why
-nothing-trouble None heading field text = refl
-nothing-trouble (Some Unmet) heading field text = refl
-nothing-trouble (Some Unsure) heading field text = refl
-
 nothing-alternative : (applies : Applies) (test : Listed → Bool) (packages : List Listed) (heading field text : List ℕ) → is_nothing (cond (may applies) (flat_map (line_at (exclusion_line (exclusion_front applies heading field text)) packages) (numbers_of test packages)) []) ≡ not (may applies && list_any test packages)
 nothing-alternative Surely test packages heading field text = nothing-all (exclusion_line (exclusion_front Surely heading field text)) (λ p. refl) test packages
 nothing-alternative Maybe test packages heading field text = nothing-all (exclusion_line (exclusion_front Maybe heading field text)) (λ p. refl) test packages
@@ -123,7 +117,7 @@ module _ (strength : Strength) (environment : Environment) (packages : List List
       let e = environment_for (Packages strength) environment values in
       let h = heading (Packages strength) number version values in
       nothing-flat (λ field. flat_map (needed_lines e packages h field) (groups_of (value_under field values))) (λ field. list_all (λ group. is_none (trouble e packages group)) (groups_of (value_under field values)))
-      (λ field. nothing-flat (needed_lines e packages h field) (λ group. is_none (trouble e packages group)) (λ group. nothing-trouble (trouble e packages group) h field (group_text group)) (groups_of (value_under field values))) (fields_with strength)
+      (λ field. nothing-flat (needed_lines e packages h field) (λ group. is_none (trouble e packages group)) (λ group. nothing-group e packages h field group) (groups_of (value_under field values))) (fields_with strength)
 
   nothing-excludes : (h : List ℕ) (values : ValueEntries ValueMeaning) → is_nothing (exclusion_lines (environment_for (Packages strength) environment values) environment.target packages h values) ≡ is_peaceful strength environment packages values
   nothing-excludes h values =
