@@ -6,7 +6,7 @@ _debctl() {
     # What each command offers: its options, their values, and its words by their number.
     local -A offers=(
         [:options]='--help --version'
-        [:0]='check explain audit normalise same diff compare canon-version version-key sort query unmet help'
+        [:0]='check explain audit normalise same diff compare canon-version version-key sort query unmet healthy help'
         [check:options]='--kind --all --complete --least --help'
         [check:0]=files
         [check:-k]='binary packages source sources status any'
@@ -62,8 +62,11 @@ _debctl() {
         [unmet:--profiles]=''
         [unmet:-k]='binary packages source sources'
         [unmet:--kind]='binary packages source sources'
+        [healthy:options]='--arch --recommends --help'
+        [healthy:0]=files
+        [healthy:--arch]='$(dpkg-architecture -L 2>/dev/null)'
         [help:options]=--help
-        [help:0]='check explain audit normalise same diff compare canon-version version-key sort query unmet help kinds'
+        [help:0]='check explain audit normalise same diff compare canon-version version-key sort query unmet healthy help kinds'
     )
     local command='' given=0 ended='' i key offer
     for ((i = 1; i < cword; i++)); do

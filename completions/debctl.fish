@@ -41,6 +41,7 @@ complete -c debctl -n __debctl_at -a version-key -d 'Prints keys whose byte orde
 complete -c debctl -n __debctl_at -a sort -d 'Sorts the lines of a file, each a version, in Debian'"'"'s order'
 complete -c debctl -n __debctl_at -a query -d 'Finds the packages of an index that meet a relation'
 complete -c debctl -n __debctl_at -a unmet -d 'Finds the dependencies of a whole file that no package of an index meets'
+complete -c debctl -n __debctl_at -a healthy -d 'Checks whether a set of packages is consistent'
 complete -c debctl -n __debctl_at -a help -d 'Prints the help of the program or of a command'
 complete -c debctl -n __debctl_at -s h -l help -d 'Print help'
 complete -c debctl -n __debctl_at -s V -l version -d 'Print version'
@@ -100,5 +101,9 @@ complete -c debctl -n '__debctl_at unmet' -s k -l kind -x -a 'binary packages so
 complete -c debctl -n '__debctl_at unmet' -l recommends -d 'Try the groups of Recommends too'
 complete -c debctl -n '__debctl_at unmet' -l spelled -d 'Print each version as its file spells it'
 complete -c debctl -n '__debctl_at unmet' -s h -l help -d 'Print help'
-complete -c debctl -n '__debctl_at help 0' -a 'check explain audit normalise same diff compare canon-version version-key sort query unmet help kinds'
+complete -c debctl -n '__debctl_at healthy 0' -F
+complete -c debctl -n '__debctl_at healthy' -l arch -x -a '(dpkg-architecture -L 2>/dev/null)' -d 'The target architecture, such as amd64'
+complete -c debctl -n '__debctl_at healthy' -l recommends -d 'Try the groups of Recommends too'
+complete -c debctl -n '__debctl_at healthy' -s h -l help -d 'Print help'
+complete -c debctl -n '__debctl_at help 0' -a 'check explain audit normalise same diff compare canon-version version-key sort query unmet healthy help kinds'
 complete -c debctl -n '__debctl_at help' -s h -l help -d 'Print help'

@@ -122,6 +122,16 @@ const LINES: [(&str, &str); 40] = [
         "unmet --arch amd64 --kind any x y",
         "Err(Usage(\"usage: unmet takes no --kind any\"))",
     ),
+    (
+        "healthy --arch amd64 x",
+        "Ok(Run(Call { job: Healthy { arch: \"amd64\", strength: Depends }, first: Some(\"x\"), \
+        second: None }))",
+    ),
+    (
+        "healthy --recommends --arch=amd64",
+        "Ok(Run(Call { job: Healthy { arch: \"amd64\", strength: Recommends }, first: None, \
+        second: None }))",
+    ),
     ("compare 1 xx 2", "Err(Usage(\"usage: unknown operator\"))"),
     ("check --kind foo", "Err(Usage(\"usage: unknown kind\"))"),
     (

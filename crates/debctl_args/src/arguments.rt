@@ -2,7 +2,7 @@
 
 ghost use Rattle.std.specs.Prelude.{◌≡◌, [], Some, None, map, true, string_bytes, IfOk, IfErr, option_copied, option_map};
 ghost use Rattle.clap.specs.Words.{fault_of, found_of, has_subcommand, kind_of, rows_of, subcommand_rows_of, takes};
-ghost use Rattle.debctl_args.specs.Asked.{asked_in, asked_of, asks, audit_asked, canon_version_asked, check_asked, checks_to, debctl_app, demands_asked, compare_asked, diff_asked, diff_of_files, explain_asked, file_explained, help_asked, is_demanding, query_asked, query_of_file, query_of_word, relation_asked, request_of, rule_asked, same_asked, sort_asked, text_asked, unmet_asked, unmet_of_files, unmet_of_path, unmet_of_sources, version_asked, version_key_asked, wanted_of, word_in, Request};
+ghost use Rattle.debctl_args.specs.Asked.{asked_in, asked_of, asks, audit_asked, canon_version_asked, check_asked, checks_to, debctl_app, demands_asked, compare_asked, diff_asked, diff_of_files, explain_asked, file_explained, healthy_asked, help_asked, is_demanding, query_asked, query_of_file, query_of_word, relation_asked, request_of, rule_asked, same_asked, sort_asked, text_asked, unmet_asked, unmet_of_files, unmet_of_path, unmet_of_sources, version_asked, version_key_asked, wanted_of, word_in, Request};
 ghost use Rattle.debctl_args.specs.Fitting.{Answers, AnswersError, AnswersMet, IsHelp, MeansError, FitsKind, UsesText};
 
 use crate::code_argument::code_named;
@@ -525,6 +525,21 @@ fn unmet_of_files(
         },
         first: Some(first),
         second,
+    }))
+}
+
+pub(crate) fn healthy_task(alloc: Global, found: &ArgMatches<'_>) -> Result<Task, UsageFault>
+    ensures { Answers (healthy_asked (rows_of (found_of found.now))) result }
+{
+    let arch = String::from_str(alloc, word_in(found, "arch"))?;
+    let first = path_in(alloc, found)?;
+    Ok(Task::Run(Call {
+        job: Job::Healthy {
+            arch,
+            strength: strength_in(found),
+        },
+        first,
+        second: None,
     }))
 }
 

@@ -17,6 +17,7 @@ use crate::query_from::run_query_from;
 use crate::query_job::{QueryOptions, QueryWords, run_query};
 use crate::same_job::run_same;
 use crate::sort_job::run_sort;
+use crate::health_job::run_healthy;
 use crate::unmet_job::{UnmetWords, run_unmet};
 use crate::version_jobs::{run_canon_version, run_compare, run_version_key};
 use crate::whole_job::run_check_whole;
@@ -157,6 +158,9 @@ fn run_job<R: Source, S: Source, W: Sink, E: Sink>(
         } => {
             let words = unmet_words(arch, profiles, *dependents, *versions);
             run_unmet(alloc, &words, first, second, out, err)
+        }
+        Job::Healthy { arch, strength } => {
+            run_healthy(alloc, arch.as_str(), *strength, first, out, err)
         }
         Job::Diff { .. } | Job::Query { .. } | Job::QueryFrom { .. } => {
             run_in_detail(alloc, job, first, second, out, err)

@@ -30,6 +30,7 @@ mod reporting;
 mod same_job;
 mod sort_job;
 mod streams;
+mod health_job;
 mod unmet_job;
 mod unopened;
 mod usage_hints;

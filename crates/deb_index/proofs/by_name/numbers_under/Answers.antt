@@ -6,7 +6,7 @@ use Rattle.deb_index.specs.Indexes.{packages_of}
 use Rattle.deb_index.specs.Named.{among, has_name, numbers_of, provides}
 use Rattle.deb_index.specs.Why.{has_or_provides}
 use Rattle.deb_index.proofs.Merged.{among-either, merged}
-use Rattle.deb_index.proofs.why_lines.numbers_under.Goals as goal
+use Rattle.deb_index.proofs.by_name.numbers_under.Goals as goal
 
 pub returns : goal.returns
 returns c =
