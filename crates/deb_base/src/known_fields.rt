@@ -125,11 +125,15 @@ pub const KNOWN_FIELDS: usize = 55;
 pub mod rows {
     pub const ARCHITECTURE: usize = 0;
 
+    pub const BREAKS: usize = 2;
+
     pub const BUILD_DEPENDS: usize = 7;
 
     pub const BUILD_DEPENDS_ARCH: usize = 8;
 
     pub const BUILD_DEPENDS_INDEP: usize = 9;
+
+    pub const CONFLICTS: usize = 14;
 
     pub const DEPENDS: usize = 15;
 

@@ -7,10 +7,7 @@ ghost use Rattle.deb_field.specs.Values.{ValueMeaning};
 ghost use Rattle.deb_unmet.specs.Paragraphs.{fields_in};
 ghost use Rattle.deb_health.specs.Kept.{HoldsMember};
 
-const BREAKS: usize = 2;
-
-const CONFLICTS: usize = 14;
-
+use deb_base::rows::{BREAKS, CONFLICTS};
 use deb_control::{CheckedView, FieldTexts};
 use deb_unmet::KeptParagraph;
 use std::alloc::{AllocError, Global};
