@@ -153,11 +153,9 @@ unfolding group_text digits file_limit paragraph_limit is_utf8 chars encode
 worked-spelled = refl
 
 -- they are the lines that `unmet` writes of the index as a file
-worked-same : (strength : Strength) (versions : VersionText) (environment : Environment)
-    (over : List Listed)
-    → asks_over (asks_own strength versions environment) over
-    ≡ asks_of (request_for (Packages strength) versions) environment over
-worked-same strength versions environment over = refl
+worked-same : asks_over (asks_own Depends Spelled for_amd64) packages
+    ≡ asks_of (request_for (Packages Depends) Spelled) for_amd64 packages
+worked-same = refl
 
 -- nothing is kept of no paragraph, and no paragraph is left out
 worked-kept : {Kept : Type 0} (Holds : List Field → ValueEntries ValueMeaning → Kept → Type 0)

@@ -103,7 +103,11 @@ pub(crate) fn run_unmet<R: Source, S: Source, W: Sink, E: Sink>(
 }
 
 /// Parses the environment that the command-line arguments name.
-pub(crate) fn parse_environment(alloc: Global, target: &str, profiles: &[String]) -> Result<Env, Fault>
+pub(crate) fn parse_environment(
+    alloc: Global,
+    target: &str,
+    profiles: &[String],
+) -> Result<Env, Fault>
     ensures { MakesEnvironment target.now (map string_bytes profiles.now) result }
 {
     let names = names_of(alloc, profiles)?;
