@@ -16,7 +16,7 @@ use Rattle.deb_control.proofs.ShownSoFar.{ShownAll}
 use Rattle.deb_index.specs.Installed.{is_seen_member, member_fields}
 use Rattle.deb_index.specs.Listed.{Listed}
 use Rattle.deb_index.specs.Listing.{Lists, SeenLists}
-use Rattle.deb_index.specs.Members.{KeepsGiven, KeepsMembers, ListsMembers, doc_of, has_seen, has_values, seen_in}
+use Rattle.deb_index.specs.Members.{HasBoth, KeepsGiven, KeepsMembers, ListsMembers, doc_of, has_seen, has_values, seen_in}
 use Rattle.deb_index.specs.Stores.{IsStore, line_by, lines_in, listed_by, listed_in, spelling_by, spellings_in}
 use Rattle.deb_index.specs.VersionSpellings.{version_body}
 use Rattle.deb_index.specs.declared.members.Members.{Members}
@@ -36,6 +36,7 @@ none_kept members store entries records = record {
   kept = no_packages store entries records;
   meaning = [];
   are = tt;
+  same = tt;
   passing = tt;
   listed = subst (λ rs. Pairwise Lists [] (map (listed_by store.bytes.items store.entries.items) rs)) (sym records) tt;
   lines = ap (map line_by) records;
@@ -59,6 +60,7 @@ module _ (members : Members) (given : List Seen) (seen : Seen) (passes : is_judg
         kept = keeps.kept;
         meaning = keeps.meaning ++ values ∷ [];
         are = pairwise-push (AreValuesOf (doc_of members)) given keeps.meaning seen values keeps.are are;
+        same = pairwise-push (HasBoth members) given keeps.meaning seen values keeps.same (sym (same_has members seen fields values are));
         passing = rw (seen_same, meant_same) keeps.passing;
         listed = rw meant_same keeps.listed;
         lines = keeps.lines ∙ ap (map (λ s. s.first)) (sym seen_same);
@@ -76,6 +78,7 @@ module _ (members : Members) (given : List Seen) (seen : Seen) (passes : is_judg
         kept = kept;
         meaning = keeps.meaning ++ values ∷ [];
         are = pairwise-push (AreValuesOf (doc_of members)) given keeps.meaning seen values keeps.are are;
+        same = pairwise-push (HasBoth members) given keeps.meaning seen values keeps.same (sym (same_has members seen fields values are));
         passing = rw (seen_more, meant_more) (pairwise-push (AreValuesOf Packages) (seen_in members given) (filter (has_values members) keeps.meaning) seen values keeps.passing too);
         listed = rw (meant_more, listed) (pairwise-push Lists (filter (has_values members) keeps.meaning) (listed_in old) values p keeps.listed lists_these);
         lines = line ∙ ap (λ l. l ++ seen.first ∷ []) keeps.lines ∙ sym (map-append (λ s. s.first) (seen_in members given) (seen ∷ [])) ∙ ap (map (λ s. s.first)) (sym seen_more);
@@ -109,6 +112,7 @@ keeps_members Installed Keeps text given store shown keeps kept = record {
   meaning = keeps.meaning;
   are = keeps.are;
   accepted = accepted-given Status text given keeps.meaning shown keeps.are;
+  same = keeps.same;
   members = keeps.passing;
   keeps = kept;
 }

@@ -20,6 +20,9 @@ use Rattle.std.specs.List.{filter}
 use Rattle.deb_index.specs.Installed.{is_member}
 use Rattle.deb_index.specs.Listed.{Listed, provisions_in}
 use Rattle.deb_index.specs.Listing.{Lists, ListsAll}
+use Rattle.deb_index.specs.Members.{ListsMembers, doc_of}
+use Rattle.deb_index.specs.declared.members.Members.{Members}
+use Rattle.deb_index.specs.declared.members.Members.TheVariants.{All, Installed}
 use Rattle.deb_index.specs.Reports.{report}
 use Rattle.deb_index.specs.Laws.{ListsOnce, CanonicalTextLists, InstalledPackagesAreMeant, ReportAlike, CanonicalTextChangesNoAnswer}
 
@@ -84,6 +87,14 @@ installed_are_meant = record {
     listed = subst (λ m. Pairwise Lists (filter is_member m) packages) (one_meaning Status text lists.meaning meaning lists.accepted accepted) lists.listed;
   };
 }
+
+pub members_once : (members : Members) (text : List ℕ) (packages others : List Listed) → ListsMembers members text packages → ListsMembers members text others → packages ≡ others
+members_once All = lists_once
+members_once Installed = installed_are_meant.once
+
+pub canonical_members_listed : (members : Members) (text : List ℕ) (meaning : Meaning) (packages : List Listed) → Accepted (doc_of members) text meaning → ListsMembers members text packages → ListsMembers members (canonical_text meaning) packages
+canonical_members_listed All = canonical_text_lists
+canonical_members_listed Installed = installed_are_meant.canonical
 
 -- equal packages and relations have equal reports
 alike : (packages others : List Listed) (m n : Relation) → packages ≡ others → m ≡ n → ReportAlike packages others m n

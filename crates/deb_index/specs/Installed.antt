@@ -95,14 +95,16 @@ installed_lines text = map first_line (filter is_member_in (paragraphs_of text))
 abbrev pub installed_spellings : List ℕ → List (List ℕ)
 installed_spellings text = map version_spelling (filter is_member_in (paragraphs_of text))
 
--- These are the paragraphs of the status file, in its order; with their values it is accepted; each
--- member has the values of a paragraph of an index of packages; and this is kept of the members.
+-- These are the paragraphs of the status file, in its order; with their values it is accepted; they
+-- have the same members by their fields and by their values; each member has the values of a
+-- paragraph of an index of packages; and this is kept of the members.
 pub record KeepsInstalled (Keeps : List Seen → Type 0) (text : List ℕ) : Type 0 where
   pub given : List Seen
   pub next : AreNext text 0 given
   pub meaning : Meaning
   pub are : Pairwise (AreValuesOf Status) given meaning
   pub accepted : Accepted Status text meaning
+  pub same : Pairwise (λ seen values. is_seen_member seen ≡ is_member values) given meaning
   pub members : Pairwise (AreValuesOf Packages) (filter is_seen_member given)
       (filter is_member meaning)
   pub keeps : Keeps (filter is_seen_member given)

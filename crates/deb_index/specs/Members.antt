@@ -65,12 +65,17 @@ abbrev pub KeepsMembers : Members → (List Seen → Type 0) → List ℕ → Ty
 KeepsMembers All = KeepsAll
 KeepsMembers Installed = KeepsInstalled
 
+-- by its fields and by its values a paragraph is a member, or isn't
+abbrev pub HasBoth : Members → Seen → ValueEntries ValueMeaning → Type 0
+HasBoth members seen values = has_seen members seen ≡ has_values members values
+
 -- What a store keeps of these paragraphs, of which each passes: the packages that the members among
 -- them list, the lines at which these start, and how they spell their versions.
 pub record KeepsGiven (members : Members) (store : Store) (given : List Seen) : Type 0 where
   pub kept : IsStore store
   pub meaning : Meaning
   pub are : Pairwise (AreValuesOf (doc_of members)) given meaning
+  pub same : Pairwise (HasBoth members) given meaning
   pub passing : Pairwise (AreValuesOf docs.Packages) (seen_in members given)
       (filter (has_values members) meaning)
   pub listed : Pairwise Lists (filter (has_values members) meaning) (listed_in store)
