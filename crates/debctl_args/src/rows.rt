@@ -13,10 +13,10 @@ use crate::arguments::{
 use crate::found_arguments::{given, kind_in, path_in};
 use crate::jobs::{Call, Job, Task};
 use crate::options::{
-    ALL, ARCH, Argument, CODE, COMMAND, COMPLETE, DEPENDENTS, DIFF_KIND, FIRST, INDEX, KIND, LEAST,
-    LEFT, LIST, NEW, NULL, OLD, OPERATOR, PATH, PATHS, PROFILES, QUERIED, RECOMMENDS, RELATION,
-    RELATION_FILE, RELATION_TEXT, REVERSE, RIGHT, SECOND, SPELLED, UNMET_KIND, VALUES, VERSION,
-    VERSION_TEXT, VERSIONS, WHY,
+    A, ALL, ARCH, CODE, COMMAND, COMPLETE, DEPENDENTS, DIFF_KIND, FIRST, INDEX, INSTALLED, KIND,
+    LEAST, LEFT, LIST, NEW, NULL, OLD, OPERATOR, PATH, PATHS, PROFILES, QUERIED, RECOMMENDS,
+    RELATION, RELATION_FILE, RELATION_TEXT, REVERSE, RIGHT, SECOND, SPELLED, UNMET_KIND, VALUES,
+    VERSION, VERSIONS, VERSION_TEXT, WHY,
 };
 use clap::ArgMatches;
 use std::alloc::Global;
@@ -90,6 +90,7 @@ static COMMANDS: [Row; 14] = [
             PROFILES,
             WHY,
             SPELLED,
+            INSTALLED,
             RELATION_FILE,
             RELATION,
             QUERIED,
@@ -99,13 +100,13 @@ static COMMANDS: [Row; 14] = [
         name: "unmet",
         about: "Finds the dependencies of a whole file that no package of an index meets",
         takes: &[
-            ARCH, PROFILES, UNMET_KIND, RECOMMENDS, SPELLED, INDEX, DEPENDENTS,
+            ARCH, PROFILES, UNMET_KIND, RECOMMENDS, SPELLED, INSTALLED, INDEX, DEPENDENTS,
         ],
     },
     Row {
         name: "healthy",
         about: "Checks whether a set of packages is consistent",
-        takes: &[ARCH, RECOMMENDS, PATH],
+        takes: &[ARCH, RECOMMENDS, INSTALLED, PATH],
     },
     Row {
         name: "help",
