@@ -48,7 +48,7 @@ mod why_lines;
 pub use answer::{Answer, Answers, Found, FoundPackages};
 pub use fault::QueryFault;
 pub use index::Index;
-pub use keeper::Keeper;
+pub use keeper::{Keeper, NoKeeper};
 pub use members::Members;
 pub use package::Package;
 pub use pieces::{cut_group, next_alternative, only_alternative};
