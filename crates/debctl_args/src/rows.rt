@@ -485,10 +485,10 @@ Exit statuses:
      printed. Line 0 means an argument
   3  wrong arguments, out of memory, or a failed read or write
 
-The status file of dpkg also lists removed packages whose configuration files are
-left, and `query` counts them. To query installed packages only, use grep-status
-from the package dctrl-tools:
-  grep-status -F Status 'ok installed' | debctl query --arch amd64 bash
+With `--installed` the index is a status file of dpkg, of which only the installed
+packages are read: those whose Status has `installed` as the last of three words,
+and that have a version and an architecture. NUMBER counts these packages alone.
+  debctl query --arch amd64 --installed bash /var/lib/dpkg/status
 
 Example: is this build dependency met by this index?
   $ printf 'Package: gcc\\nVersion: 12.2\\nArchitecture: amd64\\n' > index
@@ -536,6 +536,9 @@ because of what its dependencies depend on or conflict with.
 
 Without PATH the file is INDEX, and nothing is printed before all of it has been read.
 
+With `--installed` INDEX is a status file of dpkg, of which only the installed packages
+are read; without PATH the lines are theirs, and NUMBER counts them alone.
+
 Exit statuses:
   0  nothing is printed: each group is met or ignored
   1  a group is unmet or unsure
@@ -575,6 +578,9 @@ architectures and of equal versions. A package for `all` counts as one for A.
 
 `unsure` is printed in place of `unmet` or `conflict` if the answer depends on how an
 architecture list with a wildcard is read: see `debctl help unmet`.
+
+With `--installed` the file is a status file of dpkg, and the set is its installed
+packages. Their numbers count them alone.
 
 Nothing is printed before the whole file has been read.
 
