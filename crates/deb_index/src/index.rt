@@ -355,10 +355,11 @@ fn keep_next<K: Keeper>(
         → (passing_judged paragraph.now).seen ≡ seen → K.Keeps keeper.old (seen_in members given)
         → OnOk result (K.Keeps keeper.new (seen_in members (given ++ seen ∷ []))) }
 {
-    if members.has(paragraph) {
-        store.push(builder, version_body(paragraph), paragraph.first_line())?;
-        keeper.keep(paragraph, &builder.texts)?;
+    if !members.has(paragraph) {
+        return Ok(());
     }
+    store.push(builder, version_body(paragraph), paragraph.first_line())?;
+    keeper.keep(paragraph, &builder.texts)?;
     Ok(())
 }
 
