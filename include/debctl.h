@@ -1,8 +1,9 @@
 /* Debian control data for programs in C and C++: versions, files of control data and their fields,
- * why they are refused, which packages of an index meet a relation, and which relations of a file
- * nothing meets. The functions of the library return what the program debctl prints; that, and the
- * sizes that two of them return, is proved. Only tested are the functions with a body in this header,
- * and that deb_index_free and deb_reader_free free all that was held.
+ * why they are refused, which packages of an index meet a relation, which relations of a file nothing
+ * meets, and whether a set of packages is consistent. The functions of the library return what the
+ * program debctl prints; that, and the sizes that two of them return, is proved. Only tested are the
+ * functions with a body in this header, and that deb_index_free and deb_reader_free free all that was
+ * held.
  *
  * Texts. A text is a pointer to bytes and their number; no NUL is needed after them. The bytes are
  * only read, and only during the call. A pointer may be NULL only if its length is 0. No function
@@ -45,7 +46,8 @@ extern "C" {
 enum deb_status {
     DEB_YES = 0,            /* done, or yes */
     DEB_NO = 1,             /* deb_same, deb_diff: the files differ; deb_query, deb_unmet: a group is
-                             * unmet; deb_index_package: there is no such package */
+                             * unmet; deb_healthy: the set isn't healthy; deb_index_package: there is
+                             * no such package */
     DEB_REFUSED = 2,        /* a text is refused, or the first of two */
     DEB_SECOND_REFUSED = 3, /* the first text is accepted, and the second is refused */
     DEB_NO_ROOM = 4,        /* the buffer is too small; its length is what it needs */
@@ -117,9 +119,9 @@ struct deb_answer {
     uint64_t line;  /* the line of the refusal in its file; 0 for a text that isn't a file */
     uint64_t count; /* the number of paragraphs of the file: for DEB_YES of deb_check, deb_check_all,
                      * deb_normalise, deb_explain, deb_explain_all and deb_fields, and for DEB_YES
-                     * and DEB_NO of deb_unmet; of the paragraphs that pass, for DEB_REFUSED of
-                     * deb_check_all and deb_explain_all; of the packages of an index, for DEB_YES of
-                     * deb_index_read */
+                     * and DEB_NO of deb_unmet and deb_healthy; of the paragraphs that pass, for
+                     * DEB_REFUSED of deb_check_all and deb_explain_all; of the packages of an index,
+                     * for DEB_YES of deb_index_read */
 };
 
 /* The answer of a comparison of two versions. */
@@ -352,6 +354,19 @@ struct deb_answer deb_unmet(uint8_t kind, uint8_t recommends,
                             const uint8_t *index, size_t index_length,
                             const uint8_t *text, size_t text_length,
                             uint8_t *out, size_t out_size, size_t *length);
+
+/* Writes why the packages of an index aren't consistent as a set, for a target architecture: a line
+ * for each group that no package of the set meets, or may not meet, for each package that a relation
+ * of another excludes, or may exclude, and for two of one name that can't be installed together.
+ * They are the lines that the program `debctl healthy` writes. Pre-Depends and Depends are asked, and
+ * Recommends too unless `recommends` is 0.
+ * DEB_YES: there is no line, the set is healthy; DEB_NO: there is one; both with the number of
+ * packages. DEB_REFUSED: the target (DEB_BAD_ENVIRONMENT) or the index, in this order; DEB_NO_ROOM;
+ * DEB_NO_MEMORY. */
+struct deb_answer deb_healthy(uint8_t recommends,
+                              const uint8_t *target, size_t target_length,
+                              const uint8_t *index, size_t index_length,
+                              uint8_t *out, size_t out_size, size_t *length);
 
 /* An index that is read once and asked often. It lies in memory of the caller, as many bytes as
  * deb_index_size returns, aligned as malloc aligns. deb_index_read fills that memory, whatever its

@@ -52,6 +52,16 @@ class UnmetReport(NamedTuple):
         return unmet_groups_of(self.text)
 
 
+class HealthReport(NamedTuple):
+    """The report on a set of packages, which is true if the set is healthy, and its text."""
+
+    healthy: bool
+    text: str
+
+    def __bool__(self) -> bool:
+        return self.healthy
+
+
 def check(text: Text, kind: Kind = "packages") -> int:
     """Returns the number of paragraphs of a file that is accepted as a document of this kind:
     `packages`, `binary`, `source`, `sources`, `status` or `any`.
@@ -196,3 +206,22 @@ def unmet_report(
     refused_as = _PACKAGES if answer.status == REFUSED else kind_of(kind)
     met = answered_file(answer, refused_as, index, file).status == YES
     return UnmetReport(met, lines.decode())
+
+
+def healthy(index: Text, arch: Text, *, recommends: bool = False) -> HealthReport:
+    """Finds why the packages of an index aren't consistent as a set, for this architecture: the
+    lines that the program `debctl healthy` writes. Pre-Depends and Depends are asked, with
+    `recommends` Recommends too.
+
+        >>> import debctl
+        >>> index = "Package: aa\nVersion: 1\nArchitecture: all\n"
+        >>> report = debctl.healthy(index + "Conflicts: bb\n\n" + index.replace("aa", "bb"), "amd64")
+        >>> print(bool(report), report.text, end="")
+        False conflict 1 aa 1 all Conflicts bb by 2 bb 1 all
+
+    Raises Refused if the architecture or the index is refused.
+    """
+    data, length = text_of(index)
+    call = functools.partial(lib.deb_healthy, bool(recommends), *text_of(arch), data, length)
+    answer, lines = written(length + _REPORT_ROOM, call)
+    return HealthReport(answered_file(answer, _PACKAGES, data).status == YES, lines.decode())

@@ -1,4 +1,5 @@
-//! Which packages meet a relation, and which relations of a file nothing meets.
+//! Which packages meet a relation, which relations of a file nothing meets, and whether a set of
+//! packages is healthy.
 
 use crate::library::{self, Answer, Text};
 use crate::refusals::answered_of;
@@ -91,6 +92,16 @@ pub struct UnmetGroup {
     pub group: String,
 }
 
+/// The report on a set of packages.
+#[derive(Clone, Debug, PartialEq, Eq, Hash)]
+#[non_exhaustive]
+pub struct HealthReport {
+    /// Whether the set is healthy: there is no line in the report.
+    pub healthy: bool,
+    /// The lines of the report.
+    pub text: String,
+}
+
 impl fmt::Display for Report {
     fn fmt(&self, out: &mut fmt::Formatter<'_>) -> fmt::Result {
         out.write_str(&self.text)
@@ -98,6 +109,12 @@ impl fmt::Display for Report {
 }
 
 impl fmt::Display for UnmetReport {
+    fn fmt(&self, out: &mut fmt::Formatter<'_>) -> fmt::Result {
+        out.write_str(&self.text)
+    }
+}
+
+impl fmt::Display for HealthReport {
     fn fmt(&self, out: &mut fmt::Formatter<'_>) -> fmt::Result {
         out.write_str(&self.text)
     }
@@ -259,4 +276,33 @@ pub fn unmet(
     let (answer, text) = written(file.len() + 4096, call);
     let answer = answered_of(answer, (Kind::Packages, index), (kind, file))?;
     Ok(unmet_report((answer, text)))
+}
+
+/// Finds why the packages of an index aren't consistent as a set, for a target architecture: the
+/// lines that the program `debctl healthy` writes. With `recommends` a package needs what it
+/// recommends, too.
+///
+/// ```
+/// let index = "Package: aa\nVersion: 1\nArchitecture: all\nConflicts: bb\n\n\
+///     Package: bb\nVersion: 2\nArchitecture: all\n";
+/// let report = debctl::healthy(false, "amd64", index)?;
+/// assert!(!report.healthy);
+/// assert_eq!(report.text, "conflict 1 aa 1 all Conflicts bb by 2 bb 2 all\n");
+/// # Ok::<(), debctl::Error>(())
+/// ```
+pub fn healthy(
+    recommends: bool,
+    target: impl AsRef<[u8]>,
+    index: impl AsRef<[u8]>,
+) -> Result<HealthReport, Error> {
+    let (target, index) = (target.as_ref(), index.as_ref());
+    let call = |out: &mut [u8], length: &mut usize| {
+        library::healthy(u8::from(recommends), (target, index), out, length)
+    };
+    let (answer, text) = written(index.len() + 4096, call);
+    let answer = answered_of(answer, (Kind::Packages, index), (Kind::Packages, index))?;
+    Ok(HealthReport {
+        healthy: answer.status == library::YES,
+        text: string(text),
+    })
 }

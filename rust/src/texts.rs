@@ -190,6 +190,7 @@ mod tests {
             12 => drop((loaded.packages("p1"), loaded.providers("p1"))),
             13 => drop((loaded.package(1)?, loaded.details(1)?)),
             14 => drop((key("1:2.0~rc1-3")?, canonical("1:2.0~rc1-3")?)),
+            15 => drop(healthy(true, "amd64", old)?),
             _ => drop(relations(relation)?),
         }
         Ok(())
@@ -199,7 +200,7 @@ mod tests {
     fn the_first_room_is_enough() -> Result<(), Error> {
         let (old, new) = (index("1"), index("2"));
         let loaded = Index::read(&old)?;
-        for asked in 0..=15 {
+        for asked in 0..=16 {
             let before = REPEATED.with(Cell::get);
             answer(asked, &old, &new, &loaded)?;
             assert_eq!(REPEATED.with(Cell::get), before, "call {asked}");

@@ -433,6 +433,10 @@ static void try_index(uint8_t kind, struct deb_text relation, struct deb_text te
     WRITE(one, 1, 1, deb_unmet(DEB_PACKAGES, chosen >> 7, ASK, text.bytes, text.length, text.bytes, text.length, out, room, length));
     if (one.answer.status <= DEB_NO)
         try_rows(DEB_UNMET_LINES, one, DEB_YES);
+    if (one.answer.status <= DEB_NO) {
+        WRITE(two, 2, 1, deb_healthy(chosen >> 7, target.bytes, target.length, text.bytes, text.length, out, room, length));
+        REQUIRE(two.answer.status <= DEB_NO && two.answer.count == one.answer.count && two.length >= (count ? 0 : one.length));
+    }
     for (uint64_t number = 0; number <= held + 1 && number < 8; number++) {
         WRITE(package, 3, 1, deb_index_package(index, number, out, room, length));
         WRITE(two, 2, 1, deb_index_details(index, number, out, room, length));

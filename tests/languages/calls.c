@@ -207,6 +207,9 @@ static void try_order(void) {
           0, 0, 0));
     IS(is(deb_unmet(DEB_SOURCE, 0, any, 3, NULL, 0, no, 1, no, 1, NULL, 0, &length), DEB_REFUSED,
           DEB_BAD_ENVIRONMENT, 0, 0));
+    IS(is(deb_healthy(0, any, 3, no, 1, NULL, 0, &length), DEB_REFUSED, DEB_BAD_ENVIRONMENT, 0, 0));
+    IS(is(deb_healthy(0, any, 2, no, 1, NULL, 0, &length), DEB_REFUSED, DEB_NO_COLON, 1, 0) &&
+       length == 0);
     IS(is(deb_explain(6, no, 1, NULL, 0, &length), DEB_NO_KIND, 0, 0, 0) && length == 0);
     IS(is(deb_explain(DEB_ANY, no, 1, NULL, 0, &length), DEB_NO_ROOM, 0, 0, 0));
     IS(is(deb_explain_all(6, no, 1, NULL, 0, &length), DEB_NO_KIND, 0, 0, 0) && length == 0);

@@ -131,12 +131,12 @@ values =
     ∷ (
       codes "Breaks",
       RelationMeans ((with_list (codes "dd") false (codes "linux-any") ∷ [])
-      ∷ (with_list (codes "dd") false (codes "i386") ∷ []) ∷ []),
+          ∷ (with_list (codes "dd") false (codes "i386") ∷ []) ∷ []),
     )
     ∷ (
       codes "Conflicts",
       RelationMeans ((alone (codes "bb") ∷ []) ∷ (alone (codes "cc") ∷ [])
-      ∷ (with_qualifier (codes "dd") (codes "amd64") ∷ []) ∷ (alone (codes "vv") ∷ []) ∷ []),
+          ∷ (with_qualifier (codes "dd") (codes "amd64") ∷ []) ∷ (alone (codes "vv") ∷ []) ∷ []),
     )
     ∷ (codes "Depends", RelationMeans ((alone (codes "ee") ∷ []) ∷ []))
     ∷ (codes "Package", NameMeans (codes "bb"))

@@ -121,7 +121,14 @@ fn append_excluded(
         (packages_of negative.now.index.now))) }
 {
     for &number in numbers {
-        append_if_other(out, negative, group, applies, alternative.qualifier(), number)?;
+        append_if_other(
+            out,
+            negative,
+            group,
+            applies,
+            alternative.qualifier(),
+            number,
+        )?;
     }
     Ok(())
 }
@@ -159,8 +166,7 @@ fn is_other(negative: &Negative<'_>, qualifier: Option<&[u8]>, other: &Package<'
         negative.now.paragraph.now.texts.now.name.now (option_copied qualifier.entry)
         (listed_of other.now) }
 {
-    other.name() != negative.paragraph.texts.name
-        && is_spoken_of(negative.target, qualifier, other)
+    other.name() != negative.paragraph.texts.name && is_spoken_of(negative.target, qualifier, other)
 }
 
 /// Appends what a line of an alternative of a group begins with.

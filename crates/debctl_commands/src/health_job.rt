@@ -19,6 +19,7 @@ use deb_base::{Fault, Sink, Source};
 use deb_health::healthy;
 use deb_index::Members;
 use deb_relation::Env;
+use deb_unmet::Summary;
 use debctl_args::Strength;
 use std::alloc::Global;
 
@@ -84,6 +85,14 @@ fn run_in_environment<R: Source, W: Sink, E: Sink>(
 {
     let strength = fields_tried(set.strength);
     let answer = healthy(alloc, environment, set.members, strength, first, out);
+    report_health(answer, err)
+}
+
+/// Reports the answer of the set, and returns the status.
+fn report_health<E: Sink>(answer: Result<Summary, Fault>, err: &mut E) -> u8
+    ensures { ReportsBy health_report (λ fault. fault) fault_line E.held E.failures err.old err.new
+        answer result }
+{
     match answer {
         Ok(summary) => { if summary.is_empty { 0 } else { 1 } }
         Err(fault) => report_fault(&fault, err),
