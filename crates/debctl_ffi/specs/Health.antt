@@ -4,6 +4,7 @@ use Rattle.std.specs.Prelude.{◌≡◌, ◌⊎◌, ℕ, Bool, true, false, IsTr
 use Rattle.std.specs.Fmt.{digits}
 use Rattle.deb_base.specs.declared.doc.Doc.TheVariants.{Packages}
 use Rattle.deb_relation.specs.Applying.{Environment}
+use Rattle.deb_relation.specs.Environments.{environment_with}
 use Rattle.deb_relation.specs.Targets.{is_environment}
 use Rattle.deb_control.specs.Documents.{Accepted, Meaning}
 use Rattle.deb_index.specs.Listed.{Listed}
@@ -30,6 +31,9 @@ strengths = refl
 -- what is asked of the packages of an index
 abbrev pub asks_set : Strength → Environment → OwnAsks
 asks_set strength environment = asks_healthy members.All strength environment
+
+asked_of_sets : (asks_set Depends (environment_with (codes "amd64") [])).members ≡ members.All
+asked_of_sets = refl
 
 -- The index is accepted, these are the lines of its packages over the packages that it lists, and
 -- the summary says how many there are and whether there is no line.
