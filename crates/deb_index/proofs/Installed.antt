@@ -1,11 +1,12 @@
 -- A member is the same by its values and by its fields, and passes as a paragraph of an index of packages.
-use Rattle.std.proofs.Common.{◌≡◌, ℕ, ◌≤◌, ◌&&◌, true, List, length, Option, None, Some, Ok, codes, refl, sym, ap, subst, ◌∙◌}
+use Rattle.std.proofs.Common.{◌≡◌, ℕ, ◌≤◌, ◌&&◌, ◌||◌, Bool, true, false, cond, is_some, List, [], ◌∷◌, length, Option, None, Some, Ok, codes, refl, sym, ap, subst, ◌∙◌}
 use Rattle.std.specs.FinMap.{find}
-use Rattle.std.specs.List.{AllByRecursion}
+use Rattle.std.specs.List.{AllByRecursion, list_all}
+use Rattle.std.specs.Str.{bytes_eq}
 use Rattle.std.specs.Prelude.{is_ok}
 use Rattle.deb_base.specs.Bodies.{paragraph_limit}
 use Rattle.deb_base.specs.Kinds.{kind_at, kind_of, known_row, required}
-use Rattle.deb_base.specs.Names.{canonical_name}
+use Rattle.deb_base.specs.Names.{folded}
 use Rattle.deb_base.specs.declared.doc.Doc.{Doc}
 use Rattle.deb_base.specs.declared.doc.Doc.TheVariants.{Packages, Status}
 use Rattle.deb_syntax.specs.Answers.{Seen}
@@ -30,9 +31,9 @@ use Rattle.deb_control.proofs.FieldValues.{canonical-from_values, has_values-hav
 use Rattle.deb_control.proofs.Passing.{built-from_parts, built-parts}
 use Rattle.deb_control.proofs.PassingParagraphs.{field-body, none-passing, value-passing, values-passing}
 use Rattle.deb_control.proofs.ValueBodies.{one_paragraph}
-use Rattle.deb_index.specs.Installed.{is_installed, is_member, is_member_by, member_fields, text_of}
+use Rattle.deb_index.specs.Installed.{has_member_fields, is_installed, is_member, is_member_by, member_fields, text_of}
 use Rattle.deb_index.specs.Listing.{value_under}
-use Rattle.deb_index.specs.Members.{doc_of, has_fields, has_seen, has_values as has_member_values}
+use Rattle.deb_index.specs.Members.{doc_of, has_seen, has_values as has_member_values}
 use Rattle.deb_index.specs.PackageBuilder.{KeepsVisited}
 use Rattle.deb_index.specs.VersionSpellings.{body_or_nothing}
 use Rattle.deb_index.specs.declared.members.Members.{Members}
@@ -57,6 +58,21 @@ text-spelled : (body : List ℕ) → SpellsValue Status (codes "Status") body (T
 unfolding kind_of kind_at known_row
 text-spelled body = (body, refl, (refl, refl))
 
+-- a name is among fields exactly if there is a field of the name
+has_named : (name : List ℕ) (fields : List Field) → is_some (field_named name fields) ≡ has_name name fields
+has_named name [] = refl
+has_named name (field ∷ fields) = go (bytes_eq (folded field.name) (folded name)) (has_named name fields)
+  where
+    go : (t : Bool) → is_some (field_named name fields) ≡ has_name name fields → is_some (cond t (Some field) (field_named name fields)) ≡ (t || has_name name fields)
+    go true h = refl
+    go false h = h
+
+have_named : (fields : List Field) (names : List (List ℕ)) → list_all (λ name. is_some (field_named name fields)) names ≡ have_names fields names
+have_named fields [] = refl
+have_named fields (name ∷ names) =
+    ap (λ t. t && list_all (λ name. is_some (field_named name fields)) names) (has_named name fields)
+    ∙ ap (λ t. has_name name fields && t) (have_named fields names)
+
 module _ (seen : Seen) (fields : are_fields seen.fields ≡ true) (values : ValueEntries ValueMeaning) (are : AreValuesOf Status seen values) where
   distinct : AreDistinct seen.fields
   distinct = distinct-from seen.fields fields
@@ -78,8 +94,8 @@ module _ (seen : Seen) (fields : are_fields seen.fields ≡ true) (values : Valu
           let spells = subst (λ n. SpellsValue Status n field.body (TextMeans field.body)) (sym named) (text-spelled field.body) in
           ap text_of (under (Some (TextMeans field.body)) (value-passing Status seen passes fields (codes "Status") field (TextMeans field.body) is spells))
 
-  named_is : has_values member_fields values ≡ have_names seen.fields member_fields
-  named_is = has_values-have_names (SpellsValue Status) seen.fields values distinct are.spelled member_fields
+  named_is : has_values member_fields values ≡ has_member_fields seen.fields
+  named_is = has_values-have_names (SpellsValue Status) seen.fields values distinct are.spelled member_fields ∙ sym (have_named seen.fields member_fields)
 
   pub same_member : is_member values ≡ is_member_by seen.fields
   same_member =
@@ -87,16 +103,17 @@ module _ (seen : Seen) (fields : are_fields seen.fields ≡ true) (values : Valu
       ∙ ap (λ t. is_installed (body_or_nothing (field_named (codes "Status") seen.fields)) && t) named_is
 
   -- with a version and an architecture nothing is missing
-  pub passes_too : have_names seen.fields member_fields ≡ true → AreValuesOf Packages seen values
-  passes_too named =
+  pub passes_too : has_member_fields seen.fields ≡ true → AreValuesOf Packages seen values
+  passes_too there =
+      let named = sym (have_named seen.fields member_fields) ∙ there in
       let parts = built-parts (rules_of Status) seen _ (value_refusal_of (rules_of Status) seen.fields) refl are.passes in
       let spelled = same_spelled (entries_of seen.fields) values are.spelled in
       let good = none-from_values ValueMeaning (SpellsValue Packages) value_text (value_law Packages) (rules_of Packages) (document_rules Packages) seen.fields values distinct spelled in
       let here = canonical-from_values ValueMeaning (SpellsValue Packages) value_text (value_law Packages) (rules_of Packages) (document_rules Packages) seen.fields values distinct spelled in
       let there = canonical-from_values ValueMeaning (SpellsValue Status) value_text (value_law Status) (rules_of Status) (document_rules Status) seen.fields values distinct are.spelled in
       let short = subst (λ e. length (paragraph_text e) ≤ paragraph_limit) (there ∙ sym here) parts.short in
-      let package : has_name (codes "Package") seen.fields ≡ true = (and-parts _ _ parts.named).0 in
-      let all : have_names seen.fields (required Packages) ≡ true = ap (λ t. t && have_names seen.fields member_fields) package ∙ named in
+      let of_package : has_name (codes "Package") seen.fields ≡ true = (and-parts _ _ parts.named).0 in
+      let all : have_names seen.fields (required Packages) ≡ true = ap (λ t. t && have_names seen.fields member_fields) of_package ∙ named in
       record { spelled = spelled; passes = built-from_parts (rules_of Packages) seen good all short ∙ ap Ok here }
 
 -- the same of the members of either kind of file

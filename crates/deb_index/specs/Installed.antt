@@ -1,8 +1,8 @@
 -- Which paragraphs of a status file are of installed packages, and which packages these are.
 -- dpkg(1) (want, error flag and status); Debian Policy 5.1, 5.6.8 and 5.6.12. That a package without
 -- a version or an architecture isn't one of them is this project's own.
-use Rattle.std.specs.Prelude.{◌≡◌, ℕ, ◌&&◌, Bool, true, false, List, [], ◌∷◌, ◌++◌, map, Option, None, Some, Result, Ok, Err, codes, refl}
-use Rattle.std.specs.List.{filter}
+use Rattle.std.specs.Prelude.{◌≡◌, ℕ, ◌&&◌, Bool, true, false, List, [], ◌∷◌, ◌++◌, is_some, map, Option, None, Some, Result, Ok, Err, codes, refl}
+use Rattle.std.specs.List.{filter, list_all}
 use Rattle.std.specs.Option.{option_map_or}
 use Rattle.std.specs.Str.{bytes_eq, is_utf8, chars}
 use lib.Utf8.{encode}
@@ -22,7 +22,6 @@ use Rattle.deb_control.specs.Documents.{Meaning, Accepted}
 use Rattle.deb_control.specs.GivenParagraphs.{AreNext}
 use Rattle.deb_control.specs.Pairs.{Pairwise}
 use Rattle.deb_control.specs.Paragraphs.{AreValuesOf}
-use Rattle.deb_control.specs.Refusals.{have_names}
 use Rattle.deb_control.specs.ValueFiles.{ValueEntries}
 use Rattle.deb_base.specs.declared.doc.Doc.TheVariants.{Packages}
 use Rattle.deb_index.specs.FirstLines.{first_line}
@@ -66,10 +65,13 @@ is_member values =
     is_installed (text_of (value_under (codes "Status") values)) && has_values member_fields values
 
 -- the same by the fields, whose texts are their values
+abbrev pub has_member_fields : List Field → Bool
+has_member_fields fields = list_all (λ name. is_some (field_named name fields)) member_fields
+
 abbrev pub is_member_by : List Field → Bool
 is_member_by fields =
     is_installed (body_or_nothing (field_named (codes "Status") fields))
-    && have_names fields member_fields
+    && has_member_fields fields
 
 abbrev pub is_seen_member : Seen → Bool
 is_seen_member seen = is_member_by seen.fields

@@ -1,11 +1,9 @@
 //! Which paragraphs of a file are packages of an index.
 
-ghost use Rattle.std.specs.Prelude.{◌≡◌, codes};
+ghost use Rattle.std.specs.Prelude.{◌≡◌, codes, is_some};
 ghost use Rattle.deb_control.specs.CheckedStates.{passing_judged};
-ghost use Rattle.deb_control.specs.Refusals.{have_names};
-ghost use Rattle.deb_syntax.specs.Fields.{has_name};
 ghost use Rattle.deb_syntax.specs.Raw.{field_named};
-ghost use Rattle.deb_index.specs.Installed.{is_installed, is_member_by, member_fields};
+ghost use Rattle.deb_index.specs.Installed.{has_member_fields, is_installed, is_member_by};
 ghost use Rattle.deb_index.specs.Members.{doc_of, has_seen};
 ghost use Rattle.deb_index.specs.VersionSpellings.{body_or_nothing};
 
@@ -53,16 +51,20 @@ fn is_member(paragraph: &CheckedView<'_>) -> bool
 
 /// Returns whether a paragraph has a version and an architecture.
 fn has_member_fields(paragraph: &CheckedView<'_>) -> bool
-    ensures { result ≡ have_names (passing_judged paragraph.now).seen.fields member_fields }
+    ensures { result ≡ has_member_fields (passing_judged paragraph.now).seen.fields }
 {
     has_field(paragraph, b"Version") && has_field(paragraph, b"Architecture")
 }
 
 /// Returns whether a paragraph has a field with this name, without ASCII case.
 fn has_field(paragraph: &CheckedView<'_>, name: &[u8]) -> bool
-    ensures { result ≡ has_name name.now (passing_judged paragraph.now).seen.fields }
+    ensures { result
+        ≡ is_some (field_named name.now (passing_judged paragraph.now).seen.fields) }
 {
-    paragraph.get(name).is_some()
+    match paragraph.get(name) {
+        Some(_) => true,
+        None => false,
+    }
 }
 
 /// The body of Status as the file has it; empty if there is no such field.

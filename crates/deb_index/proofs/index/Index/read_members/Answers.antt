@@ -14,7 +14,7 @@ use Rattle.deb_index.proofs.index.Index.read_members.Goals as goal
 pub loop-count-init : goal.loop-count-init
 loop-count-init g c =
     let s = c.new-store.result in
-    shows-none (ReadGiven c.args.members g.K.Keeper.Keeps _ _ s) (record { keeps_given = none_kept c.args.members s c.new-store.ensures.entries c.new-store.ensures.records; keeps = λ none. none }) (c.new-checked.ensures.doc ∙ c.doc.ensures) c.new-checked.ensures.sound c.new-checked.ensures.none (subst (λ d. ?) c.doc.ensures c.new-checked.ensures.fits)
+    shows-none (ReadGiven c.args.members g.K.Keeper.Keeps _ _ s) (record { keeps_given = none_kept c.args.members s c.new-store.ensures.entries c.new-store.ensures.records; keeps = λ none. none }) (c.new-checked.ensures.doc ∙ c.doc.ensures) c.new-checked.ensures.sound c.new-checked.ensures.none (rw c.doc.ensures at c.new-checked.ensures.fits)
 
 pub returns-in_err-advance-clause-refused : goal.returns-in_err-advance-clause-refused
 returns-in_err-advance-clause-refused g c =
