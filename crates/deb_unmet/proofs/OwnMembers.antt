@@ -62,26 +62,32 @@ all_both (seen ∷ given) (v ∷ meaning) are = (refl, all_both given meaning ar
 -- those of which something is kept
 pub kept_members : (members : Members) {Kept : Type 0} (Holds : List Field → ValueEntries ValueMeaning → Kept → Type 0) (kept : List Kept) (text : List ℕ) → KeepsMembers members (AreKept Holds kept) text → (own : List Seen) × AreKept Holds kept own × AreMembers members text own
 kept_members All Holds kept text keeps =
-    let values = kept_values Holds keeps.given kept keeps.keeps in
-    (keeps.given, keeps.keeps, record {
-      given = keeps.given;
-      next = keeps.next;
-      meaning = values.0;
-      accepted = keeps.accepted values.0 values.1;
-      same = all_both keeps.given values.0 values.1;
-      are_own = filter-all (has_seen All) (λ seen. refl) keeps.given;
-      passing = subst (Packaged keeps.given) (sym (filter-all (has_values All) (λ values. refl) values.0)) values.1;
-    })
-kept_members Installed Holds kept text keeps =
-    (filter is_seen_member keeps.given, keeps.keeps, record {
-      given = keeps.given;
-      next = keeps.next;
-      meaning = keeps.meaning;
-      accepted = keeps.accepted;
-      same = keeps.same;
-      are_own = refl;
-      passing = keeps.members;
-    })
+    let values = kept_values Holds keeps.given kept keeps.keeps in (
+      keeps.given,
+      keeps.keeps,
+      record {
+        given = keeps.given;
+        next = keeps.next;
+        meaning = values.0;
+        accepted = keeps.accepted values.0 values.1;
+        same = all_both keeps.given values.0 values.1;
+        are_own = filter-all (has_seen All) (λ seen. refl) keeps.given;
+        passing = subst (Packaged keeps.given) (sym (filter-all (has_values All) (λ values. refl) values.0)) values.1;
+      },
+    )
+kept_members Installed Holds kept text keeps = (
+  filter is_seen_member keeps.given,
+  keeps.keeps,
+  record {
+    given = keeps.given;
+    next = keeps.next;
+    meaning = keeps.meaning;
+    accepted = keeps.accepted;
+    same = keeps.same;
+    are_own = refl;
+    passing = keeps.members;
+  },
+)
 
 module _ (members : Members) where
   -- the lines of the members of a file are those of the members that were given

@@ -120,7 +120,9 @@ fn kind_of_file(job: &Job, about: About) -> Option<Doc> {
             DiffKind::Source => Doc::Source,
             DiffKind::Status => Doc::Status,
         }),
-        Job::Query { members, .. } | Job::QueryFrom { members, .. } => Some(kind_of_index(*members)),
+        Job::Query { members, .. } | Job::QueryFrom { members, .. } => Some(kind_of_index(
+            *members,
+        )),
         Job::Unmet {
             members,
             dependents,
