@@ -28,10 +28,10 @@ returns c = λ fields values holds.
     let second = c.in_ok-append_negatives.ensures fields values texts holds refl in
     on_ok
     (λ third.
-        third
-        ∙ ap (λ o. o ++ repeats h) (second ∙ ap (λ o. o ++ excludes h) first)
-        ∙ append_assoc (out ++ needs v) (excludes h) (repeats h)
-        ∙ append_assoc out (needs v) (excludes h ++ repeats h)
-        ∙ ap (λ x. out ++ (needs v ++ (excludes x ++ repeats x))) (heading-of_texts p values texts)
-        ∙ ap (λ x. out ++ (needs x ++ (excludes (heading (Packages strength) number x values) ++ repeats (heading (Packages strength) number x values)))) (c.line_texts.ensures.version fields values holds.unmet))
+    third
+    ∙ ap (λ o. o ++ repeats h) (second ∙ ap (λ o. o ++ excludes h) first)
+    ∙ append_assoc (out ++ needs v) (excludes h) (repeats h)
+    ∙ append_assoc out (needs v) (excludes h ++ repeats h)
+    ∙ ap (λ x. out ++ (needs v ++ (excludes x ++ repeats x))) (heading-of_texts p values texts)
+    ∙ ap (λ x. out ++ (needs x ++ (excludes (heading (Packages strength) number x values) ++ repeats (heading (Packages strength) number x values)))) (c.line_texts.ensures.version fields values holds.unmet))
     c.append_duplicates.result c.append_duplicates.ensures

@@ -12,7 +12,7 @@ returns-in-Ok-true-default-clause-answers c = inl (record {
   found = inl (
     c.yes.ensures,
     λ text holds. rw (c.in-Ok-true-default.field-0-0-test, sym c.deref.ensures.value) at (
-      c.in-Ok-true-default.ensures.ok text
+        c.in-Ok-true-default.ensures.ok text
         (lists_held text c.args.self.now c.in-Some.index c.in-Some.is holds)),
   );
   replies = c.reply.ensures;
@@ -24,9 +24,11 @@ returns-in-Ok-false-default-clause-answers c = inl (record {
   items = c.deref-in-Ok-false-default.result.now;
   found = inr (
     c.no.ensures,
-    λ text holds. rw (c.in-Ok-false-default.field-0-0-test,
-        sym c.deref-in-Ok-false-default.ensures.value) at (
-      c.in-Ok-false-default.ensures.ok text
+    λ text holds. rw (
+      c.in-Ok-false-default.field-0-0-test,
+      sym c.deref-in-Ok-false-default.ensures.value,
+    ) at (
+        c.in-Ok-false-default.ensures.ok text
         (lists_held text c.args.self.now c.in-Some.index c.in-Some.is holds)),
   );
   replies = c.reply-in-Ok-false-default.ensures;
