@@ -41,24 +41,25 @@ complete -c debctl -n __debctl_at -a version-key -d 'Prints keys whose byte orde
 complete -c debctl -n __debctl_at -a sort -d 'Sorts the lines of a file, each a version, in Debian'"'"'s order'
 complete -c debctl -n __debctl_at -a query -d 'Finds the packages of an index that meet a relation'
 complete -c debctl -n __debctl_at -a unmet -d 'Finds the dependencies of a whole file that no package of an index meets'
+complete -c debctl -n __debctl_at -a healthy -d 'Checks whether a set of packages is consistent'
 complete -c debctl -n __debctl_at -a help -d 'Prints the help of the program or of a command'
 complete -c debctl -n __debctl_at -s h -l help -d 'Print help'
 complete -c debctl -n __debctl_at -s V -l version -d 'Print version'
 complete -c debctl -n '__debctl_at check 0' -F
-complete -c debctl -n '__debctl_at check' -s k -l kind -x -a 'binary packages source sources any' -d 'The kind of file'
+complete -c debctl -n '__debctl_at check' -s k -l kind -x -a 'binary packages source sources status any' -d 'The kind of file'
 complete -c debctl -n '__debctl_at check' -s a -l all -d 'Report every error, not only the first one'
 complete -c debctl -n '__debctl_at check' -l complete -d 'Refuse a file that doesn'"'"'t end with a newline'
 complete -c debctl -n '__debctl_at check' -l least -x -d 'Refuse a file of fewer than N paragraphs'
 complete -c debctl -n '__debctl_at check' -s h -l help -d 'Print help'
 complete -c debctl -n '__debctl_at explain 0' -F
-complete -c debctl -n '__debctl_at explain' -s k -l kind -x -a 'binary packages source sources any' -d 'The kind of file'
+complete -c debctl -n '__debctl_at explain' -s k -l kind -x -a 'binary packages source sources status any' -d 'The kind of file'
 complete -c debctl -n '__debctl_at explain' -s a -l all -d 'Report every error, not only the first one'
 complete -c debctl -n '__debctl_at explain' -l code -x -d 'Explain an error code, from 1 to 23 or by its name, instead of a file'
 complete -c debctl -n '__debctl_at explain' -l relation -x -d 'Explain a relation instead of a file'
 complete -c debctl -n '__debctl_at explain' -l version-text -x -d 'Explain a version instead of a file'
 complete -c debctl -n '__debctl_at explain' -s h -l help -d 'Print help'
 complete -c debctl -n '__debctl_at audit' -F
-complete -c debctl -n '__debctl_at audit' -s k -l kind -x -a 'binary packages source sources any' -d 'The kind of file'
+complete -c debctl -n '__debctl_at audit' -s k -l kind -x -a 'binary packages source sources status any' -d 'The kind of file'
 complete -c debctl -n '__debctl_at audit' -s a -l all -d 'Report every error, not only the first one'
 complete -c debctl -n '__debctl_at audit' -l complete -d 'Refuse a file that doesn'"'"'t end with a newline'
 complete -c debctl -n '__debctl_at audit' -l least -x -d 'Refuse a file of fewer than N paragraphs'
@@ -66,15 +67,15 @@ complete -c debctl -n '__debctl_at audit' -l files0-from -r -F -d 'A file that l
 complete -c debctl -n '__debctl_at audit' -s 0 -l null -d 'End each line with a byte 0, and print paths unchanged'
 complete -c debctl -n '__debctl_at audit' -s h -l help -d 'Print help'
 complete -c debctl -n '__debctl_at normalise 0' -F
-complete -c debctl -n '__debctl_at normalise' -s k -l kind -x -a 'binary packages source sources any' -d 'The kind of file'
+complete -c debctl -n '__debctl_at normalise' -s k -l kind -x -a 'binary packages source sources status any' -d 'The kind of file'
 complete -c debctl -n '__debctl_at normalise' -s h -l help -d 'Print help'
 complete -c debctl -n '__debctl_at same 0' -F
 complete -c debctl -n '__debctl_at same 1' -F
-complete -c debctl -n '__debctl_at same' -s k -l kind -x -a 'binary packages source sources any' -d 'The kind of file'
+complete -c debctl -n '__debctl_at same' -s k -l kind -x -a 'binary packages source sources status any' -d 'The kind of file'
 complete -c debctl -n '__debctl_at same' -s h -l help -d 'Print help'
 complete -c debctl -n '__debctl_at diff 0' -F
 complete -c debctl -n '__debctl_at diff 1' -F
-complete -c debctl -n '__debctl_at diff' -s k -l kind -x -a 'binary packages source sources' -d 'The kind of both files'
+complete -c debctl -n '__debctl_at diff' -s k -l kind -x -a 'binary packages source sources status' -d 'The kind of both files'
 complete -c debctl -n '__debctl_at diff' -l values -d 'Print the lines of the fields that differ'
 complete -c debctl -n '__debctl_at diff' -l spelled -d 'Print each version as its file spells it'
 complete -c debctl -n '__debctl_at diff' -s h -l help -d 'Print help'
@@ -100,5 +101,9 @@ complete -c debctl -n '__debctl_at unmet' -s k -l kind -x -a 'binary packages so
 complete -c debctl -n '__debctl_at unmet' -l recommends -d 'Try the groups of Recommends too'
 complete -c debctl -n '__debctl_at unmet' -l spelled -d 'Print each version as its file spells it'
 complete -c debctl -n '__debctl_at unmet' -s h -l help -d 'Print help'
-complete -c debctl -n '__debctl_at help 0' -a 'check explain audit normalise same diff compare canon-version version-key sort query unmet help kinds'
+complete -c debctl -n '__debctl_at healthy 0' -F
+complete -c debctl -n '__debctl_at healthy' -l arch -x -a '(dpkg-architecture -L 2>/dev/null)' -d 'The target architecture, such as amd64'
+complete -c debctl -n '__debctl_at healthy' -l recommends -d 'Try the groups of Recommends too'
+complete -c debctl -n '__debctl_at healthy' -s h -l help -d 'Print help'
+complete -c debctl -n '__debctl_at help 0' -a 'check explain audit normalise same diff compare canon-version version-key sort query unmet healthy help kinds'
 complete -c debctl -n '__debctl_at help' -s h -l help -d 'Print help'

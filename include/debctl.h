@@ -1,8 +1,9 @@
 /* Debian control data for programs in C and C++: versions, files of control data and their fields,
- * why they are refused, which packages of an index meet a relation, and which relations of a file
- * nothing meets. The functions of the library return what the program debctl prints; that, and the
- * sizes that two of them return, is proved. Only tested are the functions with a body in this header,
- * and that deb_index_free and deb_reader_free free all that was held.
+ * why they are refused, which packages of an index meet a relation, which relations of a file nothing
+ * meets, and whether a set of packages is consistent. The functions of the library return what the
+ * program debctl prints; that, and the sizes that two of them return, is proved. Only tested are the
+ * functions with a body in this header, and that deb_index_free and deb_reader_free free all that was
+ * held.
  *
  * Texts. A text is a pointer to bytes and their number; no NUL is needed after them. The bytes are
  * only read, and only during the call. A pointer may be NULL only if its length is 0. No function
@@ -45,7 +46,8 @@ extern "C" {
 enum deb_status {
     DEB_YES = 0,            /* done, or yes */
     DEB_NO = 1,             /* deb_same, deb_diff: the files differ; deb_query, deb_unmet: a group is
-                             * unmet; deb_index_package: there is no such package */
+                             * unmet; deb_healthy: the set isn't healthy; deb_index_package: there is
+                             * no such package */
     DEB_REFUSED = 2,        /* a text is refused, or the first of two */
     DEB_SECOND_REFUSED = 3, /* the first text is accepted, and the second is refused */
     DEB_NO_ROOM = 4,        /* the buffer is too small; its length is what it needs */
@@ -60,7 +62,8 @@ enum deb_kind {
     DEB_PACKAGES = 1, /* an index of binary packages: any number of paragraphs */
     DEB_SOURCE = 2,   /* the description of a source package: one paragraph */
     DEB_SOURCES = 3,  /* an index of source packages: any number of paragraphs */
-    DEB_ANY = 4       /* any control data; its values aren't checked */
+    DEB_ANY = 4,      /* any control data; its values aren't checked */
+    DEB_STATUS = 5    /* the status file of dpkg: any number of paragraphs */
 };
 
 /* Why a text is refused. */
@@ -116,9 +119,9 @@ struct deb_answer {
     uint64_t line;  /* the line of the refusal in its file; 0 for a text that isn't a file */
     uint64_t count; /* the number of paragraphs of the file: for DEB_YES of deb_check, deb_check_all,
                      * deb_normalise, deb_explain, deb_explain_all and deb_fields, and for DEB_YES
-                     * and DEB_NO of deb_unmet; of the paragraphs that pass, for DEB_REFUSED of
-                     * deb_check_all and deb_explain_all; of the packages of an index, for DEB_YES of
-                     * deb_index_read */
+                     * and DEB_NO of deb_unmet and deb_healthy; of the paragraphs that pass, for
+                     * DEB_REFUSED of deb_check_all and deb_explain_all; of the packages of an index,
+                     * for DEB_YES of deb_index_read */
 };
 
 /* The answer of a comparison of two versions. */
@@ -305,8 +308,8 @@ enum deb_detail {
 
 /* Writes what changed in meaning between two files of a kind, an old one and a new one: the lines
  * that the program `debctl diff` writes. There is a line for each paragraph that was removed, added,
- * changed, or upgraded or downgraded to another version. `kind` is DEB_PACKAGES, DEB_BINARY, DEB_SOURCES or
- * DEB_SOURCE, and `detail` one of deb_detail.
+ * changed, or upgraded or downgraded to another version. `kind` is one of deb_kind, but not DEB_ANY,
+ * and `detail` one of deb_detail.
  * DEB_YES: there is no line, the files have the same paragraphs in some order; DEB_NO: there is one.
  * DEB_REFUSED: the old file is refused; DEB_SECOND_REFUSED: the old one is accepted and the new one
  * is refused; DEB_NO_ROOM; DEB_NO_MEMORY; DEB_NO_KIND: no such kind, or no such detail. */
@@ -351,6 +354,19 @@ struct deb_answer deb_unmet(uint8_t kind, uint8_t recommends,
                             const uint8_t *index, size_t index_length,
                             const uint8_t *text, size_t text_length,
                             uint8_t *out, size_t out_size, size_t *length);
+
+/* Writes why the packages of an index aren't consistent as a set, for a target architecture: a line
+ * for each group that no package of the set meets, or may not meet, for each package that a relation
+ * of another excludes, or may exclude, and for two of one name that can't be installed together.
+ * They are the lines that the program `debctl healthy` writes. Pre-Depends and Depends are asked, and
+ * Recommends too unless `recommends` is 0.
+ * DEB_YES: there is no line, the set is healthy; DEB_NO: there is one; both with the number of
+ * packages. DEB_REFUSED: the target (DEB_BAD_ENVIRONMENT) or the index, in this order; DEB_NO_ROOM;
+ * DEB_NO_MEMORY. */
+struct deb_answer deb_healthy(uint8_t recommends,
+                              const uint8_t *target, size_t target_length,
+                              const uint8_t *index, size_t index_length,
+                              uint8_t *out, size_t out_size, size_t *length);
 
 /* An index that is read once and asked often. It lies in memory of the caller, as many bytes as
  * deb_index_size returns, aligned as malloc aligns. deb_index_read fills that memory, whatever its
@@ -465,7 +481,8 @@ enum deb_form {
     DEB_REPORT = 0,      /* deb_query, deb_index_query, and both with _why */
     DEB_UNMET_LINES = 1, /* deb_unmet, deb_index_unmet */
     DEB_DIFF_LINES = 2,  /* deb_diff */
-    DEB_EXPLANATION = 3  /* deb_explain, deb_explain_all, deb_explain_relation, deb_explain_version */
+    DEB_EXPLANATION = 3, /* deb_explain, deb_explain_all, deb_explain_relation, deb_explain_version */
+    DEB_HEALTH_LINES = 4 /* deb_healthy */
 };
 
 /* What a line of a text says, and its cells. */
@@ -489,14 +506,20 @@ enum deb_row_kind {
     DEB_ROW_OK = 16,            /* the number in `ok N` */
     DEB_ROW_SUMMARY = 17,       /* the numbers in `ok N, M refused` */
     DEB_ROW_VALID = 18,         /* no cell: the line `ok` of deb_explain_relation or _version */
-    DEB_ROW_DOWNGRADED = 19     /* as DEB_ROW_UPGRADED, with an earlier new version */
+    DEB_ROW_DOWNGRADED = 19,    /* as DEB_ROW_UPGRADED, with an earlier new version */
+    DEB_ROW_UNMET_NEED = 20,    /* number, package, version, architecture, field, group */
+    DEB_ROW_UNSURE_NEED = 21,   /* the same */
+    DEB_ROW_CONFLICT = 22,      /* the same; number, name, version, architecture of the excluded one */
+    DEB_ROW_UNSURE_CONFLICT = 23, /* the same */
+    DEB_ROW_DUPLICATE = 24      /* number, package, version, architecture; number, version,
+                                 * architecture of the later one */
 };
 
 /* A line of a text. `fields` is one cell, with a space between two names. */
 struct deb_row {
     uint8_t kind;              /* one of deb_row_kind */
     uint8_t cell_count;        /* how many cells the kind has */
-    struct deb_span cells[6];  /* where they are in the text; after them only zeros */
+    struct deb_span cells[10]; /* where they are in the text; after them only zeros */
 };
 
 /* Writes what the lines of a text say to the start of `rows`: a row for each line, in their order.

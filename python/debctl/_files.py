@@ -9,7 +9,10 @@ from ._library import (
     texts_of, written,
 )
 from ._refusals import Refused
-from ._rows import Change, Group, UnmetGroup, changes_of, groups_of, unmet_groups_of
+from ._rows import (
+    Change, Group, HealthReason, UnmetGroup, changes_of, groups_of, health_reasons_of,
+    unmet_groups_of,
+)
 
 _PACKAGES = 1
 _REPORT_ROOM = 1 << 18
@@ -52,9 +55,24 @@ class UnmetReport(NamedTuple):
         return unmet_groups_of(self.text)
 
 
+class HealthReport(NamedTuple):
+    """The report on a set of packages, which is true if the set is healthy, and its text."""
+
+    healthy: bool
+    text: str
+
+    def __bool__(self) -> bool:
+        return self.healthy
+
+    @property
+    def reasons(self) -> List[HealthReason]:
+        """Why the set isn't healthy, in the order of the text."""
+        return health_reasons_of(self.text)
+
+
 def check(text: Text, kind: Kind = "packages") -> int:
     """Returns the number of paragraphs of a file that is accepted as a document of this kind:
-    `packages`, `binary`, `source`, `sources` or `any`.
+    `packages`, `binary`, `source`, `sources`, `status` or `any`.
 
     Raises Refused if it is refused.
     """
@@ -190,8 +208,31 @@ def unmet_report(
     """
     (answer, lines), (kind, recommends) = answered, asked
     if answer.status == NO_KIND:
-        what = "Recommends of sources" if recommends and kind != "any" else f"relations of {kind!r}"
+        is_source = kind in ("source", "sources")
+        what = "Recommends of sources" if is_source else f"relations of {kind!r}"
         raise ValueError(f"there are no {what}")
     refused_as = _PACKAGES if answer.status == REFUSED else kind_of(kind)
     met = answered_file(answer, refused_as, index, file).status == YES
     return UnmetReport(met, lines.decode())
+
+
+def healthy(index: Text, arch: Text, *, recommends: bool = False) -> HealthReport:
+    """Finds why the packages of an index aren't consistent as a set, for this architecture: the
+    lines that the program `debctl healthy` writes. Pre-Depends and Depends are asked, with
+    `recommends` Recommends too.
+
+        >>> import debctl
+        >>> aa = "Package: aa\\nVersion: 1\\nArchitecture: all\\nConflicts: bb\\n\\n"
+        >>> bb = "Package: bb\\nVersion: 1\\nArchitecture: all\\n"
+        >>> report = debctl.healthy(aa + bb, "amd64")
+        >>> print(bool(report), report.text, end="")
+        False conflict 1 aa 1 all Conflicts bb by 2 bb 1 all
+        >>> [(it.verdict, it.package.name, it.group, it.by.number) for it in report.reasons]
+        [('conflict', 'aa', 'bb', 2)]
+
+    Raises Refused if the architecture or the index is refused.
+    """
+    data, length = text_of(index)
+    call = functools.partial(lib.deb_healthy, bool(recommends), *text_of(arch), data, length)
+    answer, lines = written(length + _REPORT_ROOM, call)
+    return HealthReport(answered_file(answer, _PACKAGES, data).status == YES, lines.decode())

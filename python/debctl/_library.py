@@ -12,12 +12,12 @@ from typing import (
 from ._refusals import Refused
 
 Text = Union[str, bytes, bytearray, memoryview]
-Kind = Literal["packages", "binary", "sources", "source", "any"]
+Kind = Literal["packages", "binary", "sources", "source", "status", "any"]
 
 YES, NO, REFUSED, SECOND_REFUSED, NO_ROOM, NO_MEMORY, NO_KIND, NO_INDEX = range(8)
 _UNFILLED = 255  # the status of an answer that no call has written
 _LONG = 1 << 18  # the length from which a buffer's pages are taken as they are written
-_KINDS = {"binary": 0, "packages": 1, "source": 2, "sources": 3, "any": 4}
+_KINDS = {"binary": 0, "packages": 1, "source": 2, "sources": 3, "any": 4, "status": 5}
 _TEXT: List[Any] = [ctypes.c_char_p, ctypes.c_size_t]
 _LENGTH = ctypes.POINTER(ctypes.c_size_t)
 _BUFFER: List[Any] = [ctypes.c_char_p, ctypes.c_size_t, _LENGTH]
@@ -96,6 +96,7 @@ _FUNCTIONS: List[Tuple[str, Any, List[Any]]] = [
     ("deb_query", Answer, _QUERY + _TEXT + _BUFFER),
     ("deb_query_why", Answer, _QUERY + _TEXT + _BUFFER),
     ("deb_unmet", Answer, _KIND + _KIND + _QUERY + _TEXT + _BUFFER),
+    ("deb_healthy", Answer, _KIND + _TEXT + _TEXT + _BUFFER),
     ("deb_index_size", ctypes.c_size_t, []),
     ("deb_index_read", None, _MEMORY + _TEXT + _TO_ANSWER),
     ("deb_index_free", None, _MEMORY),

@@ -229,8 +229,8 @@ def paragraphs(
     The file is read as the paragraphs are taken, in pieces of 64 KiB: one is held, and those of
     which a paragraph is still in use.
 
-    The kind is `any`, `packages`, `binary`, `source` or `sources`. After the paragraphs that pass,
-    Refused is raised if the file is refused.
+    The kind is `any`, `packages`, `binary`, `source`, `sources` or `status`. After the paragraphs
+    that pass, Refused is raised if the file is refused.
 
         >>> import debctl
         >>> for paragraph in debctl.paragraphs("Package: hello\\nDepends: bb, aa (>= 1) | cc\\n"):

@@ -7,7 +7,7 @@ mod printed;
 
 use debctl::{
     canonical, check, check_all, compare, diff, explain, explain_all, explain_relation,
-    explain_version, key, normalise, paragraphs, query, query_why, relations, same,
+    explain_version, healthy, key, normalise, paragraphs, query, query_why, relations, same,
     spelled_relations, unmet, AllChecked, Asked, Compared, Error, Explanation, Index, Kind,
     ReadError, Reader, Refusal, Report, Version,
 };
@@ -16,12 +16,13 @@ use std::env::args_os;
 use std::fs::read;
 use std::io::{stdout, Read, Write};
 
-const KINDS: [Kind; 5] = [
+const KINDS: [Kind; 6] = [
     Kind::Binary,
     Kind::Packages,
     Kind::Source,
     Kind::Sources,
     Kind::Any,
+    Kind::Status,
 ];
 
 /// The line of an error.
@@ -194,6 +195,7 @@ fn of_diff(number: usize, files: &[Vec<u8>]) -> Result<String, Error> {
         Kind::Binary => Compared::Binary,
         Kind::Packages => Compared::Packages,
         Kind::Source => Compared::Source,
+        Kind::Status => Compared::Status,
         _ => Compared::Sources,
     };
     let changes = diff(kind, number >= 8, &files[0], &files[1])?;
@@ -231,6 +233,10 @@ fn answer(call: &str, number: usize, files: &[Vec<u8>]) -> Result<Vec<u8>, Error
         }
         "query" | "why" => of_query(call, files)?,
         "unmet" => of_unmet(number, files)?,
+        "healthy" => {
+            let report = healthy(number > 0, &files[0], &files[1])?;
+            with_rows(&done(report.healthy, 0), &report.text, &report.printed())
+        }
         "diff" => of_diff(number, files)?,
         "check" => {
             let checked = check(KINDS[number], &files[0]);

@@ -18,14 +18,17 @@ pub enum Kind {
     Sources = 3,
     /// Any control data; its values aren't checked.
     Any = 4,
+    /// The status file of dpkg: any number of paragraphs.
+    Status = 5,
 }
 
-const KINDS: [Kind; 5] = [
+const KINDS: [Kind; 6] = [
     Kind::Binary,
     Kind::Packages,
     Kind::Source,
     Kind::Sources,
     Kind::Any,
+    Kind::Status,
 ];
 
 impl Kind {
@@ -37,6 +40,7 @@ impl Kind {
             Kind::Source => "source",
             Kind::Sources => "sources",
             Kind::Any => "any",
+            Kind::Status => "status",
         }
     }
 }
@@ -113,6 +117,9 @@ pub enum Compared {
     Sources,
     /// Descriptions of source packages.
     Source,
+    /// Status files of dpkg. A package may have no version and no architecture there, which are empty
+    /// texts in a change.
+    Status,
 }
 
 impl Compared {
@@ -122,6 +129,7 @@ impl Compared {
             Compared::Binary => Kind::Binary,
             Compared::Sources => Kind::Sources,
             Compared::Source => Kind::Source,
+            Compared::Status => Kind::Status,
         }
     }
 }

@@ -1,4 +1,5 @@
-//! Which packages meet a relation, and which relations of a file nothing meets.
+//! Which packages meet a relation, which relations of a file nothing meets, and whether a set of
+//! packages is healthy.
 
 use crate::library::{self, Answer, Text};
 use crate::refusals::answered_of;
@@ -91,6 +92,59 @@ pub struct UnmetGroup {
     pub group: String,
 }
 
+/// The report on a set of packages.
+#[derive(Clone, Debug, PartialEq, Eq, Hash)]
+#[non_exhaustive]
+pub struct HealthReport {
+    /// Whether the set is healthy: there is no reason in the report.
+    pub healthy: bool,
+    /// Why the set isn't healthy, in the order of the packages.
+    pub reasons: Vec<HealthReason>,
+    /// The lines of the report.
+    pub text: String,
+}
+
+/// Why a set of packages isn't healthy.
+#[derive(Clone, Debug, PartialEq, Eq, Hash)]
+#[non_exhaustive]
+pub struct HealthReason {
+    /// The package.
+    pub package: Package,
+    /// What is wrong about it.
+    pub fault: HealthFault,
+}
+
+/// What is wrong about a package of a set.
+#[derive(Clone, Debug, PartialEq, Eq, Hash)]
+#[non_exhaustive]
+pub enum HealthFault {
+    /// No package of the set meets a group of a field.
+    Unmet {
+        /// The name of the field.
+        field: String,
+        /// The canonical text of the group.
+        group: String,
+        /// Whether the answer depends on an architecture wildcard.
+        unsure: bool,
+    },
+    /// A group of a field excludes a package of the set.
+    Conflict {
+        /// The name of the field.
+        field: String,
+        /// The canonical text of the group.
+        group: String,
+        /// The package that is excluded.
+        by: Package,
+        /// Whether the answer depends on an architecture wildcard.
+        unsure: bool,
+    },
+    /// A later package has the same name, and the two can't be installed together.
+    Duplicate {
+        /// The later package.
+        with: Package,
+    },
+}
+
 impl fmt::Display for Report {
     fn fmt(&self, out: &mut fmt::Formatter<'_>) -> fmt::Result {
         out.write_str(&self.text)
@@ -98,6 +152,12 @@ impl fmt::Display for Report {
 }
 
 impl fmt::Display for UnmetReport {
+    fn fmt(&self, out: &mut fmt::Formatter<'_>) -> fmt::Result {
+        out.write_str(&self.text)
+    }
+}
+
+impl fmt::Display for HealthReport {
     fn fmt(&self, out: &mut fmt::Formatter<'_>) -> fmt::Result {
         out.write_str(&self.text)
     }
@@ -175,6 +235,35 @@ pub(crate) fn unmet_report((answer, text): (Answer, Vec<u8>)) -> UnmetReport {
         met: answer.status == library::YES,
         groups: rows(Form::UnmetLines, &text).map(group).collect(),
         text,
+    }
+}
+
+/// Returns the reason that a row is.
+fn health_reason(row: Row) -> HealthReason {
+    let fault = match row.kind {
+        texts::DUPLICATE => HealthFault::Duplicate {
+            with: Package {
+                number: row.number(4),
+                name: row.text(1),
+                version: row.text(5),
+                architecture: row.text(6),
+            },
+        },
+        texts::CONFLICT | texts::UNSURE_CONFLICT => HealthFault::Conflict {
+            field: row.text(4),
+            group: row.text(5),
+            by: package(&row, 6),
+            unsure: row.kind == texts::UNSURE_CONFLICT,
+        },
+        _ => HealthFault::Unmet {
+            field: row.text(4),
+            group: row.text(5),
+            unsure: row.kind != texts::UNMET_NEED,
+        },
+    };
+    HealthReason {
+        package: package(&row, 0),
+        fault,
     }
 }
 
@@ -259,4 +348,36 @@ pub fn unmet(
     let (answer, text) = written(file.len() + 4096, call);
     let answer = answered_of(answer, (Kind::Packages, index), (kind, file))?;
     Ok(unmet_report((answer, text)))
+}
+
+/// Finds why the packages of an index aren't consistent as a set, for a target architecture: the
+/// lines that the program `debctl healthy` writes. With `recommends` a package needs what it
+/// recommends, too.
+///
+/// ```
+/// let index = "Package: aa\nVersion: 1\nArchitecture: all\nConflicts: bb\n\n\
+///     Package: bb\nVersion: 2\nArchitecture: all\n";
+/// let report = debctl::healthy(false, "amd64", index)?;
+/// assert!(!report.healthy);
+/// assert_eq!(report.reasons[0].package.name, "aa");
+/// assert_eq!(report.text, "conflict 1 aa 1 all Conflicts bb by 2 bb 2 all\n");
+/// # Ok::<(), debctl::Error>(())
+/// ```
+pub fn healthy(
+    recommends: bool,
+    target: impl AsRef<[u8]>,
+    index: impl AsRef<[u8]>,
+) -> Result<HealthReport, Error> {
+    let (target, index) = (target.as_ref(), index.as_ref());
+    let call = |out: &mut [u8], length: &mut usize| {
+        library::healthy(u8::from(recommends), (target, index), out, length)
+    };
+    let (answer, text) = written(index.len() + 4096, call);
+    let answer = answered_of(answer, (Kind::Packages, index), (Kind::Packages, index))?;
+    let text = string(text);
+    Ok(HealthReport {
+        healthy: answer.status == library::YES,
+        reasons: rows(Form::HealthLines, &text).map(health_reason).collect(),
+        text,
+    })
 }

@@ -66,12 +66,13 @@ pub(crate) enum Form {
     UnmetLines = 1,
     DiffLines = 2,
     Explanation = 3,
+    HealthLines = 4,
 }
 
 /// A line of a text: its kind, its cells, and where the line ends.
 pub(crate) struct Row<'a> {
     pub kind: u8,
-    pub cells: [&'a str; 6],
+    pub cells: [&'a str; 10],
     pub end: usize,
 }
 
@@ -90,6 +91,10 @@ pub(crate) const KEY: u8 = 14;
 pub(crate) const END: u8 = 15;
 pub(crate) const OK: u8 = 16;
 pub(crate) const DOWNGRADED: u8 = 19;
+pub(crate) const UNMET_NEED: u8 = 20;
+pub(crate) const CONFLICT: u8 = 22;
+pub(crate) const UNSURE_CONFLICT: u8 = 23;
+pub(crate) const DUPLICATE: u8 = 24;
 
 impl Row<'_> {
     /// Returns the number in a cell.
@@ -190,6 +195,7 @@ mod tests {
             12 => drop((loaded.packages("p1"), loaded.providers("p1"))),
             13 => drop((loaded.package(1)?, loaded.details(1)?)),
             14 => drop((key("1:2.0~rc1-3")?, canonical("1:2.0~rc1-3")?)),
+            15 => drop(healthy(true, "amd64", old)?),
             _ => drop(relations(relation)?),
         }
         Ok(())
@@ -199,7 +205,7 @@ mod tests {
     fn the_first_room_is_enough() -> Result<(), Error> {
         let (old, new) = (index("1"), index("2"));
         let loaded = Index::read(&old)?;
-        for asked in 0..=15 {
+        for asked in 0..=16 {
             let before = REPEATED.with(Cell::get);
             answer(asked, &old, &new, &loaded)?;
             assert_eq!(REPEATED.with(Cell::get), before, "call {asked}");

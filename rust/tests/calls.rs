@@ -1,9 +1,9 @@
-//! Versions and their keys, relations, unmet relations, and the paragraphs of a file and all its
-//! refusals.
+//! Versions and their keys, relations, unmet relations, sets of packages, and the paragraphs of a file
+//! and all its refusals.
 
 use debctl::{
-    check, check_all, compare, diff, explain, explain_all, key, paragraphs, query, relations,
-    unmet, Asked, Code, Compared, Error, Index, Kind, Refusal, Version,
+    check, check_all, compare, diff, explain, explain_all, healthy, key, paragraphs, query,
+    relations, unmet, Asked, Code, Compared, Error, Index, Kind, Refusal, Version,
 };
 use std::collections::HashSet;
 
@@ -83,6 +83,39 @@ fn unmet_relations_have_lines() -> Result<(), Error> {
             assert_eq!(loaded.unmet(asked, target, &[b"nocheck"], file), whole);
         }
     }
+    Ok(())
+}
+
+#[test]
+fn sets_of_packages_have_lines() -> Result<(), Error> {
+    let package = "Package: aa\nVersion: 01\nArchitecture: amd64\n";
+    let set = format!("{package}Depends: bb\nRecommends: cc\n\n{package}");
+    let (bb, cc) = (
+        "unmet 1 aa 1 amd64 Depends bb\n",
+        "unmet 1 aa 1 amd64 Recommends cc\n",
+    );
+    let twice = "duplicate 1 aa 1 amd64 with 2 1 amd64\n";
+    let report = healthy(false, "amd64", &set)?;
+    assert_eq!(report.text, format!("{bb}{twice}"));
+    assert_eq!(report.to_string(), report.text);
+    assert!(!report.healthy);
+    assert_eq!(
+        healthy(true, b"amd64", set.as_bytes())?.text,
+        format!("{bb}{cc}{twice}")
+    );
+    for set in ["", package, "Package: bb\nVersion: 1\nArchitecture: i386\n"] {
+        let report = healthy(true, "amd64", set)?;
+        assert!(report.healthy && report.text.is_empty());
+    }
+    assert_eq!(
+        refused(healthy(true, "any", "x")),
+        (Code::BadEnvironment, 0, None)
+    );
+    let version = Some("Version".to_owned());
+    assert_eq!(
+        refused(healthy(false, "amd64", package.replace("01", "1_"))),
+        (Code::BadVersion, 2, version)
+    );
     Ok(())
 }
 

@@ -281,6 +281,7 @@ def many_paragraphs():
         (["query", *arch, "vv", "old"], b"met vv\n" + met, 0),
         (["query", *arch, "--why", "vv (>= 1)", "old"], b"unmet vv (>= 1)\n" + why, 1),
         (["unmet", *arch, "old", "new"], b"unmet 400 p400 2 all Depends zz\n", 1),
+        (["healthy", *arch, "new"], b"unmet 400 p400 2 all Depends zz\n", 1),
         (["sort", "versions"], files["versions"], 0), (["audit", "old", "new"], audited, 0),
         (["check", "--all", "bad"], b"".join(refused), 2),
         (["audit", "--all", "bad"], b"".join(b"bad: " + line for line in refused), 2),

@@ -260,7 +260,7 @@ def wanted_of(case: Case, fault: Fault, k, answer: Answer):
         return Wanted(b"".join(told), line, FAULT_STATUS)
     if "--all" in case.words:
         return wanted_of_all(case, fault, record)
-    if case.words[0] == "unmet":
+    if case.words[0] in ("unmet", "healthy"):
         return Wanted(case.out, line, FAULT_STATUS, "whole lines")
     if case.words[0] != "normalise":
         return Wanted(b"", line, FAULT_STATUS)

@@ -110,6 +110,9 @@ def answered(call, number, texts, loaded):
         it = report_of(call, number, texts, loaded)
         more = b"" if call == "unmet" or relation_agrees(texts[1]) else b"parts differ\n"
         return b"%d 0 0 0\n" % (not it) + by_rows(it.text, it) + more
+    if call == "healthy":
+        it = debctl.healthy(texts[1], texts[0], recommends=bool(number))
+        return b"%d 0 0 0\n" % (not it) + by_rows(it.text, it)
     if call in ("explain", "explain-relation", "explain-version"):
         return explained(call, number, texts)
     if call in ("check-all", "explain-all"):

@@ -92,6 +92,9 @@ static const char *hello = "vERSION: 01.0-0\npackage:hello\nArchitecture: amd64\
 static const char *canonical = "Architecture: amd64\nPackage: hello\nVersion: 1.0\n";
 static const char *newer = "Package: hello\nVersion: 1.1\nArchitecture: amd64\n";
 static const char *bad = "Package: hello\nVersion: 1.1\nArchitecture: amd64\nSize: 1k\n";
+static const char *statuses =
+    "Package: aa\nStatus: install ok installed\nVersion: 1.0\nArchitecture: all\n\n"
+    "Package: bb\nStatus: purge ok not-installed\n";
 
 static struct deb_answer check(int kind, const char *text) {
     return deb_check((uint8_t)kind, bytes(text), strlen(text));
@@ -109,7 +112,9 @@ static void try_files(void) {
     IS(is(check(DEB_PACKAGES, "Package hello\n"), DEB_REFUSED, DEB_NO_COLON, 1, 0));
     IS(is(check(DEB_PACKAGES, bad), DEB_REFUSED, DEB_BAD_NUMBER, 4, 0));
     IS(is(check(DEB_ANY, bad), DEB_YES, 0, 0, 1));
-    IS(is(check(5, hello), DEB_NO_KIND, 0, 0, 0));
+    IS(is(check(DEB_STATUS, statuses), DEB_YES, 0, 0, 2));
+    IS(is(check(DEB_STATUS, hello), DEB_REFUSED, DEB_MISSING_FIELD, 1, 0));
+    IS(is(check(6, hello), DEB_NO_KIND, 0, 0, 0));
     IS(is(check(255, "x"), DEB_NO_KIND, 0, 0, 0));
     IS(is(deb_check(DEB_PACKAGES, NULL, 0), DEB_YES, 0, 0, 0));
     IS(is(deb_check(DEB_BINARY, NULL, 0), DEB_REFUSED, DEB_NO_PARAGRAPH, 1, 0));
@@ -162,12 +167,17 @@ static void try_differences(void) {
         IS(is(diff(DEB_PACKAGES, 0, bad, "x", &none), DEB_REFUSED, DEB_BAD_NUMBER, 4, 0));
         IS(is(diff(DEB_PACKAGES, 1, hello, bad, &none), DEB_SECOND_REFUSED, DEB_BAD_NUMBER, 4, 0));
         IS(is(diff(DEB_ANY, DEB_FIELDS, hello, newer, &none), DEB_NO_KIND, 0, 0, 0));
+        IS(is(diff(6, DEB_FIELDS, hello, newer, &none), DEB_NO_KIND, 0, 0, 0));
         IS(is(diff(DEB_PACKAGES, 2, hello, newer, &none), DEB_NO_KIND, 0, 0, 0));
         IS(untouched(none, 0));
         if (rooms[at] == 4096) {
             struct buffer full = buffer_of(4096);
             IS(is(diff(DEB_PACKAGES, DEB_VALUES, hello, newer, &full), DEB_NO, 0, 0, 0));
             IS(holds(full, values));
+            free(full.bytes);
+            full = buffer_of(4096);
+            IS(is(diff(DEB_STATUS, DEB_FIELDS, statuses, "", &full), DEB_NO, 0, 0, 0));
+            IS(holds(full, "removed 1 aa 1.0 all\nremoved 2 bb  \n"));
             free(full.bytes);
         }
         free(it.bytes);
@@ -181,9 +191,9 @@ static void try_order(void) {
     const uint8_t *no = bytes("x"), *any = bytes("any");
     const struct deb_text profile = {bytes("No"), 2};
     size_t length, count;
-    IS(is(deb_normalise(5, no, 1, NULL, 0, &length), DEB_NO_KIND, 0, 0, 0));
+    IS(is(deb_normalise(6, no, 1, NULL, 0, &length), DEB_NO_KIND, 0, 0, 0));
     IS(is(deb_normalise(DEB_ANY, no, 1, NULL, 0, &length), DEB_REFUSED, DEB_NO_COLON, 1, 0));
-    IS(is(same(5, "x", "x"), DEB_NO_KIND, 0, 0, 0));
+    IS(is(same(6, "x", "x"), DEB_NO_KIND, 0, 0, 0));
     IS(is(same(DEB_ANY, "x", "\nx"), DEB_REFUSED, DEB_NO_COLON, 1, 0));
     IS(is(deb_diff(DEB_ANY, 0, no, 1, no, 1, NULL, 0, &length), DEB_NO_KIND, 0, 0, 0));
     IS(is(deb_diff(DEB_BINARY, 2, no, 1, no, 1, NULL, 0, &length), DEB_NO_KIND, 0, 0, 0));
@@ -197,11 +207,14 @@ static void try_order(void) {
           0, 0, 0));
     IS(is(deb_unmet(DEB_SOURCE, 0, any, 3, NULL, 0, no, 1, no, 1, NULL, 0, &length), DEB_REFUSED,
           DEB_BAD_ENVIRONMENT, 0, 0));
-    IS(is(deb_explain(5, no, 1, NULL, 0, &length), DEB_NO_KIND, 0, 0, 0) && length == 0);
+    IS(is(deb_healthy(0, any, 3, no, 1, NULL, 0, &length), DEB_REFUSED, DEB_BAD_ENVIRONMENT, 0, 0));
+    IS(is(deb_healthy(0, any, 2, no, 1, NULL, 0, &length), DEB_REFUSED, DEB_NO_COLON, 1, 0) &&
+       length == 0);
+    IS(is(deb_explain(6, no, 1, NULL, 0, &length), DEB_NO_KIND, 0, 0, 0) && length == 0);
     IS(is(deb_explain(DEB_ANY, no, 1, NULL, 0, &length), DEB_NO_ROOM, 0, 0, 0));
-    IS(is(deb_explain_all(5, no, 1, NULL, 0, &length), DEB_NO_KIND, 0, 0, 0) && length == 0);
+    IS(is(deb_explain_all(6, no, 1, NULL, 0, &length), DEB_NO_KIND, 0, 0, 0) && length == 0);
     IS(is(deb_explain_all(DEB_ANY, no, 1, NULL, 0, &length), DEB_NO_ROOM, 0, 0, 0));
-    IS(is(deb_check_all(5, no, 1, NULL, 0, &count), DEB_NO_KIND, 0, 0, 0) && count == 0);
+    IS(is(deb_check_all(6, no, 1, NULL, 0, &count), DEB_NO_KIND, 0, 0, 0) && count == 0);
     IS(is(deb_check_all(DEB_ANY, no, 1, NULL, 0, &count), DEB_NO_ROOM, 0, 0, 0) && count == 1);
 }
 
@@ -252,7 +265,7 @@ static void try_explanations(void) {
          "line: 3\ncode: 6\nname: NoColon\nvalue: \\\\\\t\n"
          "rule: The first line of a field must have a colon after the name (Debian Policy 5.1).\n"
          "usually: no control data, a blank line within a field, or lines that end in CR LF\n"},
-        {5, hello, DEB_NO_KIND, 0, 0, 0, NULL},
+        {6, hello, DEB_NO_KIND, 0, 0, 0, NULL},
         {255, NULL, DEB_NO_KIND, 0, 0, 0, NULL},
     };
     size_t at;
@@ -286,7 +299,7 @@ static void try_all_explanations(void) {
          "rule: A file of this kind must contain exactly one paragraph (Debian Policy 5.3, 5.4).\n"
          "usually: an empty file, such as a failed command leaves\n\n"
          "ok 0, 1 refused\n"},
-        {5, two, DEB_NO_KIND, 0, 0, 0, NULL},
+        {6, two, DEB_NO_KIND, 0, 0, 0, NULL},
         {255, NULL, DEB_NO_KIND, 0, 0, 0, NULL},
     };
     size_t at;

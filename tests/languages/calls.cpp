@@ -104,6 +104,15 @@ static std::string unmet(const std::string &text) {
     return std::to_string(answer.status) + ' ' + std::string(out.begin(), out.begin() + length);
 }
 
+// Why the packages of a text aren't healthy as a set.
+static std::string unhealthy(const std::string &text) {
+    std::vector<uint8_t> out(256);
+    size_t length = 0;
+    deb_answer answer = deb_healthy(0, bytes("amd64"), 5, bytes(text), text.size(), out.data(),
+                                    out.size(), &length);
+    return std::to_string(answer.status) + ' ' + std::string(out.begin(), out.begin() + length);
+}
+
 int main() {
     const std::string text = "vERSION: 01.0-0\npackage:hello\nArchitecture: amd64\n";
     int failed = 0;
@@ -120,6 +129,9 @@ int main() {
     failed += asked(text, "hello") != "0 met hello\n 1 hello 1.0 amd64\n";
     failed += unmet(text) != "0 " ||
               unmet(text + "Depends: aa\n") != "1 unmet 1 hello 1.0 amd64 Depends aa\n";
-    std::printf("cpp: %d passed, %d failed\n", 11 - failed, failed);
+    failed += unhealthy(text) != "0 " ||
+              unhealthy(text + "\n" + text) !=
+                  "1 duplicate 1 hello 1.0 amd64 with 2 1.0 amd64\n";
+    std::printf("cpp: %d passed, %d failed\n", 12 - failed, failed);
     return failed != 0;
 }

@@ -80,6 +80,8 @@ TAKE_TEXT = {
     "query's index": lambda text: debctl.query("hello", text, "amd64"),
     "query's arch": lambda text: debctl.query("hello", HELLO, text),
     "a profile": lambda text: debctl.query("hello", HELLO, "amd64", [text]),
+    "healthy's index": lambda text: debctl.healthy(text, "amd64"),
+    "healthy's arch": lambda text: debctl.healthy(HELLO, text),
 }
 TAKE_KIND = {
     "check's kind": lambda kind: debctl.check(HELLO, kind),

@@ -90,6 +90,9 @@ static struct deb_answer ask(const struct question *q, uint8_t *out, size_t room
         return deb_unmet((uint8_t)(q->number % 8), (uint8_t)(q->number / 8), target->bytes,
                          target->length, q->profiles, q->profile_count, first->bytes, first->length,
                          second->bytes, second->length, out, room, length);
+    if (calls(q, "healthy"))
+        return deb_healthy((uint8_t)q->number, target->bytes, target->length, first->bytes,
+                           first->length, out, room, length);
     return ask_file(q, out, room, length);
 }
 
@@ -125,6 +128,7 @@ static size_t rows_of(uint8_t form, const uint8_t *text, size_t length, struct d
 static int rows_agree(const struct question *q, const uint8_t *text, size_t length) {
     uint8_t form = is_query(q)         ? DEB_REPORT
                    : calls(q, "unmet") ? DEB_UNMET_LINES
+                   : calls(q, "healthy") ? DEB_HEALTH_LINES
                    : calls(q, "diff")  ? DEB_DIFF_LINES
                                        : DEB_EXPLANATION;
     struct deb_row *rows;

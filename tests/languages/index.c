@@ -75,14 +75,14 @@ static void try_unmet(const struct deb_index *index) {
     struct deb_text profile = {bytes("nocheck"), 7};
     size_t size = strlen(text_of_three), at, active, target, length, other_length;
     int kind, recommends, seen[8] = {0};
-    for (at = 0; at < 4 * 2 * 2 * 6 * 2; at++) {
+    for (at = 0; at < 4 * 2 * 2 * 7 * 2; at++) {
         uint8_t out[256], other[256];
         const char *file = files[at % 4];
         struct deb_answer answer, direct;
         active = at / 4 % 2;
         target = at / 8 % 2;
-        kind = (int)(at / 16 % 6);
-        recommends = (int)(at / 96 % 2);
+        kind = (int)(at / 16 % 7);
+        recommends = (int)(at / 112 % 2);
         memset(out, 7, sizeof out);
         memset(other, 7, sizeof other);
         answer = deb_index_unmet(index, (uint8_t)kind, (uint8_t)recommends, bytes(targets[target]),

@@ -55,6 +55,13 @@ static const char *twice_refused = "Package: hello\nDepends: aa (>= 1), bb cc\n\
 
 static const char *other_index = "Package: mailer\nVersion: 3\nArchitecture: all\n";
 
+/* A line of each kind, and of some a second one. */
+static const char *unhealthy =
+    "Package: aa\nVersion: 1\nArchitecture: all\nDepends: libc6 (>= 2.36), dd [linux-any]\n"
+    "Recommends: ee | ff\nConflicts: bb, mta\nBreaks: bb (<< 3) [linux-any]\n\n"
+    "Package: bb\nVersion: 2\nArchitecture: all\nProvides: mta (= 2), other\n\n"
+    "Package: aa\nVersion: 2\nArchitecture: all\n";
+
 static uint8_t out[1024];
 static size_t length;
 
@@ -196,6 +203,9 @@ static struct deb_answer call(int which) {
         return feed_file(refused);
     case 29:
         return new_index(index_of_two);
+    case 30:
+        return deb_healthy(1, bytes("amd64"), 5, bytes(unhealthy), strlen(unhealthy), out, sizeof out,
+                           &length);
     default:
         return deb_query(bytes("amd64"), 5, &profile, 1, bytes("hello (>= 1) | xx, mta"), 22, text,
                          size, out, sizeof out, &length);
@@ -213,7 +223,7 @@ int main(void) {
                                   "explain_relation, refused", "explain_relation",
                                   "explain_version, refused",  "explain_version",
                                   "relation_parts",    "reader_feed", "reader_feed, refused",
-                                  "index_new",         "query"};
+                                  "index_new",         "healthy",     "query"};
     enum { CALLS = sizeof names / sizeof *names };
     static const int statuses[CALLS] = {
         DEB_YES, DEB_YES, DEB_YES, DEB_YES, DEB_REFUSED, DEB_YES,
@@ -221,7 +231,7 @@ int main(void) {
         DEB_YES, DEB_YES, DEB_NO,  DEB_NO,  DEB_REFUSED, DEB_YES,
         DEB_REFUSED, DEB_NO,  DEB_NO,  DEB_YES, DEB_REFUSED, DEB_YES,
         DEB_REFUSED, DEB_YES, DEB_YES, DEB_YES, DEB_REFUSED, DEB_YES,
-        DEB_YES,
+        DEB_NO,  DEB_YES,
     };
     struct deb_answer reading;
     int which, passed = 0, failed = 0;

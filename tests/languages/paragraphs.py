@@ -1,4 +1,4 @@
-"""The Python module: keys, relations, unmet relations, and paragraphs with their fields."""
+"""The Python module: keys, relations, unmet relations, sets of packages, and paragraphs with their fields."""
 
 import functools
 import io
@@ -23,6 +23,7 @@ INDEX = (
     "Package: aa\nVersion: 1\nArchitecture: amd64\nDepends: bb, cc | dd\nRecommends: ee\n\n"
     "Package: dd\nVersion: 2\nArchitecture: all\n"
 )
+SET = INDEX + "\nPackage: aa\nVersion: 2\nArchitecture: all\n"
 SOURCE = "Format: 1.0\nSource: ss\nVersion: 01\nBuild-Depends: aa, zz, dd [linux-any]\n"
 
 
@@ -156,7 +157,8 @@ def answer(call, *words):
 def as_in_a_loaded_index():
     """Whether a loaded index answers of unmet relations as one that is read anew."""
     index, answers = debctl.Index(INDEX), set()
-    kinds, files = ["binary", "packages", "source", "sources", "any"], [INDEX, SOURCE, CONTROL, "\nx"]
+    kinds = ["binary", "packages", "source", "sources", "any", "status"]
+    files = [INDEX, SOURCE, CONTROL, "\nx"]
     for kind, file, more in itertools.product(kinds, files, (False, True)):
         for words in (["amd64", ["nocheck"]], ["any", []]):
             told = answer(index.unmet, file, *words, kind, more)
@@ -164,6 +166,19 @@ def as_in_a_loaded_index():
             if told != answer(debctl.unmet, INDEX, file, *words, kind, more):
                 return False
     return len(answers) > 9
+
+
+def healthy():
+    """Whether a set has the lines that the program prints of it, from each type of text."""
+    lines = [BB, "duplicate 1 aa 1 amd64 with 3 2 all"]
+    more = [BB, EE, lines[1]]
+    texts = [SET, SET.encode(), bytearray(SET.encode()), memoryview(SET.encode())]
+    return all(
+        debctl.healthy(it, "amd64").text.splitlines() == lines
+        and debctl.healthy(it, b"amd64", recommends=True).text.splitlines() == more
+        and debctl.healthy(it, memoryview(b"amd64"), recommends=True).healthy is False
+        for it in texts
+    )
 
 
 BB, CC, EE = (
@@ -187,6 +202,10 @@ TESTS = {
     "nothing is unmet": debctl.unmet(INDEX, "", "amd64", ["nocheck"], kind="sources")
     == (True, ""),
     "unmet of any": isinstance(error(debctl.unmet, INDEX, INDEX, "amd64", kind="any"), ValueError),
+    "unmet of a status file": str(
+        error(debctl.unmet, INDEX, INDEX, "amd64", kind="status", recommends=True)
+    )
+    == "there are no relations of 'status'",
     "unmet of sources, with Recommends": isinstance(
         error(debctl.unmet, INDEX, "", "amd64", kind="sources", recommends=True), ValueError
     ),
@@ -194,6 +213,16 @@ TESTS = {
     == (False, True) and second.line == 2,
     "unmet, no target": error(debctl.unmet, INDEX, INDEX, "any").line == 0,
     "unmet in a loaded index": as_in_a_loaded_index(),
+    "healthy": healthy(),
+    "a healthy set": [debctl.healthy(it, "amd64") for it in ("", CONTROL.split("Depends")[0])]
+    == [(True, ""), (True, "")],
+    "healthy, recommends by name": isinstance(error(debctl.healthy, SET, "amd64", True), TypeError),
+    "healthy, index refused": [
+        (it.name, it.line, it.second, it.field)
+        for it in [error(debctl.healthy, CONTROL.replace("01", "1-"), "amd64")]
+    ]
+    == [("BadVersion", 2, False, "Version")],
+    "healthy, no target": [error(debctl.healthy, "x", it).line for it in ("any", "all", "")] == [0] * 3,
     "paragraphs": read(FILE)
     == [(2, {"Package": "hello", "Depends": "aa,\n bb"}), (6, {"x": ""})],
     "no paragraphs": read("") == read("\n \n") == [],

@@ -2,7 +2,7 @@
 
 from pathlib import Path
 
-KINDS = ["binary", "packages", "source", "sources", "any"]
+KINDS = ["binary", "packages", "source", "sources", "any", "status"]
 ORDERS = {
     "lt": {-1}, "le": {-1, 0}, "eq": {0}, "ne": {-1, 1}, "ge": {0, 1}, "gt": {1},
     "<<": {-1}, "<=": {-1, 0}, "=": {0}, ">=": {0, 1}, ">>": {1},
@@ -72,6 +72,15 @@ def unmet_question(options, others, given):
     return "unmet", number, texts
 
 
+def healthy_question(options, others, given):
+    """A question whether a set is healthy: its number is 1 if Recommends is asked, and its texts are the
+    target and the index."""
+    if len(others) > 1:
+        raise Unknown
+    texts = [bytes_of(options.pop("--arch")), read(others[0] if others else None, given)]
+    return "healthy", int(options.pop("--recommends", None) is not None), texts
+
+
 def query_question(options, others, given):
     """A query, whose number is how many profiles are active; its texts are the target, the relation, the
     index and the profiles."""
@@ -136,6 +145,8 @@ def question(words, given):
     try:
         if call == "unmet":
             asked = unmet_question(options, others, given)
+        elif call == "healthy":
+            asked = healthy_question(options, others, given)
         elif call == "query":
             asked = query_question(options, others, given)
         else:

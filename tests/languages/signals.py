@@ -22,6 +22,7 @@ FIXED = {
     "relations": lambda: debctl.relations("cc | bb (>= 1), aa"),
     "query": lambda: debctl.query("hello, bb", INDEX, "amd64"),
     "unmet": lambda: debctl.unmet(INDEX, INDEX, "amd64"),
+    "healthy": lambda: debctl.healthy(INDEX, "amd64"),
     "paragraphs": lambda: [dict(it) for it in debctl.paragraphs(INDEX)],
     "value": lambda: next(debctl.paragraphs(INDEX, "packages")).canonical("Depends"),
     "diff": lambda: debctl.diff(INDEX, ""),

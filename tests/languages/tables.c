@@ -1,4 +1,5 @@
-/* Keys of versions, canonical relations, unmet relations, and the tables of fields and of refusals. */
+/* Keys of versions, canonical relations, unmet relations, sets of packages, and the tables of fields
+ * and of refusals. */
 #include "debctl.h"
 
 #include <stdio.h>
@@ -141,6 +142,7 @@ static void try_unmet(void) {
         {DEB_PACKAGES, 0, "amd64", "\nx", "x", DEB_REFUSED, DEB_NO_COLON, 2, 0, NULL},
         {DEB_PACKAGES, 0, "amd64", packages, "\n\nx", DEB_SECOND_REFUSED, DEB_NO_COLON, 3, 0, NULL},
         {DEB_ANY, 0, "amd64", packages, packages, DEB_NO_KIND, 0, 0, 0, NULL},
+        {DEB_STATUS, 0, "amd64", packages, packages, DEB_NO_KIND, 0, 0, 0, NULL},
         {DEB_SOURCE, 1, "amd64", packages, source, DEB_NO_KIND, 0, 0, 0, NULL},
         {DEB_SOURCES, 1, "amd64", packages, "", DEB_NO_KIND, 0, 0, 0, NULL},
         {200, 0, "amd64", packages, packages, DEB_NO_KIND, 0, 0, 0, NULL},
@@ -164,6 +166,66 @@ static void try_unmet(void) {
                 IS(is(answer, DEB_NO_ROOM, 0, 0, 0) && untouched(out, room + 1));
             else
                 IS(is(answer, q->status, 0, 0, q->count) && memcmp(out, q->lines, whole) == 0 &&
+                   untouched(out + whole, room + 1 - whole));
+            free(out);
+        }
+    }
+}
+
+/* ---- sets of packages */
+
+static const char set[] = "Package: aa\nVersion: 01\nArchitecture: amd64\nDepends: bb, cc\n"
+                          "Conflicts: bb\nBreaks: dd [linux-any]\nRecommends: ee\n\n"
+                          "Package: bb\nVersion: 2\nArchitecture: all\n\n"
+                          "Package: dd\nVersion: 3\nArchitecture: i386\n\n"
+                          "Package: aa\nVersion: 2\nArchitecture: amd64\n";
+#define UNMET_IN_SET "unmet 1 aa 1 amd64 Depends cc\n"
+#define UNHEALTHY                                                                                  \
+    "conflict 1 aa 1 amd64 Conflicts bb by 2 bb 2 all\n"                                           \
+    "unsure 1 aa 1 amd64 Breaks dd [linux-any] by 3 dd 3 i386\n"                                   \
+    "duplicate 1 aa 1 amd64 with 4 2 amd64\n"
+
+static void try_healthy(void) {
+    static const struct {
+        int recommends;
+        const char *target, *index;
+        int status, code;
+        uint64_t line, count;
+        const char *lines;
+    } all[] = {
+        {0, "amd64", set, DEB_NO, 0, 0, 4, UNMET_IN_SET UNHEALTHY},
+        {1, "amd64", set, DEB_NO, 0, 0, 4,
+         UNMET_IN_SET "unmet 1 aa 1 amd64 Recommends ee\n" UNHEALTHY},
+        {255, "amd64", "Package: aa\nVersion: 1\nArchitecture: all\nRecommends: bb\n", DEB_NO, 0, 0,
+         1, "unmet 1 aa 1 all Recommends bb\n"},
+        {0, "amd64", "Package: aa\nVersion: 1\nArchitecture: all\nRecommends: bb\n", DEB_YES, 0, 0,
+         1, ""},
+        {0, "amd64", "", DEB_YES, 0, 0, 0, ""},
+        {0, "any", "x", DEB_REFUSED, DEB_BAD_ENVIRONMENT, 0, 0, NULL},
+        {0, "", set, DEB_REFUSED, DEB_BAD_ENVIRONMENT, 0, 0, NULL},
+        {1, "amd64", "\nx", DEB_REFUSED, DEB_NO_COLON, 2, 0, NULL},
+    };
+    size_t at;
+    for (at = 0; at < sizeof all / sizeof *all; at++) {
+        size_t whole = all[at].lines ? strlen(all[at].lines) : 0, room, length;
+        size_t target = strlen(all[at].target), size = strlen(all[at].index);
+        for (room = whole ? whole - 1 : 0; room <= whole + 1; room++) {
+            uint8_t *out = malloc(room + 1);
+            struct deb_answer answer;
+            memset(out, 7, room + 1);
+            length = 99;
+            answer = deb_healthy((uint8_t)all[at].recommends,
+                                 target ? bytes(all[at].target) : NULL, target,
+                                 size ? bytes(all[at].index) : NULL, size, out, room, &length);
+            IS(length == whole);
+            if (!all[at].lines)
+                IS(is(answer, all[at].status, all[at].code, all[at].line, 0) &&
+                   untouched(out, room + 1));
+            else if (room < whole)
+                IS(is(answer, DEB_NO_ROOM, 0, 0, 0) && untouched(out, room + 1));
+            else
+                IS(is(answer, all[at].status, 0, 0, all[at].count) &&
+                   memcmp(out, all[at].lines, whole) == 0 &&
                    untouched(out + whole, room + 1 - whole));
             free(out);
         }
@@ -228,7 +290,7 @@ static void try_fields(void) {
     IS(is(deb_fields(DEB_BINARY, NULL, 0, NULL, 0, &count, NULL, 0, &names_length, NULL, 0,
                      &values_length),
           DEB_REFUSED, DEB_NO_PARAGRAPH, 1, 0));
-    IS(is(deb_fields(5, bytes(file), size, NULL, 0, &count, NULL, 0, &names_length, NULL, 0,
+    IS(is(deb_fields(6, bytes(file), size, NULL, 0, &count, NULL, 0, &names_length, NULL, 0,
                      &values_length),
           DEB_NO_KIND, 0, 0, 0));
     IS(count == 0 && names_length == 0 && values_length == 0);
@@ -291,7 +353,7 @@ static void try_refusals(void) {
             try_table(&all[at], room);
     IS(is(deb_check_all(DEB_PACKAGES, NULL, 0, NULL, 0, &count), DEB_YES, 0, 0, 0) && count == 0);
     IS(is(deb_check_all(DEB_SOURCE, NULL, 0, NULL, 0, &count), DEB_NO_ROOM, 0, 0, 0) && count == 1);
-    for (at = 5; at <= 255; at += 250)
+    for (at = 6; at <= 255; at += 249)
         IS(is(deb_check_all((uint8_t)at, bytes(two_refused), strlen(two_refused), NULL, 0, &count),
               DEB_NO_KIND, 0, 0, 0) &&
            count == 0);
@@ -347,6 +409,7 @@ int main(void) {
     try_relation("", "");
     try_relation("aa (", NULL);
     try_unmet();
+    try_healthy();
     try_fields();
     try_refusals();
     try_many_refusals();

@@ -30,8 +30,9 @@ def value_of(field: bytes) -> bytes:
 def called(kind: str, fields):
     """The name, the version and the architecture of a paragraph."""
     name = value_of(fields[b"Source" if kind == "source" else b"Package"]).partition(b" ")[0]
-    is_binary = kind in ("packages", "binary")
-    return name, value_of(fields[b"Version"]), value_of(fields[b"Architecture"]) if is_binary else b"source"
+    is_binary = kind in ("packages", "binary", "status")
+    architecture = value_of(fields.get(b"Architecture", b"")) if is_binary else b"source"
+    return name, value_of(fields.get(b"Version", b"")), architecture
 
 
 def changed(random, kind: str, paragraphs: List[bytes]) -> Optional[Change]:
@@ -40,7 +41,8 @@ def changed(random, kind: str, paragraphs: List[bytes]) -> Optional[Change]:
         return None
     at = random.randrange(len(paragraphs))
     old = fields_of(paragraphs[at])
-    optional = [name for name in old if name not in REQUIRED[kind]]
+    kept = (*REQUIRED[kind], *((b"Version", b"Architecture") if kind == "status" else ()))
+    optional = [name for name in old if name not in kept]
     name = random.choice((b"Version", b"X-Added", *optional))
     word, newer = random.choice([*VERSIONS.items()])
     new = {**old, b"X-Added": ADDED, b"Version": b"Version: " + newer}[name]
@@ -54,6 +56,8 @@ def changed(random, kind: str, paragraphs: List[bytes]) -> Optional[Change]:
     package, version, architecture = called(kind, old)
     words = [b"changed", b"%d" % (at + 1), package, version, architecture, name]
     if name == b"Version":
+        # No version comes before every version.
+        word = word if name in old else b"upgraded"
         words = [word, *words[1:4], newer, *words[4:]]
     values = marked(b" -", old.get(name)) + marked(b" +", new.get(name))
     return Change([*paragraphs[:at], paragraph, *paragraphs[at + 1 :]], b" ".join(words) + b"\n", values)

@@ -27,6 +27,7 @@ REQUIRED = {
     "binary": (b"Package", b"Version", b"Architecture"),
     "source": (b"Format", b"Source", b"Version"),
     "sources": (b"Package", b"Version"),
+    "status": (b"Package", b"Status"),
     "any": (),
 }
 SINGLE = ("binary", "source")
@@ -167,6 +168,8 @@ def made(random, kind: str) -> Document:
     known = (b"Source", b"Architecture", b"Essential", b"Multi-Arch", b"Installed-Size", b"Size")
     titled = [name.title() for name in (*FOLDED, *RELATIONS)]
     optional = (*known, *titled, *ONE_LINE, *OTHER_NAMES)
+    if kind == "status":
+        optional += (b"Version",)
     document = []
     for _ in range(1 if kind in SINGLE else random.choice((1, 1, 2, 3))):
         names = [*REQUIRED[kind], *random.sample(optional, random.randint(1, 7))]

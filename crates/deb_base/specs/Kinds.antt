@@ -1,7 +1,7 @@
 -- The table of the fields that are known by name: which kind of value each has, and which fields a
 -- document requires. Debian Policy 5.1 (names are found without case), 5.3 (binary packages), 5.4
--- (source packages), 5.6 (the fields), 7.1 to 7.8 (relationship fields); that unknown fields are
--- text is this project's own.
+-- (source packages), 5.6 (the fields), 7.1 to 7.8 (relationship fields), dpkg(1) (the status file);
+-- that unknown fields are text is this project's own.
 use Rattle.std.specs.Prelude.{◌≡◌, ℕ, Bool, true, false, List, [], ◌∷◌, length, map, get_or, codes, refl}
 use Rattle.std.specs.List.{list_all, position_or_len, range_with_len}
 use Rattle.std.specs.Str.{bytes_eq}
@@ -82,6 +82,7 @@ known_fields =
     ∷ (codes "Size", Number)
     ∷ (codes "Source", Source)
     ∷ (codes "Standards-Version", Line)
+    ∷ (codes "Status", Text)
     ∷ (codes "Suggests", Relation Depends)
     ∷ (codes "Tag", Text)
     ∷ (codes "Task", Text)
@@ -94,7 +95,7 @@ known_fields =
 
 -- how many rows there are
 abbrev pub row_count : ℕ
-row_count = 54
+row_count = 55
 
 -- the number of the first row that has the name, counted from 0 and without case; of no row: how
 -- many rows there are
@@ -126,18 +127,21 @@ kind_in docs.Binary kind = kind
 kind_in docs.Packages kind = kind
 kind_in docs.Source kind = in_source kind
 kind_in docs.Sources kind = in_source kind
+kind_in docs.Status kind = kind
 kind_in docs.Any kind = Text
 
 -- the kind of a field, by its name without case
 unfoldable pub kind_of : Doc → List ℕ → Kind
 kind_of doc name = kind_in doc (kind_at (known_row name))
 
--- the fields that each paragraph has to have
+-- the fields that each paragraph has to have; a package of a status file that isn't installed may
+-- have neither a version nor an architecture
 abbrev pub required : Doc → List (List ℕ)
 required docs.Binary = codes "Package" ∷ codes "Version" ∷ codes "Architecture" ∷ []
 required docs.Packages = codes "Package" ∷ codes "Version" ∷ codes "Architecture" ∷ []
 required docs.Source = codes "Format" ∷ codes "Source" ∷ codes "Version" ∷ []
 required docs.Sources = codes "Package" ∷ codes "Version" ∷ []
+required docs.Status = codes "Package" ∷ codes "Status" ∷ []
 required docs.Any = []
 
 -- The kind of a field goes by its name without case alone.
@@ -170,38 +174,40 @@ HasKindInEach kind names =
     × HasKind docs.Packages kind names
     × HasKind docs.Source kind names
     × HasKind docs.Sources kind names
+    × HasKind docs.Status kind names
 
 names : HasKindInEach Name (codes "Package" ∷ codes "pACKAGE" ∷ [])
 unfolding kind_of kind_at known_row
-names = (refl, refl, refl, refl)
+names = (refl, refl, refl, refl, refl)
 
 sources : HasKindInEach Source (codes "Source" ∷ codes "SOURCE" ∷ [])
 unfolding kind_of kind_at known_row
-sources = (refl, refl, refl, refl)
+sources = (refl, refl, refl, refl, refl)
 
 versions : HasKindInEach Version (codes "Version" ∷ codes "version" ∷ [])
 unfolding kind_of kind_at known_row
-versions = (refl, refl, refl, refl)
+versions = (refl, refl, refl, refl, refl)
 
 architectures : HasKind docs.Binary Architecture (codes "Architecture" ∷ codes "architecturE" ∷ [])
     × HasKind docs.Packages Architecture (codes "Architecture" ∷ codes "ARCHITECTURE" ∷ [])
     × HasKind docs.Source ArchitectureWords (codes "Architecture" ∷ codes "architecture" ∷ [])
     × HasKind docs.Sources ArchitectureWords (codes "Architecture" ∷ codes "ARCHITecture" ∷ [])
+    × HasKind docs.Status Architecture (codes "Architecture" ∷ codes "arCHITECTURE" ∷ [])
 unfolding kind_of kind_at known_row
-architectures = (refl, refl, refl, refl)
+architectures = (refl, refl, refl, refl, refl)
 
 flags : HasKindInEach Flag (codes "Essential" ∷ codes "eSSENTIAL" ∷ [])
 unfolding kind_of kind_at known_row
-flags = (refl, refl, refl, refl)
+flags = (refl, refl, refl, refl, refl)
 
 multi_archs : HasKindInEach MultiArch (codes "Multi-Arch" ∷ codes "MULTI-arch" ∷ [])
 unfolding kind_of kind_at known_row
-multi_archs = (refl, refl, refl, refl)
+multi_archs = (refl, refl, refl, refl, refl)
 
 numbers : HasKindInEach Number
     (codes "Installed-Size" ∷ codes "Size" ∷ codes "INSTALLED-SIZE" ∷ codes "sIZE" ∷ [])
 unfolding kind_of kind_at known_row
-numbers = (refl, refl, refl, refl)
+numbers = (refl, refl, refl, refl, refl)
 
 lines : HasKindInEach Line
     (codes "Maintainer" ∷ codes "Homepage" ∷ codes "Section" ∷ codes "Priority"
@@ -209,12 +215,12 @@ lines : HasKindInEach Line
     ∷ codes "maintainer" ∷ codes "HOMEPAGE" ∷ codes "SECTION" ∷ codes "priority"
     ∷ codes "fileName" ∷ codes "fORMAT" ∷ codes "standards-version" ∷ [])
 unfolding kind_of kind_at known_row
-lines = (refl, refl, refl, refl)
+lines = (refl, refl, refl, refl, refl)
 
 lists : HasKindInEach Folded
     (codes "Binary" ∷ codes "Uploaders" ∷ codes "BINARY" ∷ codes "uploaders" ∷ [])
 unfolding kind_of kind_at known_row
-lists = (refl, refl, refl, refl)
+lists = (refl, refl, refl, refl, refl)
 
 dependencies : HasKindInEach (Relation Depends)
     (codes "Depends" ∷ codes "Pre-Depends" ∷ codes "Recommends" ∷ codes "Suggests"
@@ -224,7 +230,7 @@ dependencies : HasKindInEach (Relation Depends)
     ∷ codes "enhances" ∷ codes "build-depends" ∷ codes "BUILD-DEPENDS-INDEP"
     ∷ codes "build-Depends-arch" ∷ [])
 unfolding kind_of kind_at known_row
-dependencies = (refl, refl, refl, refl)
+dependencies = (refl, refl, refl, refl, refl)
 
 conflicts : HasKindInEach (Relation Conflicts)
     (codes "Breaks" ∷ codes "Conflicts" ∷ codes "Replaces" ∷ codes "Built-Using"
@@ -232,16 +238,17 @@ conflicts : HasKindInEach (Relation Conflicts)
     ∷ codes "BREAKS" ∷ codes "conflicts" ∷ codes "REPLACES" ∷ codes "built-using"
     ∷ codes "build-conflicts" ∷ codes "build-conflicts-indep" ∷ codes "BUILD-CONFLICTS-ARCH" ∷ [])
 unfolding kind_of kind_at known_row
-conflicts = (refl, refl, refl, refl)
+conflicts = (refl, refl, refl, refl, refl)
 
 provides : HasKindInEach (Relation Provides) (codes "Provides" ∷ codes "PROVIDES" ∷ [])
 unfolding kind_of kind_at known_row
-provides = (refl, refl, refl, refl)
+provides = (refl, refl, refl, refl, refl)
 
 -- texts of the table, fields of Debian's files that aren't in it, names that nearly are, and no
 -- name
 texts : HasKindInEach Text
-    (codes "Bugs" ∷ codes "Build-Ids" ∷ codes "Description-md5" ∷ codes "Dgit" ∷ codes "Origin"
+    (codes "Status" ∷ codes "sTATUS"
+    ∷ codes "Bugs" ∷ codes "Build-Ids" ∷ codes "Description-md5" ∷ codes "Dgit" ∷ codes "Origin"
     ∷ codes "Python-Version" ∷ codes "Ruby-Versions" ∷ codes "SHA1" ∷ codes "Task"
     ∷ codes "Vcs-Browser" ∷ codes "Description" ∷ codes "Files" ∷ codes "Checksums-Sha1"
     ∷ codes "Checksums-Sha256" ∷ codes "Package-List" ∷ codes "MD5sum" ∷ codes "SHA256"
@@ -250,7 +257,7 @@ texts : HasKindInEach Text
     ∷ codes "Static-Built-Using" ∷ codes "Build-Provides" ∷ codes "Build-Depends-Any"
     ∷ codes "Depend" ∷ codes "Packages" ∷ codes "Multi_Arch" ∷ codes "Version-" ∷ [] ∷ [])
 unfolding kind_of kind_at known_row
-texts = (refl, refl, refl, refl)
+texts = (refl, refl, refl, refl, refl)
 
 -- under Any the same fields are texts too
 texts_of_any : HasKind docs.Any Text
@@ -262,7 +269,8 @@ texts_of_any : HasKind docs.Any Text
     ∷ codes "Suggests" ∷ codes "Enhances" ∷ codes "Build-Depends" ∷ codes "Build-Depends-Indep"
     ∷ codes "Build-Depends-Arch" ∷ codes "Breaks" ∷ codes "Conflicts" ∷ codes "Replaces"
     ∷ codes "Built-Using" ∷ codes "Build-Conflicts" ∷ codes "Build-Conflicts-Indep"
-    ∷ codes "Build-Conflicts-Arch" ∷ codes "Provides" ∷ codes "Files" ∷ codes "vERSION" ∷ [] ∷ [])
+    ∷ codes "Build-Conflicts-Arch" ∷ codes "Provides" ∷ codes "Files" ∷ codes "vERSION"
+    ∷ codes "Status" ∷ codes "STATUS" ∷ [] ∷ [])
 unfolding kind_of kind_at known_row
 texts_of_any = refl
 
@@ -271,8 +279,9 @@ required_fields : (required docs.Binary
     × (required docs.Packages ≡ codes "Package" ∷ codes "Version" ∷ codes "Architecture" ∷ [])
     × (required docs.Source ≡ codes "Format" ∷ codes "Source" ∷ codes "Version" ∷ [])
     × (required docs.Sources ≡ codes "Package" ∷ codes "Version" ∷ [])
+    × (required docs.Status ≡ codes "Package" ∷ codes "Status" ∷ [])
     × (required docs.Any ≡ [])
-required_fields = (refl, refl, refl, refl, refl)
+required_fields = (refl, refl, refl, refl, refl, refl)
 
 -- each row has a name, and no two of them have one name
 pub names_of_rows : (list_all (λ row. is_name row.0) known_fields ≡ true)
@@ -281,7 +290,8 @@ unfolding known_row
 names_of_rows = (refl, refl)
 
 rows_of_names : map known_row
-    (codes "ARCHITECTURE" ∷ codes "package" ∷ codes "version" ∷ codes "Status" ∷ codes "Packag"
-    ∷ [] ∷ []) ≡ 0 ∷ 31 ∷ 53 ∷ row_count ∷ row_count ∷ row_count ∷ []
+    (codes "ARCHITECTURE" ∷ codes "package" ∷ codes "status" ∷ codes "version" ∷ codes "Statu"
+    ∷ codes "Packag" ∷ [] ∷ [])
+    ≡ 0 ∷ 31 ∷ 46 ∷ 54 ∷ row_count ∷ row_count ∷ row_count ∷ []
 unfolding known_row
 rows_of_names = refl

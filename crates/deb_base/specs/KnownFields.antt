@@ -86,14 +86,15 @@ name_at_front = record {
 
 known_names : map begins_with_known
     (codes "Architecture:" ∷ codes "Size: 1" ∷ codes "SHA1:a" ∷ codes "Build-Depends-Arch: a"
-    ∷ codes "Version:" ∷ []) ≡ true ∷ true ∷ true ∷ true ∷ true ∷ []
+    ∷ codes "Status: 1" ∷ codes "Version:" ∷ [])
+    ≡ true ∷ true ∷ true ∷ true ∷ true ∷ true ∷ []
 unfolding begins_with_known
 known_names = refl
 
 -- spelled otherwise, without the colon, with a blank before it, not in the table, longer or shorter
 -- than a name of the table, after a blank, only a colon, empty
 other_lines : map begins_with_known
-    (codes "size: 1" ∷ codes "SIZE: 1" ∷ codes "Size" ∷ codes "Size : 1" ∷ codes "Status: 1"
+    (codes "size: 1" ∷ codes "SIZE: 1" ∷ codes "Size" ∷ codes "Size : 1" ∷ codes "Statu: 1"
     ∷ codes "Sizes: 1" ∷ codes "Siz: 1" ∷ codes " Size: 1" ∷ codes ":" ∷ [] ∷ [])
     ≡ false ∷ false ∷ false ∷ false ∷ false ∷ false ∷ false ∷ false ∷ false ∷ false ∷ []
 unfolding begins_with_known

@@ -15,6 +15,9 @@ pub enum Doc {
     Source,
     /// An index of source packages: any number of paragraphs, also none.
     Sources,
+    /// The status file of dpkg, the packages that it knows of: any number of paragraphs, also none
+    /// (dpkg(1), deb-control(5)).
+    Status,
     /// Any control data: any number of paragraphs, also none. No field is required, and no value is
     /// checked: each is a text.
     Any,
@@ -27,6 +30,7 @@ impl Doc {
         Doc::Packages,
         Doc::Source,
         Doc::Sources,
+        Doc::Status,
         Doc::Any,
     ];
 
@@ -39,6 +43,7 @@ impl Doc {
             Doc::Packages => "packages",
             Doc::Source => "source",
             Doc::Sources => "sources",
+            Doc::Status => "status",
             Doc::Any => "any",
         }
     }
@@ -52,6 +57,7 @@ impl Doc {
             Doc::Packages => "an index of binary packages",
             Doc::Source => "the description of a source package",
             Doc::Sources => "an index of source packages",
+            Doc::Status => "the status file of dpkg",
             Doc::Any => "any control data; its values aren't checked",
         }
     }
@@ -75,6 +81,6 @@ pub fn is_single(doc: Doc) -> bool
 {
     match doc {
         Doc::Binary | Doc::Source => true,
-        Doc::Packages | Doc::Sources | Doc::Any => false,
+        Doc::Packages | Doc::Sources | Doc::Status | Doc::Any => false,
     }
 }

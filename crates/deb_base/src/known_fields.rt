@@ -88,6 +88,7 @@ static FIELDS: [Row; KNOWN_FIELDS] = field_rows! {
     b"Size:---------------------------" b"Size" Kind::Number;
     b"Source:-------------------------" b"Source" Kind::Source;
     b"Standards-Version:--------------" b"Standards-Version" Kind::Line;
+    b"Status:-------------------------" b"Status" Kind::Text;
     b"Suggests:-----------------------" b"Suggests" DEPENDENCY;
     b"Tag:----------------------------" b"Tag" Kind::Text;
     b"Task:---------------------------" b"Task" Kind::Text;
@@ -100,35 +101,39 @@ static FIELDS: [Row; KNOWN_FIELDS] = field_rows! {
 
 /// For each number that `front_number` returns: the first of the rows whose names have it.
 static FIRST_LIKELY: [u8; 128] = [
-    25, 0, 45, 0, 0, 0, 0, 0, 0, 0, 0, 0, 3, 2, 40, 0, 0, 42, 0, 0, 0, 0, 50, 0, 31, 0, 46, 0, 0,
-    15, 0, 33, 0, 0, 0, 0, 0, 0, 51, 28, 49, 26, 20, 0, 0, 30, 0, 0, 19, 0, 0, 48, 14, 0, 0, 0, 0,
-    0, 21, 0, 0, 0, 37, 38, 0, 36, 0, 0, 0, 0, 0, 0, 18, 0, 0, 0, 0, 47, 0, 27, 0, 0, 0, 0, 39, 35,
+    25, 0, 45, 0, 0, 0, 0, 0, 0, 0, 0, 0, 3, 2, 40, 0, 0, 42, 0, 0, 0, 0, 51, 0, 31, 0, 47, 0, 0,
+    15, 0, 33, 0, 0, 0, 0, 0, 0, 52, 28, 50, 26, 20, 0, 0, 30, 0, 0, 19, 0, 0, 49, 14, 0, 0, 0, 0,
+    0, 21, 0, 0, 0, 37, 38, 0, 36, 0, 0, 0, 0, 0, 0, 18, 0, 0, 0, 0, 48, 0, 27, 0, 0, 0, 0, 39, 35,
     0, 0, 0, 0, 0, 0, 0, 0, 0, 0, 12, 0, 0, 0, 1, 29, 0, 16, 41, 44, 0, 0, 0, 0, 0, 0, 0, 0, 0, 0,
-    0, 53, 22, 0, 0, 34, 0, 0, 4, 24, 43, 0,
+    0, 54, 22, 0, 0, 34, 0, 46, 4, 24, 43, 0,
 ];
 
 /// For each such number the first row after these.
 static END_LIKELY: [u8; 128] = [
-    26, 0, 46, 0, 0, 0, 0, 0, 0, 0, 0, 0, 4, 3, 41, 0, 0, 43, 0, 0, 0, 0, 51, 0, 33, 0, 47, 0, 1,
-    16, 0, 34, 0, 0, 0, 0, 0, 0, 53, 29, 50, 27, 21, 0, 0, 31, 0, 0, 20, 0, 0, 49, 15, 0, 0, 0, 0,
-    0, 22, 0, 0, 0, 38, 39, 0, 37, 0, 0, 0, 0, 0, 0, 19, 0, 0, 0, 0, 48, 0, 28, 0, 0, 0, 0, 40, 36,
+    26, 0, 46, 0, 0, 0, 0, 0, 0, 0, 0, 0, 4, 3, 41, 0, 0, 43, 0, 0, 0, 0, 52, 0, 33, 0, 48, 0, 1,
+    16, 0, 34, 0, 0, 0, 0, 0, 0, 54, 29, 51, 27, 21, 0, 0, 31, 0, 0, 20, 0, 0, 50, 15, 0, 0, 0, 0,
+    0, 22, 0, 0, 0, 38, 39, 0, 37, 0, 0, 0, 0, 0, 0, 19, 0, 0, 0, 0, 49, 0, 28, 0, 0, 0, 0, 40, 36,
     0, 0, 0, 0, 0, 0, 0, 0, 0, 0, 14, 0, 0, 0, 2, 30, 0, 18, 42, 45, 0, 0, 0, 0, 0, 0, 0, 0, 0, 0,
-    0, 54, 24, 0, 0, 35, 0, 0, 12, 25, 44, 0,
+    0, 55, 24, 0, 0, 35, 0, 47, 12, 25, 44, 0,
 ];
 
 /// How many fields the table has.
-pub const KNOWN_FIELDS: usize = 54;
+pub const KNOWN_FIELDS: usize = 55;
 
 /// The rows of the fields that a crate asks for by name. `laws::rows_are_of_their_names` says that
 /// they are right.
 pub mod rows {
     pub const ARCHITECTURE: usize = 0;
 
+    pub const BREAKS: usize = 2;
+
     pub const BUILD_DEPENDS: usize = 7;
 
     pub const BUILD_DEPENDS_ARCH: usize = 8;
 
     pub const BUILD_DEPENDS_INDEP: usize = 9;
+
+    pub const CONFLICTS: usize = 14;
 
     pub const DEPENDS: usize = 15;
 
@@ -146,7 +151,9 @@ pub mod rows {
 
     pub const SOURCE: usize = 44;
 
-    pub const VERSION: usize = 53;
+    pub const STATUS: usize = 46;
+
+    pub const VERSION: usize = 54;
 }
 
 /// A field of the table, or any other field.
@@ -257,7 +264,7 @@ impl FieldId {
     {
         let kind = self.usual_kind();
         match doc {
-            Doc::Binary | Doc::Packages => kind,
+            Doc::Binary | Doc::Packages | Doc::Status => kind,
             Doc::Source | Doc::Sources => in_source(kind),
             Doc::Any => Kind::Text,
         }
@@ -408,7 +415,7 @@ pub fn kind_of(doc: Doc, name: &[u8]) -> Kind
 }
 
 /// Returns the names of the fields that each paragraph of a document of this kind must have (Debian
-/// Policy 5.3 and 5.4).
+/// Policy 5.3 and 5.4; for a status file dpkg(1)).
 pub fn required(doc: Doc) -> &'static [&'static [u8]]
     ensures { map (λ name. name.now) result.now ≡ required doc }
 {
@@ -416,6 +423,7 @@ pub fn required(doc: Doc) -> &'static [&'static [u8]]
         Doc::Binary | Doc::Packages => &[b"Package", b"Version", b"Architecture"],
         Doc::Source => &[b"Format", b"Source", b"Version"],
         Doc::Sources => &[b"Package", b"Version"],
+        Doc::Status => &[b"Package", b"Status"],
         Doc::Any => &[],
     }
 }
@@ -428,6 +436,8 @@ const PACKAGE: FieldId = FieldId(rows::PACKAGE as u8);
 
 const SOURCE: FieldId = FieldId(rows::SOURCE as u8);
 
+const STATUS: FieldId = FieldId(rows::STATUS as u8);
+
 const VERSION: FieldId = FieldId(rows::VERSION as u8);
 
 /// Returns the fields of the table that `required` names, in the same order.
@@ -438,6 +448,7 @@ pub fn required_fields(doc: Doc) -> &'static [FieldId]
         Doc::Binary | Doc::Packages => &[PACKAGE, VERSION, ARCHITECTURE],
         Doc::Source => &[FORMAT, SOURCE, VERSION],
         Doc::Sources => &[PACKAGE, VERSION],
+        Doc::Status => &[PACKAGE, STATUS],
         Doc::Any => &[],
     }
 }

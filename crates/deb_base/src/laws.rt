@@ -5,8 +5,9 @@ ghost use Rattle.deb_base.specs.Kinds.{known_row};
 ghost use Rattle.deb_base.specs.Names.{CanonicalNameTellsSameNames, CanonicalNameIsStable, CanonicalNameIsSameName};
 
 use crate::known_fields::rows::{
-    ARCHITECTURE, BUILD_DEPENDS, BUILD_DEPENDS_ARCH, BUILD_DEPENDS_INDEP, DEPENDS, FORMAT,
-    MULTI_ARCH, PACKAGE, PRE_DEPENDS, PROVIDES, RECOMMENDS, SOURCE, VERSION,
+    ARCHITECTURE, BREAKS, BUILD_DEPENDS, BUILD_DEPENDS_ARCH, BUILD_DEPENDS_INDEP, CONFLICTS,
+    DEPENDS, FORMAT, MULTI_ARCH, PACKAGE, PRE_DEPENDS, PROVIDES, RECOMMENDS, SOURCE, STATUS,
+    VERSION,
 };
 
 /// Two names have the same canonical spelling exactly if they are the same name.
@@ -28,11 +29,12 @@ pub fn canonical_name_is_same_name()
 #[tactic(auto, unfolding(crate::specs::Kinds::known_row))]
 pub fn rows_are_of_their_names()
     ensures { map known_row
-        (codes "Architecture" ∷ codes "Build-Depends" ∷ codes "Build-Depends-Arch"
-        ∷ codes "Build-Depends-Indep" ∷ codes "Depends" ∷ codes "Format" ∷ codes "Multi-Arch"
-        ∷ codes "Package" ∷ codes "Pre-Depends" ∷ codes "Provides" ∷ codes "Recommends"
-        ∷ codes "Source" ∷ codes "Version" ∷ [])
-        ≡ ARCHITECTURE ∷ BUILD_DEPENDS ∷ BUILD_DEPENDS_ARCH ∷ BUILD_DEPENDS_INDEP ∷ DEPENDS
-        ∷ FORMAT ∷ MULTI_ARCH ∷ PACKAGE ∷ PRE_DEPENDS ∷ PROVIDES ∷ RECOMMENDS ∷ SOURCE ∷ VERSION
-        ∷ [] }
+        (codes "Architecture" ∷ codes "Breaks" ∷ codes "Build-Depends"
+        ∷ codes "Build-Depends-Arch" ∷ codes "Build-Depends-Indep" ∷ codes "Conflicts"
+        ∷ codes "Depends" ∷ codes "Format" ∷ codes "Multi-Arch" ∷ codes "Package"
+        ∷ codes "Pre-Depends" ∷ codes "Provides" ∷ codes "Recommends" ∷ codes "Source"
+        ∷ codes "Status" ∷ codes "Version" ∷ [])
+        ≡ ARCHITECTURE ∷ BREAKS ∷ BUILD_DEPENDS ∷ BUILD_DEPENDS_ARCH ∷ BUILD_DEPENDS_INDEP
+        ∷ CONFLICTS ∷ DEPENDS ∷ FORMAT ∷ MULTI_ARCH ∷ PACKAGE ∷ PRE_DEPENDS ∷ PROVIDES
+        ∷ RECOMMENDS ∷ SOURCE ∷ STATUS ∷ VERSION ∷ [] }
 {}

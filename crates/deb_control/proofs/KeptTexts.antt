@@ -108,6 +108,7 @@ text-unknown doc name past = kind_of_canonical_name doc name ∙ ap (kind_in doc
     text docs.Packages = refl
     text docs.Source = refl
     text docs.Sources = refl
+    text docs.Status = refl
 
 no-word : (o : Option ValueMeaning) → IfSome o (λ value. (body : List ℕ) × SpellsKind kinds.Text body value) → (word_of o ≡ []) × (groups_of o ≡ [])
 no-word None spelled = (refl, refl)

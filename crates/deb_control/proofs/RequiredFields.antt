@@ -3,7 +3,7 @@ use Rattle.deb_control.proofs.Common.{◌≡◌, ℕ, ◌<◌, ◌&&◌, ◌||�
 use Rattle.std.proofs.Common.{ltb-true, nat_lt}
 use Rattle.deb_base.proofs.FieldLookups.{same_rows}
 use Rattle.deb_base.specs.Kinds.{known_row, row_count}
-use Rattle.deb_base.specs.declared.doc.Doc.TheVariants.{Binary, Packages, Source, Sources, Any}
+use Rattle.deb_base.specs.declared.doc.Doc.TheVariants.{Binary, Packages, Source, Sources, Status, Any}
 use Rattle.deb_syntax.specs.Raw.{has_field_in}
 use Rattle.deb_control.specs.Required.{have_rows}
 
@@ -26,6 +26,7 @@ known_names Binary = refl
 known_names Packages = refl
 known_names Source = refl
 known_names Sources = refl
+known_names Status = refl
 known_names Any = refl
 
 pub have_rows-required : (doc : Doc) (fields : List Field) → have_rows fields (map known_row (required doc)) ≡ have_names fields (required doc)

@@ -1,5 +1,6 @@
 -- Worked cases of files that are accepted: from the bytes of a file to the values that it means,
--- and on to its canonical text. Debian Policy 5.1, 5.3 (binary packages) and 5.4 (source packages).
+-- and on to its canonical text. Debian Policy 5.1, 5.3 (binary packages) and 5.4 (source packages);
+-- dpkg(1) (the status file).
 use Rattle.std.specs.Prelude.{◌≡◌, ℕ, ◌+◌, ◌≤◌, true, IsTrue, List, [], ◌∷◌, ◌++◌, length, map, Some, None, IsUtf8, codes, refl}
 use Rattle.std.specs.List.{AllByRecursion}
 use Rattle.std.proofs.Math.Dec.{leb}
@@ -14,7 +15,7 @@ use Rattle.deb_syntax.specs.Meaning.{Entries, Means as BodiesAre}
 use Rattle.deb_version.specs.Faults.{first_fault}
 use Rattle.deb_version.specs.Parts.{Meaning as VersionMeaning, no_revision}
 use Rattle.deb_version.proofs.FaultLemmas.{spells-from_no_fault}
-use Rattle.deb_base.specs.declared.doc.Doc.TheVariants.{Packages, Source}
+use Rattle.deb_base.specs.declared.doc.Doc.TheVariants.{Packages, Source, Status}
 use Rattle.deb_base.specs.Kinds.{kind_at, known_row, kind_of}
 use Rattle.deb_relation.specs.declared.operator.Op.TheVariants.{Equal}
 use Rattle.deb_relation.specs.Meaning.{Relation}
@@ -368,3 +369,107 @@ source_written : canonical_text source_meaning
     ++ codes "Source: hello\nVersion: 2.10-3\n"
 unfolding group_text
 source_written = refl
+
+-- a status file: a package that is installed, and one that isn't and has neither a version nor an
+-- architecture
+abbrev status : List ℕ
+status =
+    codes "Package: hello\nStatus: install ok installed\nArchitecture: amd64\nVersion: 01.0-0\n\n"
+    ++ codes "package: aa\nSTATUS: purge ok  not-installed\n"
+
+abbrev installed_fields : List Spelled
+unfolding paragraph_limit
+installed_fields =
+    on_line 1 (codes "Package") (codes " ") (codes "hello") [] refl refl refl refl
+    ∷ on_line 2 (codes "Status") (codes " ") (codes "install ok installed") [] refl refl refl refl
+    ∷ on_line 3 (codes "Architecture") (codes " ") (codes "amd64") [] refl refl refl refl
+    ∷ on_line 4 (codes "Version") (codes " ") (codes "01.0-0") [] refl refl refl refl ∷ []
+
+abbrev other_fields : List Spelled
+unfolding paragraph_limit
+other_fields =
+    on_line 6 (codes "package") (codes " ") (codes "aa") [] refl refl refl refl
+    ∷ on_line 7 (codes "STATUS") (codes " ") (codes "purge ok  not-installed") [] refl refl refl
+    refl ∷ []
+
+abbrev status_bodies : List Entries
+status_bodies =
+    ((codes "Architecture", codes "amd64") ∷ (codes "Package", codes "hello")
+    ∷ (codes "Status", codes "install ok installed") ∷ (codes "Version", codes "01.0-0") ∷ [])
+    ∷ ((codes "Package", codes "aa") ∷ (codes "Status", codes "purge ok  not-installed") ∷ []) ∷ []
+
+abbrev status_meaning : Meaning
+status_meaning =
+    ((codes "Architecture", ArchitectureMeans (codes "amd64"))
+    ∷ (codes "Package", NameMeans (codes "hello"))
+    ∷ (codes "Status", TextMeans (codes "install ok installed"))
+    ∷ (codes "Version", VersionMeans version_1_0) ∷ [])
+    ∷ ((codes "Package", NameMeans (codes "aa"))
+    ∷ (codes "Status", TextMeans (codes "purge ok  not-installed")) ∷ []) ∷ []
+
+status_means : BodiesAre status status_bodies
+unfolding paragraph_limit is_utf8 chars encode
+status_means = (
+  (
+    fields_of_all installed_fields,
+    record {
+      text = (utf8 refl, (utf8 refl, (utf8 refl, (utf8 refl, tt))));
+      spelt = spelled_in_turn 1 installed_fields (refl, (refl, (refl, (refl, tt))));
+      distinct = (refl, (refl, (refl, (refl, tt))));
+    },
+    refl,
+  ),
+  (
+    (
+      fields_of_all other_fields,
+      record {
+        text = (utf8 refl, (utf8 refl, tt));
+        spelt = spelled_in_turn 6 other_fields (refl, (refl, tt));
+        distinct = (refl, (refl, tt));
+      },
+      refl,
+    ),
+    tt,
+  ),
+)
+
+status_spelled : SpellsEntries (SpellsValue Status) status_bodies status_meaning
+unfolding kind_of kind_at known_row first_fault
+status_spelled = (
+  (
+    (refl, (codes "amd64", refl, (refl, refl))),
+    (
+      (refl, (codes "hello", refl, (refl, refl))),
+      (
+        (refl, (codes "install ok installed", refl, (refl, refl))),
+        ((refl, (version_1_0, refl, spells-from_no_fault (codes "01.0-0") refl)), tt),
+      ),
+    ),
+  ),
+  (
+    (
+      (refl, (codes "aa", refl, (refl, refl))),
+      ((refl, (codes "purge ok  not-installed", refl, (refl, refl))), tt),
+    ),
+    tt,
+  ),
+)
+
+status_accepted : Accepted Status status status_meaning
+unfolding file_limit paragraph_limit
+status_accepted =
+    record {
+      short = at_most refl;
+      paragraphs_short = (at_most refl, (at_most refl, tt));
+      means =
+          record { bodies = status_bodies; means = status_means; spelled = status_spelled };
+      one = λ single. absurd (false≢true single);
+      required = (refl, (refl, tt));
+      canonical_short = at_most refl;
+      canonical_paragraphs_short = (at_most refl, (at_most refl, tt));
+    }
+
+status_written : canonical_text status_meaning
+    ≡ codes "Architecture: amd64\nPackage: hello\nStatus: install ok installed\nVersion: 1.0\n\n"
+    ++ codes "Package: aa\nStatus: purge ok  not-installed\n"
+status_written = refl

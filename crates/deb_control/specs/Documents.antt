@@ -1,5 +1,6 @@
 -- What a file means as a document of a kind, and which files are accepted as one. Debian Policy 5.1
--- and 5.3 to 5.6; the limits and the order of refusals are this project's own.
+-- and 5.3 to 5.6; dpkg(1) (the status file); the limits and the order of refusals are this
+-- project's own.
 use Rattle.std.specs.Prelude.{◌≡◌, ℕ, List, [], ◌∷◌, Option, None, Some, Err, codes, refl}
 use Rattle.std.specs.Str.{is_utf8, chars}
 use lib.Utf8.{encode}
@@ -7,7 +8,7 @@ use Rattle.deb_base.specs.Bodies.{paragraph_limit, file_limit}
 use Rattle.deb_version.specs.Faults.{first_fault}
 use Rattle.deb_version.specs.Parts.{no_revision}
 use Rattle.deb_base.specs.declared.code.Code.TheVariants.{DuplicateField, NoColon, NoParagraph, TooManyParagraphs, MissingField, NotOneLine, BadName, BadNumber, BadWord, BadArchitecture, BadVersion, BadRelation, AlternativesNotAllowed, ProvidesBound}
-use Rattle.deb_base.specs.declared.doc.Doc.TheVariants.{Binary, Packages, Source}
+use Rattle.deb_base.specs.declared.doc.Doc.TheVariants.{Binary, Packages, Source, Status}
 use Rattle.deb_base.specs.declared.code.Code.{Code}
 use Rattle.deb_base.specs.declared.refusal.Refusal.{Refusal}
 use Rattle.deb_base.specs.declared.doc.Doc.{Doc}
@@ -124,6 +125,20 @@ relations : (refusal_of Packages
     ≡ Some (record { code = ProvidesBound; line = 4 }))
 unfolding file_limit paragraph_limit is_utf8 chars encode kind_of kind_at known_row first_fault told
 relations = (refl, refl, refl)
+
+-- a status file: Package and Status are asked, and values are judged as those of Packages
+statuses : (refusal_of Status (codes "Package: aa\nVersion: 1\nArchitecture: all")
+    ≡ Some (record { code = MissingField; line = 1 }))
+    × (refusal_of Status (codes "Status: install ok installed\nVersion: 1")
+    ≡ Some (record { code = MissingField; line = 1 }))
+    × (refusal_of Status (codes "Package: aa\nStatus: x\nVersion: 1-")
+    ≡ Some (record { code = BadVersion; line = 3 }))
+    × (refusal_of Status (codes "Package: aa\nArchitecture: any all")
+    ≡ Some (record { code = BadArchitecture; line = 2 }))
+    × (refusal_of Status (codes "Package: aa\nStatus: x\n y\nDepends: bb cc")
+    ≡ Some (record { code = BadRelation; line = 4 }))
+unfolding file_limit paragraph_limit is_utf8 chars encode kind_of kind_at known_row first_fault told
+statuses = (refl, refl, refl, refl, refl)
 
 -- the canonical text of values: fields under their names in ascending order, one empty line between
 -- two paragraphs; of versions the text of their meaning

@@ -10,7 +10,7 @@ use Rattle.deb_syntax.specs.Answers.{Seen}
 use Rattle.deb_syntax.specs.Meaning.{Entries}
 use Rattle.deb_base.specs.Docs.{is_single}
 use Rattle.deb_base.specs.declared.doc.Doc.{Doc}
-use Rattle.deb_base.specs.declared.doc.Doc.TheVariants.{Binary, Packages, Source, Sources, Any}
+use Rattle.deb_base.specs.declared.doc.Doc.TheVariants.{Binary, Packages, Source, Sources, Status, Any}
 use Rattle.deb_control.specs.Canonical.{paragraph_text}
 use Rattle.deb_control.specs.Documents.{rules_of}
 use Rattle.deb_control.specs.Refusals.{built}
@@ -97,8 +97,9 @@ ends_without_paragraph : (end_answer Binary none_given 2
     ≡ Err (Refused (record { code = NoParagraph; line = 3 })))
     × (end_answer Source none_given 0 ≡ Err (Refused (record { code = NoParagraph; line = 1 })))
     × (end_answer Packages none_given 2 ≡ Ok false) × (end_answer Sources none_given 2 ≡ Ok false)
-    × (end_answer Any none_given 2 ≡ Ok false) × (end_answer Binary one_given 2 ≡ Ok false)
-ends_without_paragraph = (refl, refl, refl, refl, refl, refl)
+    × (end_answer Status none_given 2 ≡ Ok false) × (end_answer Any none_given 2 ≡ Ok false)
+    × (end_answer Binary one_given 2 ≡ Ok false)
+ends_without_paragraph = (refl, refl, refl, refl, refl, refl, refl)
 
 abbrev bare : Passing
 bare = record { seen = record { first = 4; fields = [] }; text = [] }

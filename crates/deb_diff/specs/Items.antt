@@ -7,7 +7,7 @@ use Rattle.deb_base.specs.Bodies.{paragraph_limit, file_limit}
 use Rattle.deb_syntax.specs.Fields.{Field}
 use Rattle.deb_syntax.specs.Meaning.{Entries}
 use Rattle.deb_version.specs.Places.{version_in}
-use Rattle.deb_field.specs.Values.{ValueMeaning, NameMeans, SourceMeans, VersionMeans, ArchitectureMeans, ArchitecturesMean, value_text}
+use Rattle.deb_field.specs.Values.{ValueMeaning, NameMeans, SourceMeans, VersionMeans, ArchitectureMeans, ArchitecturesMean, TextMeans, value_text}
 use Rattle.deb_control.specs.Canonical.{paragraph_text}
 use Rattle.deb_control.specs.Documents.{Meaning}
 use Rattle.deb_control.specs.FieldWords.{word_under}
@@ -15,16 +15,17 @@ use Rattle.deb_control.specs.ValueFiles.{ValueEntries, body_under}
 use Rattle.deb_diff.specs.Kinds.{is_binary, name_field}
 use Rattle.deb_diff.specs.Spelled.{fields_after, spelled_in}
 use Rattle.deb_diff.specs.declared.kind.Kind.{Kind}
-use Rattle.deb_diff.specs.declared.kind.Kind.TheVariants.{Packages, Source}
+use Rattle.deb_diff.specs.declared.kind.Kind.TheVariants.{Packages, Source, Status}
 
--- the architecture of a binary package, and `source` for a source package
+-- the architecture of a binary package, or nothing if it has none; `source` for a source package
 abbrev pub architecture_of : Kind → ValueEntries ValueMeaning → List ℕ
 architecture_of kind values =
     cond (is_binary kind) (word_under (codes "Architecture") values) (codes "source")
 
 -- A paragraph: its number in its file, its package or source, its canonical version and the text by
 -- which the file spells it, its architecture, and the canonical texts of its values under the names
--- of their fields, in ascending order of these.
+-- of their fields, in ascending order of these. Of a paragraph of a status file that has no version
+-- or no architecture that text is empty.
 pub record Item : Type 0 where
   pub number : ℕ
   pub name : List ℕ
@@ -97,6 +98,26 @@ worked-binary = (refl, refl, refl)
 
 worked-source : release (item_of Source 1 [] world) ≡ codes "world 1 source"
 worked-source = refl
+
+-- a package of a status file that isn't installed
+abbrev not_installed : ValueEntries ValueMeaning
+not_installed =
+    (codes "Package", NameMeans (codes "aa"))
+    ∷ (codes "Status", TextMeans (codes "purge ok not-installed")) ∷ []
+
+worked-status : (item_of Status 2 [] not_installed
+    ≡ record {
+      number = 2;
+      name = codes "aa";
+      version = [];
+      spelled = [];
+      architecture = [];
+      bodies =
+          (codes "Package", codes "aa") ∷ (codes "Status", codes "purge ok not-installed") ∷ [];
+    })
+    × (release (item_of Status 2 [] not_installed) ≡ codes "aa  ")
+    × (release (item_of Status 7 fields hello) ≡ codes "hello 2.10 amd64")
+worked-status = (refl, refl, refl)
 
 abbrev file : List ℕ
 file = codes "Package: hello\nVersion: 0:2.010-0\n\nSource: world\nVersion: 1\n"

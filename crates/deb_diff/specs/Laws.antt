@@ -1,5 +1,5 @@
 -- Laws of differences. Debian Policy 5.1; the canonical text is this project's own.
-use Rattle.std.specs.Prelude.{◌≡◌, ◌↔◌, ℕ, List, [], None}
+use Rattle.std.specs.Prelude.{◌≡◌, ◌↔◌, ◌⊎◌, ℕ, List, [], None}
 use Rattle.std.specs.List.{AllByRecursion}
 use Rattle.std.specs.List.Sorted.{IsPermutation}
 use Rattle.deb_base.specs.declared.version_text.VersionText.TheVariants.{Canonical}
@@ -14,6 +14,7 @@ use Rattle.deb_diff.specs.Lines.{diff_text, form_of}
 use Rattle.deb_diff.specs.declared.detail.Detail.{Detail}
 use Rattle.deb_diff.specs.declared.form.Form.{Form}
 use Rattle.deb_diff.specs.declared.kind.Kind.{Kind}
+use Rattle.deb_diff.specs.declared.kind.Kind.TheVariants.{Packages, Binary, Sources, Source, Status}
 
 -- There is no line exactly if the files hold the same paragraphs in some order.
 abbrev pub NoLineIfPermuted : Type 0
@@ -52,10 +53,23 @@ pub record SpellsItsVersion (item : Item) : Type 0 where
   pub is_version : first_fault item.spelled ≡ None
   pub canonical : version_text (version_in item.spelled) ≡ item.version
 
+-- The paragraph has no version, and its texts are empty.
+pub record HasNoVersion (item : Item) : Type 0 where
+  pub spelled : item.spelled ≡ []
+  pub canonical : item.version ≡ []
+
+-- A paragraph of the kind spells its version so; of a status file it may have none.
+abbrev pub SpellsAnyVersion : Kind → Item → Type 0
+SpellsAnyVersion Packages item = SpellsItsVersion item
+SpellsAnyVersion Binary item = SpellsItsVersion item
+SpellsAnyVersion Sources item = SpellsItsVersion item
+SpellsAnyVersion Source item = SpellsItsVersion item
+SpellsAnyVersion Status item = HasNoVersion item ⊎ SpellsItsVersion item
+
 -- Each paragraph of an accepted file spells its version so. The lines with spelled versions are one
 -- function of the same difference as those with canonical ones, and differ in these words alone:
 -- `printed` is the only word that the choice decides on.
 abbrev pub SpelledVersionsAreEqual : Type 0
 SpelledVersionsAreEqual =
     (kind : Kind) (text : List ℕ) (meaning : Meaning) → Accepted (doc_of kind) text meaning
-    → AllByRecursion SpellsItsVersion (items_of kind text meaning)
+    → AllByRecursion (SpellsAnyVersion kind) (items_of kind text meaning)

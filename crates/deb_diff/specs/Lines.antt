@@ -11,7 +11,7 @@ use Rattle.deb_base.specs.declared.version_text.VersionText.TheVariants.{Canonic
 use Rattle.deb_control.specs.Documents.{Meaning}
 use Rattle.deb_version.specs.Faults.{first_fault}
 use Rattle.deb_version.specs.Places.{version_in}
-use Rattle.deb_field.specs.Values.{ValueMeaning, NameMeans, VersionMeans, ArchitectureMeans, NumberMeans}
+use Rattle.deb_field.specs.Values.{ValueMeaning, NameMeans, VersionMeans, ArchitectureMeans, NumberMeans, TextMeans}
 use Rattle.deb_control.specs.ValueFiles.{ValueEntries}
 use Rattle.deb_diff.specs.Differences.{Difference, Fate, Changed, Removed, Upgraded, difference}
 use Rattle.deb_diff.specs.Fields.{differing}
@@ -22,9 +22,9 @@ use Rattle.deb_diff.specs.declared.detail.Detail.{Detail}
 use Rattle.deb_diff.specs.declared.detail.Detail.TheVariants.{Fields, Values}
 use Rattle.deb_diff.specs.declared.form.Form.{Form}
 use Rattle.deb_diff.specs.declared.kind.Kind.{Kind}
-use Rattle.deb_diff.specs.declared.kind.Kind.TheVariants.{Packages}
+use Rattle.deb_diff.specs.declared.kind.Kind.TheVariants.{Packages, Status}
 
--- words with one space between two of them, and a newline
+-- words with one space between two of them, and a newline; a word may be empty
 abbrev pub line_of : List (List ℕ) → List ℕ
 line_of [] = codes "\n"
 line_of (word ∷ []) = word ++ codes "\n"
@@ -183,6 +183,38 @@ worked-spelled : (diff_text Packages (form_of Fields Spelled) old_file new_file 
     ++ codes " +Size: 4\n +Version: 2.10-3\n")
 unfolding digits first_fault file_limit paragraph_limit is_utf8 chars encode
 worked-spelled = (refl, refl, refl)
+
+-- packages of a status file, two of which have no version, and three no architecture
+abbrev before_status : Meaning
+before_status =
+    ((codes "Architecture", ArchitectureMeans (codes "all"))
+    ∷ (codes "Package", NameMeans (codes "hello"))
+    ∷ (codes "Status", TextMeans (codes "install ok installed"))
+    ∷ (codes "Version", VersionMeans (version_in (codes "1.0"))) ∷ [])
+    ∷ ((codes "Package", NameMeans (codes "aa"))
+    ∷ (codes "Status", TextMeans (codes "purge ok not-installed")) ∷ [])
+    ∷ ((codes "Package", NameMeans (codes "bb"))
+    ∷ (codes "Status", TextMeans (codes "purge ok not-installed")) ∷ []) ∷ []
+
+abbrev after_status : Meaning
+after_status =
+    ((codes "Package", NameMeans (codes "aa"))
+    ∷ (codes "Status", TextMeans (codes "install ok unpacked"))
+    ∷ (codes "Version", VersionMeans (version_in (codes "2"))) ∷ [])
+    ∷ ((codes "Architecture", ArchitectureMeans (codes "all"))
+    ∷ (codes "Package", NameMeans (codes "hello"))
+    ∷ (codes "Status", TextMeans (codes "deinstall ok config-files"))
+    ∷ (codes "Version", VersionMeans (version_in (codes "1.0"))) ∷ []) ∷ []
+
+-- what is missing is an empty word; no version is earlier than each version
+worked-status : (diff_text Status (form_of Fields Canonical) [] [] before_status after_status
+    ≡ codes "changed 2 hello 1.0 all Status\nupgraded 1 aa  2  Status Version\n"
+    ++ codes "removed 3 bb  \n")
+    × (diff_text Status (form_of Fields Canonical) [] [] after_status before_status
+    ≡ codes "downgraded 2 aa 2   Status Version\nchanged 1 hello 1.0 all Status\n"
+    ++ codes "added 3 bb  \n")
+unfolding digits first_fault
+worked-status = (refl, refl)
 
 worked-if_values : (if_values Fields (codes " +A: b\n") ≡ [])
     × (if_values Values (codes " +A: b\n") ≡ codes " +A: b\n")

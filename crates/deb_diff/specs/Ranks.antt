@@ -12,7 +12,8 @@ use Rattle.deb_version.specs.Order.{version_cmp}
 use Rattle.deb_version.specs.Parts.{Meaning}
 use Rattle.deb_version.specs.Places.{version_in}
 
--- the version that a text is, if it is one; that of each paragraph of an accepted file is one
+-- the version that a text is, if it is one; that of each paragraph of an accepted file is one,
+-- unless the paragraph has no version
 abbrev pub version_of : List ℕ → Option Meaning
 version_of text = cond (is_some (first_fault text)) None (Some (version_in text))
 

@@ -16,6 +16,8 @@ pub enum Kind {
     Sources,
     /// The description of a source package.
     Source,
+    /// The status file of dpkg, in which a paragraph may have no version and no architecture.
+    Status,
 }
 
 impl Kind {
@@ -28,6 +30,7 @@ impl Kind {
             Kind::Binary => Doc::Binary,
             Kind::Sources => Doc::Sources,
             Kind::Source => Doc::Source,
+            Kind::Status => Doc::Status,
         }
     }
 
@@ -36,7 +39,7 @@ impl Kind {
         ensures { result ≡ is_binary self }
     {
         match self {
-            Kind::Packages | Kind::Binary => true,
+            Kind::Packages | Kind::Binary | Kind::Status => true,
             Kind::Sources | Kind::Source => false,
         }
     }
@@ -46,7 +49,7 @@ impl Kind {
         ensures { result.now ≡ name_field self }
     {
         match self {
-            Kind::Packages | Kind::Binary | Kind::Sources => b"Package",
+            Kind::Packages | Kind::Binary | Kind::Sources | Kind::Status => b"Package",
             Kind::Source => b"Source",
         }
     }

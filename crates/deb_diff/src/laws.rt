@@ -19,7 +19,8 @@ pub fn canonical_text_changes_no_line()
 {}
 
 /// The text by which an accepted file spells the version of a paragraph is a version, and its
-/// canonical text is the canonical version.
+/// canonical text is the canonical version. Of a paragraph of a status file that has no version
+/// both texts are empty.
 pub fn spelled_versions_are_equal()
     ensures { SpelledVersionsAreEqual }
 {}

@@ -19,7 +19,7 @@ use std::test::Fail;
 /// and what is written of it.
 struct Row(Doc, &'static [u8], Result<u64, (Code, u64)>, &'static [u8]);
 
-const ROWS: [Row; 5] = [
+const ROWS: [Row; 6] = [
     Row(Doc::Packages, b" \n\t \n ", Ok(0), b""),
     Row(
         Doc::Packages,
@@ -46,6 +46,12 @@ const ROWS: [Row; 5] = [
         b"\nSource: aa\nVersion: 1\nFiles:\n ab 1 c",
         Err((Code::MissingField, 2)),
         b"",
+    ),
+    Row(
+        Doc::Status,
+        b"Package: aa\nStatus: x\nVersion: 01\n\nstatus:  a  b\npackage: bb\n",
+        Ok(2),
+        b"Package: aa\nStatus: x\nVersion: 1\n\nPackage: bb\nStatus: a  b\n",
     ),
 ];
 

@@ -59,6 +59,13 @@ fn lines_of_all_refusals(rt: HostRuntime) -> Result<(), Fail> {
             0,
             1,
         ),
+        (
+            Doc::Status,
+            b"Package: aa\nStatus: x\n\nPackage: bb\nVersion: 1\n".as_slice(),
+            b"line 4: 12 MissingField\nok 1, 1 refused\n".as_slice(),
+            1,
+            1,
+        ),
     ];
     for (doc, file, lines, passed, refused) in cases {
         let mut held = Vec::new(rt.alloc());

@@ -32,3 +32,4 @@ pub mod Gathered
 pub mod Standings
 pub mod Offered
 pub mod Answering
+pub mod ByName

@@ -23,9 +23,11 @@ any-wider : {X : Type 0} (f g : X → Bool) → ((x : X) → f x ≡ true → g 
 any-wider f g wider [] e = absurd (false≢true e)
 any-wider f g wider (x ∷ xs) e = or-wider (f x) (list_any f xs) (g x) (list_any g xs) (wider x) (any-wider f g wider xs) e
 
-pub has_or_provides : (environment : Environment) (a : Alternative) (p : Listed) → meets environment a p ≡ true → (has_name a.name p || provides a.name p) ≡ true
-has_or_provides environment a p met =
+pub named_or_provided : (a : Alternative) (p : Listed) → meets_by_name a p ≡ true → (has_name a.name p || provides a.name p) ≡ true
+named_or_provided a p =
     or-wider (bytes_eq p.name a.name && meets_bound a.bound p.version) (list_any (provision_meets a) p.provisions) (has_name a.name p) (provides a.name p)
     (and-first (bytes_eq p.name a.name) (meets_bound a.bound p.version))
     (any-wider (provision_meets a) (λ q. bytes_eq q.name a.name) (λ q. and-first (bytes_eq q.name a.name) (provided_meets_bound a.bound q.version)) p.provisions)
-    (and-first (meets_by_name a p) (meets_qualifier environment.target a.qualifier p) met)
+
+pub has_or_provides : (environment : Environment) (a : Alternative) (p : Listed) → meets environment a p ≡ true → (has_name a.name p || provides a.name p) ≡ true
+has_or_provides environment a p met = named_or_provided a p (and-first (meets_by_name a p) (meets_qualifier environment.target a.qualifier p) met)

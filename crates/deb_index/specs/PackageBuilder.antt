@@ -67,7 +67,7 @@ worked-words : map multi_arch_of
     ≡ Some Foreign ∷ None ∷ None ∷ []
 worked-words = refl
 
--- each text from the row of its field: 0, 31, 35 and 53
+-- each text from the row of its field: 0, 31, 35 and 54
 abbrev nowhere : TextSpan
 nowhere = record { start = 0; word_end = 0; end = 0 }
 
@@ -80,7 +80,7 @@ worked-texts : texts_kept (record {
             ++ record { start = 3; word_end = 5; end = 5 }
             ∷ (replicate 3 nowhere
             ++ record { start = 5; word_end = 5; end = 11 }
-            ∷ (replicate 17 nowhere ++ record { start = 11; word_end = 14; end = 14 } ∷ [])));
+            ∷ (replicate 18 nowhere ++ record { start = 11; word_end = 14; end = 14 } ∷ [])));
       };
   multi_arch = Some Foreign;
 }) ≡ record {

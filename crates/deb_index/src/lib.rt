@@ -15,6 +15,7 @@
 
 mod answer;
 mod answer_store;
+mod by_name;
 mod candidates;
 mod crowds;
 mod cut;

@@ -12,13 +12,12 @@ ghost use Rattle.deb_relation.specs.Views.{alternative_of, lent_list_of, name_ke
 ghost use Rattle.deb_index.specs.CanonicalTexts.{OfGroup};
 ghost use Rattle.deb_index.specs.Detailed.{AppendsBelow};
 ghost use Rattle.deb_index.specs.Indexes.{packages_of};
-ghost use Rattle.deb_index.specs.Named.{numbers_of};
 ghost use Rattle.deb_index.specs.Reported.{found_of};
 ghost use Rattle.deb_index.specs.ShownVersions.{shown_by};
-ghost use Rattle.deb_index.specs.Why.{alternative_lines, asked_lines, has_or_provides, line_unless_met, list_lines, lines_below, names_system, nameless_line, system_line, system_lines};
+ghost use Rattle.deb_index.specs.Why.{alternative_lines, asked_lines, line_unless_met, list_lines, lines_below, names_system, nameless_line, system_line, system_lines};
 
 use crate::answer::Found;
-use crate::index::Index;
+use crate::by_name::numbers_under;
 use crate::pieces::{next_alternative, only_alternative};
 use crate::reason::Reason;
 use crate::shown::Versions;
@@ -133,18 +132,6 @@ fn append_asked(
         append_reason(&text, &Found { number, package }, versions, reason, out)?;
     }
     Ok(())
-}
-
-/// The numbers of the packages that have a name or provide it, in ascending order and each once.
-fn numbers_under(alloc: Global, index: &Index, name: &[u8]) -> Result<Vec<u64>, AllocError>
-    ensures { IfOk result (λ numbers. numbers.items
-        ≡ numbers_of (has_or_provides name.now) (packages_of index.now)) }
-{
-    let mut numbers = Vec::from_slice(alloc, index.packages(name))?;
-    numbers.extend_from_slice(index.providers(name))?;
-    numbers.sort_unstable();
-    numbers.dedup();
-    Ok(numbers)
 }
 
 /// Appends the line that no package has the name of an alternative with this text.

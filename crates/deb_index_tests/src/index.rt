@@ -5,7 +5,7 @@ use deb_base::{Code, Fault, Input, Output, Refusal, VersionText};
 use deb_devices::{Pieces, SIZES, Slow, Then};
 use deb_field::MultiArch;
 use deb_index::Verdict::{Ignored, Met, Unmet};
-use deb_index::{DetailedReport, Index, Question, Report};
+use deb_index::{DetailedReport, Index, Question, Report, only_alternative};
 use deb_relation::{Env, Relation};
 use std::alloc::Global;
 use std::io::Write;
@@ -244,6 +244,65 @@ fn entries_that_provide_nothing(rt: HostRuntime) -> Result<(), Fail> {
     Ok(())
 }
 
+/// Packages that have or provide aa, vv and bb, with versions and without; the second provides its
+/// own name.
+const NAMED: &[u8] = b"Package: aa\nVersion: 2\nArchitecture: amd64\nProvides: vv, ww (= 3)\n\n\
+    Package: bb\nVersion: 5\nArchitecture: i386\nProvides: bb (= 7), vv (= 1.00), vv\n\n\
+    Package: aa\nVersion: 2.0-0\nArchitecture: all\nProvides: aa (= 9), aa, uu:any\n\n\
+    Package: vv\nVersion: 4\nArchitecture: amd64\n";
+
+/// An alternative of each form, and the packages of `NAMED` that meet it by name and bound.
+const BY_NAME: [(&[u8], &[u64]); 23] = [
+    (b"aa", &[1, 3]),
+    (b"vv", &[1, 2, 4]),
+    (b"bb", &[2]),
+    (b"a", &[]),
+    (b"aaa", &[]),
+    (b"uu", &[]),
+    (b"zz (>= 0)", &[]),
+    (b"aa (<< 9)", &[1, 3]),
+    (b"aa (>> 2)", &[3]),
+    (b"aa (= 2.0)", &[3]),
+    (b"aa (>= 3)", &[3]),
+    (b"aa (>> 9)", &[]),
+    (b"ww (= 3)", &[1]),
+    (b"ww (= 2)", &[]),
+    (b"vv (>= 0)", &[2, 4]),
+    (b"vv (= 1.0)", &[2]),
+    (b"vv (>> 1.0)", &[4]),
+    (b"bb (= 5)", &[2]),
+    (b"bb (= 7)", &[2]),
+    (b"bb (= 6)", &[]),
+    (b"aa:any", &[1, 3]),
+    (b"bb:arm64 (>= 5)", &[2]),
+    (b"vv [!amd64] <nocheck>", &[1, 2, 4]),
+];
+
+#[test]
+fn what_meets_by_name(rt: HostRuntime) -> Result<(), Fail> {
+    let index = Index::read(rt.alloc(), &mut Input::new(NAMED))?;
+    for (alternative, wanted) in BY_NAME {
+        let numbers = met_by_name(rt.alloc(), &index, alternative)?;
+        assert!(rt;
+            numbers.as_slice() == wanted,
+            "{alternative:?}: {numbers:?}"
+        );
+    }
+    let index = Index::read(rt.alloc(), &mut Input::new(b"".as_slice()))?;
+    let numbers = met_by_name(rt.alloc(), &index, b"aa (= 1)")?;
+    assert!(rt; numbers.is_empty());
+    Ok(())
+}
+
+/// The numbers of the packages that meet the one alternative of a text by name and bound.
+fn met_by_name(alloc: Global, index: &Index, text: &[u8]) -> Result<Vec<u64>, Fail> {
+    let relation = Relation::parse(alloc, text)?;
+    let Some(alternative) = only_alternative(&relation) else {
+        return Err("no alternative".into());
+    };
+    Ok(index.meeting_by_name(alloc, alternative)?)
+}
+
 /// Two thousand packages of one name, which all provide another one and their own.
 #[test]
 fn many_of_one_name(rt: HostRuntime) -> Result<(), Fail> {
@@ -260,15 +319,36 @@ fn many_of_one_name(rt: HostRuntime) -> Result<(), Fail> {
         index.providers(b"aa"),
         index.providers(b"vv"),
     ] {
-        assert!(rt; counts_to(numbers, 2_000));
+        assert!(rt; counts_from(numbers, 1, 2_000));
     }
     assert!(rt; index.packages(b"vv").is_empty());
+    for (alternative, first, count) in MANY_BY_NAME {
+        let numbers = met_by_name(rt.alloc(), &index, alternative)?;
+        assert!(rt; counts_from(&numbers, first, count), "{alternative:?}");
+    }
     Ok(())
 }
 
-/// Whether these are the numbers from 1 to the last one.
-fn counts_to(numbers: &[u64], last: u64) -> bool {
-    numbers.len() as u64 == last && (1..).zip(numbers).all(|(wanted, number)| *number == wanted)
+/// Alternatives, with the first number and the count of the packages that meet them, out of two
+/// thousand: the first has the version 0, and each provides aa in version 1.
+const MANY_BY_NAME: [(&[u8], u64, u64); 9] = [
+    (b"aa", 1, 2_000),
+    (b"vv", 1, 2_000),
+    (b"vv (>= 0)", 1, 0),
+    (b"aa (= 1)", 1, 2_000),
+    (b"aa (= 0)", 1, 1),
+    (b"aa (<< 2)", 1, 2_000),
+    (b"aa (>= 1990)", 1_991, 10),
+    (b"aa (= 1990)", 1_991, 1),
+    (b"aa (>> 1999)", 1, 0),
+];
+
+/// Whether these are so many numbers from the first one on, without a gap.
+fn counts_from(numbers: &[u64], first: u64, count: u64) -> bool {
+    numbers.len() as u64 == count
+        && (first..)
+            .zip(numbers)
+            .all(|(wanted, number)| *number == wanted)
 }
 
 /// The text of a report on what a reader gives.

@@ -5,7 +5,7 @@ use lib.Utf8.{encode}
 use Rattle.std.proofs.Common.{ap, arith, length-append, refl}
 use Rattle.std.proofs.Math.Dec.{lit≤}
 use Rattle.deb_base.specs.Bodies.{newline, paragraph_limit}
-use Rattle.deb_base.specs.Kinds.{known_row}
+use Rattle.deb_base.specs.Kinds.{known_row, row_count}
 use Rattle.deb_base.specs.Literals.{vector}
 use Rattle.deb_syntax.specs.Answers.{Seen}
 use Rattle.deb_syntax.specs.Lines.{Paragraph}
@@ -46,8 +46,9 @@ a_reader = record {
   current = Some (record { from = 2; to = 12; first_line = 5 });
   judged = Some (record { from = 2; to = 9; first_line = 5 });
   spans = vector
-      (record { line = 5; start = 0; colon = 1; end = 7; id = record { 0 = 54 } }
-      ∷ record { line = 7; start = 8; colon = 9; end = 10; id = record { 0 = 54 } } ∷ []) refl;
+      (record { line = 5; start = 0; colon = 1; end = 7; id = record { 0 = row_count } }
+      ∷ record { line = 7; start = 8; colon = 9; end = 10; id = record { 0 = row_count } }
+      ∷ []) refl;
   ends = vector [] refl;
   fault = None;
   near = λ front more whole.

@@ -18,10 +18,8 @@ use Rattle.deb_control.specs.ValueFiles.{ValueEntries}
 use Rattle.deb_control.proofs.CheckedSoFar.{refused_then}
 use Rattle.deb_control.proofs.GivenValues.{accepted-given, pairwise-length, pairwise-push, spelled-given}
 use Rattle.deb_control.proofs.ShownSoFar.{ShownAll, ShownFront, ShownRefused}
-use Rattle.deb_unmet.specs.Asked.{doc_of}
 use Rattle.deb_unmet.specs.Asking.{PutsLines}
-use Rattle.deb_unmet.specs.Fields.{paragraph_lines}
-use Rattle.deb_unmet.specs.Files.{Asks, WritesFront, WritesLines, WritesRead, WritesRefused, WritesSome, WritesUnmet, is_nothing, lines_from, lines_of}
+use Rattle.deb_unmet.specs.Files.{Asks, WritesFront, WritesLines, WritesRead, WritesRefused, WritesSome, WritesFile, is_nothing, lines_from, lines_of}
 use Rattle.deb_unmet.specs.Spelled.{fields_of_seen, version_word}
 use Rattle.deb_unmet.specs.declared.asking.Summary.{Summary}
 
@@ -55,13 +53,13 @@ given-lines asks text n (seen ∷ given) (v ∷ values) same next =
     ∙ ap (λ l. lines_of asks (n + 1) (fields_of_seen (next_answer text n)) v ++ l) (given-lines asks text (n + 1) given values (omega (arith, same)) next.1)
 
 -- what is put of a paragraph with this text of its version
-pub puts_lines : (asks : Asks) (number : ℕ) (fields : List Field) (values : ValueEntries ValueMeaning) (version : List ℕ) (r : Result Bool Fault) (held writes : Option (List ℕ)) → version ≡ version_word asks.versions fields values → PutsLines (paragraph_lines asks.asked asks.environment asks.packages number version values) r held writes → PutsLines (lines_of asks number fields values) r held writes
-puts_lines asks number fields values version r held writes is puts = subst (λ v. PutsLines (paragraph_lines asks.asked asks.environment asks.packages number v values) r held writes) is puts
+pub puts_lines : (asks : Asks) (number : ℕ) (fields : List Field) (values : ValueEntries ValueMeaning) (version : List ℕ) (r : Result Bool Fault) (held writes : Option (List ℕ)) → version ≡ version_word asks.versions fields values → PutsLines (asks.lines number version values) r held writes → PutsLines (lines_of asks number fields values) r held writes
+puts_lines asks number fields values version r held writes is puts = subst (λ v. PutsLines (asks.lines number v values) r held writes) is puts
 
 -- Exactly the lines of these paragraphs were written.
 pub record HasAsked (asks : Asks) (old new : Option (List ℕ)) (empty : Bool) (given : List Seen) : Type 0 where
   pub values : Meaning
-  pub are : Pairwise (AreValuesOf (doc_of asks.asked)) given values
+  pub are : Pairwise (AreValuesOf asks.doc) given values
   pub written : Appends old new (lines_given asks 0 given values)
   pub is_empty : empty ≡ is_nothing (lines_given asks 0 given values)
 
@@ -74,26 +72,26 @@ nothing-both (x ∷ xs) ys = refl
 
 module _ {asks : Asks} {old held : Option (List ℕ)} {empty : Bool} {given : List Seen} (has : HasAsked asks old held empty given) where
   same_length : length has.values ≡ length given
-  same_length = pairwise-length (AreValuesOf (doc_of asks.asked)) given has.values has.are
+  same_length = pairwise-length (AreValuesOf asks.doc) given has.values has.are
 
   -- the same as lines of the file
-  written_of : {text : List ℕ} → AreNext text 0 given → WritesLines asks text (map (bodies_seen (doc_of asks.asked)) given) old held
+  written_of : {text : List ℕ} → AreNext text 0 given → WritesLines asks text (map (bodies_seen asks.doc) given) old held
   written_of {text} next = record {
     values = has.values;
-    are = spelled-given (doc_of asks.asked) given has.values has.are;
+    are = spelled-given asks.doc given has.values has.are;
     written = subst (Appends old held) (given-lines asks text 0 given has.values same_length next) has.written;
   }
 
   -- one paragraph more
-  module _ (seen : Seen) (values : ValueEntries ValueMeaning) (are : AreValuesOf (doc_of asks.asked) seen values) (count : ℕ) (counted : length given ≡ count) where
+  module _ (seen : Seen) (values : ValueEntries ValueMeaning) (are : AreValuesOf asks.doc seen values) (count : ℕ) (counted : length given ≡ count) where
     from_start : 0 + length given ≡ count
     from_start = omega (arith, counted)
 
     more_is : lines_given asks 0 (given ++ seen ∷ []) (has.values ++ values ∷ []) ≡ lines_given asks 0 given has.values ++ lines_of asks (count + 1) seen.fields values
     more_is = lines_given-push asks 0 given has.values seen values same_length ∙ ap (λ k. lines_given asks 0 given has.values ++ lines_of asks (k + 1) seen.fields values) from_start
 
-    more_are : Pairwise (AreValuesOf (doc_of asks.asked)) (given ++ seen ∷ []) (has.values ++ values ∷ [])
-    more_are = pairwise-push (AreValuesOf (doc_of asks.asked)) given has.values seen values has.are are
+    more_are : Pairwise (AreValuesOf asks.doc) (given ++ seen ∷ []) (has.values ++ values ∷ [])
+    more_are = pairwise-push (AreValuesOf asks.doc) given has.values seen values has.are are
 
     pub one_asked : (writes : Option (List ℕ)) (one all : Bool) → PutsLines (lines_of asks (count + 1) seen.fields values) (Ok one) held writes → all ≡ (empty && one) → HasAsked asks old writes all (given ++ seen ∷ [])
     one_asked writes one all puts all_is = record {
@@ -105,27 +103,27 @@ module _ {asks : Asks} {old held : Option (List ℕ)} {empty : Bool} {given : Li
     }
 
     -- or a front of its lines
-    asked_front : {text : List ℕ} (writes : Option (List ℕ)) → AppendsFront held writes (lines_of asks (count + 1) seen.fields values) → AreNext text 0 (given ++ seen ∷ []) → WritesFront asks text (map (bodies_seen (doc_of asks.asked)) (given ++ seen ∷ [])) old writes
+    asked_front : {text : List ℕ} (writes : Option (List ℕ)) → AppendsFront held writes (lines_of asks (count + 1) seen.fields values) → AreNext text 0 (given ++ seen ∷ []) → WritesFront asks text (map (bodies_seen asks.doc) (given ++ seen ∷ [])) old writes
     asked_front {text} writes put next = record {
       values = has.values ++ values ∷ [];
-      are = spelled-given (doc_of asks.asked) (given ++ seen ∷ []) (has.values ++ values ∷ []) more_are;
-      written = subst (AppendsFront old writes) (sym more_is ∙ given-lines asks text 0 (given ++ seen ∷ []) (has.values ++ values ∷ []) (pairwise-length (AreValuesOf (doc_of asks.asked)) (given ++ seen ∷ []) (has.values ++ values ∷ []) more_are) next)
+      are = spelled-given asks.doc (given ++ seen ∷ []) (has.values ++ values ∷ []) more_are;
+      written = subst (AppendsFront old writes) (sym more_is ∙ given-lines asks text 0 (given ++ seen ∷ []) (has.values ++ values ∷ []) (pairwise-length (AreValuesOf asks.doc) (given ++ seen ∷ []) (has.values ++ values ∷ []) more_are) next)
           (AppendsFront-then old held writes _ _ has.written put);
     }
 
-    pub failed_after : (text : List ℕ) (writes : Option (List ℕ)) (fault : Fault) → PutsLines (lines_of asks (count + 1) seen.fields values) (Err fault) held writes → ShownFront (doc_of asks.asked) text (given ++ seen ∷ []) → IfWriteFailed {T = Summary} (Err fault) (WritesSome asks text old writes)
+    pub failed_after : (text : List ℕ) (writes : Option (List ℕ)) (fault : Fault) → PutsLines (lines_of asks (count + 1) seen.fields values) (Err fault) held writes → ShownFront asks.doc text (given ++ seen ∷ []) → IfWriteFailed {T = Summary} (Err fault) (WritesSome asks text old writes)
     failed_after text writes (Refused refusal) puts shown = tt
     failed_after text writes Memory puts shown = tt
     failed_after text writes Read puts shown = tt
     failed_after text writes Write puts shown = record {
-      first = map (bodies_seen (doc_of asks.asked)) (given ++ seen ∷ []);
+      first = map (bodies_seen asks.doc) (given ++ seen ∷ []);
       more = shown.more;
       passed = shown.passed;
       lines = asked_front writes puts shown.next;
     }
 
   -- there is no further paragraph
-  pub all_given : (text : List ℕ) (count : ℕ) → length given ≡ count → AreNext text 0 given → ((meaning : Meaning) → Pairwise (AreValuesOf (doc_of asks.asked)) given meaning → Accepted (doc_of asks.asked) text meaning) → WritesUnmet asks text (record { paragraphs = count; is_empty = empty }) old held
+  pub all_given : (text : List ℕ) (count : ℕ) → length given ≡ count → AreNext text 0 given → ((meaning : Meaning) → Pairwise (AreValuesOf asks.doc) given meaning → Accepted asks.doc text meaning) → WritesFile asks text (record { paragraphs = count; is_empty = empty }) old held
   all_given text count counted next accepted = record {
     meaning = has.values;
     accepted = accepted has.values has.are;
@@ -134,23 +132,23 @@ module _ {asks : Asks} {old held : Option (List ℕ)} {empty : Bool} {given : Li
     is_empty = has.is_empty ∙ ap is_nothing (given-lines asks text 0 given has.values same_length next);
   }
 
-  pub all_asked : (text : List ℕ) (count : ℕ) → length given ≡ count → ShownAll (doc_of asks.asked) text given → WritesUnmet asks text (record { paragraphs = count; is_empty = empty }) old held
-  all_asked text count counted shown = all_given text count counted shown.next (λ meaning are. accepted-given (doc_of asks.asked) text given meaning shown are)
+  pub all_asked : (text : List ℕ) (count : ℕ) → length given ≡ count → ShownAll asks.doc text given → WritesFile asks text (record { paragraphs = count; is_empty = empty }) old held
+  all_asked text count counted shown = all_given text count counted shown.next (λ meaning are. accepted-given asks.doc text given meaning shown are)
 
   -- the file is refused after them
-  pub asked_refused : (text : List ℕ) (fault : Fault) → IfRefused {T = Summary} (Err fault) (ShownRefused (doc_of asks.asked) text given) → IfRefused {T = Summary} (Err fault) (λ refusal. WritesRefused asks text refusal old held)
+  pub asked_refused : (text : List ℕ) (fault : Fault) → IfRefused {T = Summary} (Err fault) (ShownRefused asks.doc text given) → IfRefused {T = Summary} (Err fault) (λ refusal. WritesRefused asks text refusal old held)
   asked_refused text fault refused =
-      refused_then Summary (ShownRefused (doc_of asks.asked) text given) (λ refusal. WritesRefused asks text refusal old held) fault
+      refused_then Summary (ShownRefused asks.doc text given) (λ refusal. WritesRefused asks text refusal old held) fault
       (λ refusal shown. record { refused = ap (λ o. o.refusal) shown.is; lines = subst (λ bodies. WritesLines asks text bodies old held) (ap (λ o. o.passed) (sym shown.is)) (written_of shown.next) }) refused
 
   -- a fault of another kind comes after them
-  pub asked_read : (text : List ℕ) → ShownFront (doc_of asks.asked) text given → WritesRead asks text old held
+  pub asked_read : (text : List ℕ) → ShownFront asks.doc text given → WritesRead asks text old held
   asked_read text shown = record {
     read = shown.read;
     behind = shown.behind;
     whole = shown.whole;
     closed = shown.closed;
-    first = map (bodies_seen (doc_of asks.asked)) given;
+    first = map (bodies_seen asks.doc) given;
     more = shown.more;
     passed = shown.passed;
     all = shown.all;

@@ -1,14 +1,17 @@
 -- Why a group has a line, by its alternatives one after another.
-use Rattle.std.proofs.Common.{◌≡◌, Bool, true, false, cond, not, ◌&&◌, ◌||◌, List, [], ◌∷◌, ◌++◌, None, Some, refl, sym, ap, ◌∙◌}
+use Rattle.std.proofs.Common.{◌≡◌, Bool, true, false, cond, not, ◌&&◌, ◌||◌, List, [], ◌∷◌, ◌++◌, ℕ, Option, None, Some, is_none, refl, sym, ap, ◌∙◌}
 use Rattle.std.specs.List.{list_any}
 use Rattle.deb_version.proofs.CutLemmas.{list_any-at}
 use Rattle.deb_relation.specs.Applying.{Environment}
 use Rattle.deb_relation.specs.Meaning.{Alternative, Group}
+use Rattle.deb_relation.specs.Texts.{group_text}
 use Rattle.deb_index.proofs.Joined.{any-one}
 use Rattle.deb_index.specs.Listed.{Listed}
 use Rattle.deb_unmet.specs.Readings.{applies_by, may, surely}
 use Rattle.deb_unmet.specs.SoFar.{trouble_by, unless_met}
-use Rattle.deb_unmet.specs.Troubles.{can_be_otherwise, is_met, trouble}
+use Rattle.deb_unmet.specs.Files.{is_nothing}
+use Rattle.deb_unmet.specs.Troubles.{can_be_otherwise, group_lines, is_met, trouble, trouble_line}
+use Rattle.deb_unmet.specs.declared.trouble.Trouble.{Trouble}
 use Rattle.deb_unmet.specs.declared.applying.Applies.{Applies}
 use Rattle.deb_unmet.specs.declared.applying.Applies.TheVariants.{Surely, Maybe, Never}
 use Rattle.deb_unmet.specs.declared.group.Readings.{Readings as SoFar}
@@ -77,3 +80,12 @@ module _ (environment : Environment) (packages : List Listed) where
       ∙ ap (λ m. cond (list_any unmet_may group) (cond (m || not so_far.applies) (Some Unsure) (Some Unmet)) None) tried.met
       ∙ ap (λ s. cond (list_any unmet_may group) (cond (list_any met_may group || not s) (Some Unsure) (Some Unmet)) None) tried.applies
       ∙ ap (λ n. cond (not n && list_any unmet_may group) (cond (can_be_otherwise environment packages group) (Some Unsure) (Some Unmet)) None) (sym tried.none)
+
+nothing-line : (why : Option Trouble) (heading field text : List ℕ) → is_nothing (trouble_line why heading field text) ≡ is_none why
+nothing-line None heading field text = refl
+nothing-line (Some Unmet) heading field text = refl
+nothing-line (Some Unsure) heading field text = refl
+
+-- a group has no line exactly if there is no reason for one
+pub nothing-group : (environment : Environment) (packages : List Listed) (heading field : List ℕ) (group : Group) → is_nothing (group_lines environment packages heading field group) ≡ is_none (trouble environment packages group)
+nothing-group environment packages heading field group = nothing-line (trouble environment packages group) heading field (group_text group)

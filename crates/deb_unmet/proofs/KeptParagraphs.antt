@@ -1,24 +1,15 @@
--- Texts that are kept one after another, and what is kept of a paragraph.
+-- Texts that are kept one after another.
 use Rattle.std.proofs.Common.{◌≡◌, ℕ, List, [], ◌∷◌, ◌++◌, drop, length, map, get_or, codes, ap, ◌∙◌, append-nil}
 use Rattle.std.proofs.Math.Seq.{take-append_seam, drop-append_seam}
 use Rattle.std.specs.List.{concat}
-use Rattle.deb_base.specs.declared.doc.Doc.TheVariants as docs
 use Rattle.deb_relation.specs.Views.{names_of}
-use Rattle.deb_syntax.specs.Answers.{Seen}
 use Rattle.deb_syntax.specs.Fields.{Field}
 use Rattle.deb_field.specs.Values.{ValueMeaning}
-use Rattle.deb_control.specs.CheckedStates.{passing_judged}
-use Rattle.deb_control.specs.FieldTexts.{HasTexts, KeepsTexts}
 use Rattle.deb_control.specs.FieldWords.{value_under}
 use Rattle.deb_control.specs.ValueFiles.{ValueEntries}
-use Rattle.deb_control.specs.Visiting.{VisitsValues}
-use Rattle.deb_control.specs.declared.checked_view.CheckedView.{CheckedView}
-use Rattle.deb_control.specs.declared.field_texts.FieldTexts.{FieldTexts}
-use Rattle.deb_control.proofs.KeptTexts.{has-texts}
-use Rattle.deb_control.proofs.PassingParagraphs.{values-passing}
 use Rattle.deb_unmet.specs.Asked.{fields_with}
-use Rattle.deb_unmet.specs.KeptParagraphs.{HoldsTexts, IsKept, cut_texts, paragraph_texts, relation_under, texts_in, texts_kept}
-use Rattle.deb_unmet.specs.Paragraphs.{HaveRelations, IsRelationText, fields_in}
+use Rattle.deb_unmet.specs.KeptParagraphs.{HoldsTexts, cut_texts, paragraph_texts, relation_under, texts_in, texts_kept}
+use Rattle.deb_unmet.specs.Paragraphs.{HaveRelations, IsRelationText}
 use Rattle.deb_unmet.specs.declared.asked.Strength.{Strength}
 use Rattle.deb_unmet.specs.declared.asked.Strength.TheVariants.{Depends, Recommends}
 use Rattle.deb_unmet.specs.declared.kept.KeptParagraph.{KeptParagraph}
@@ -44,10 +35,3 @@ module _ (texts : KeptTexts) (kept : KeptParagraph) (fields : List Field) (value
   pub kept-have : (strength : Strength) → HaveRelations (fields_with strength) (names_of (texts.pre_depends ∷ texts.depends ∷ texts.recommends ∷ [])) values
   kept-have Depends = (text-has (codes "Pre-Depends") texts.pre_depends.now (text-at 4), (text-has (codes "Depends") texts.depends.now (text-at 5), tt))
   kept-have Recommends = (text-has (codes "Pre-Depends") texts.pre_depends.now (text-at 4), (text-has (codes "Depends") texts.depends.now (text-at 5), (text-has (codes "Recommends") texts.recommends.now (text-at 6), tt)))
-
--- a paragraph that was given
-pub is_kept : (texts : FieldTexts) (view : CheckedView) (seen : Seen) (kept : KeptParagraph) → ((values : ValueEntries ValueMeaning) → HasTexts texts values → HoldsTexts (fields_in view) values kept) → VisitsValues KeepsTexts texts docs.Packages seen → (passing_judged view).seen ≡ seen → IsKept seen kept
-is_kept texts view seen kept holds visits same =
-    let found = values-passing docs.Packages seen visits.passes in
-    let has = has-texts texts docs.Packages seen visits found.0 found.1 in
-    record { values = found.0; are = found.1; holds = rw (ap (λ s. s.fields) same) at holds found.0 has }

@@ -7,4 +7,4 @@ pub mod Decided
 pub mod ParagraphLines
 pub mod SpelledVersions
 pub mod KeptParagraphs
-pub mod OwnLines
+pub mod OwnFiles

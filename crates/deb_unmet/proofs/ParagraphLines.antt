@@ -21,7 +21,7 @@ use Rattle.deb_control.proofs.KeptTexts.{has-texts}
 use Rattle.deb_control.proofs.PassingParagraphs.{values-passing}
 use Rattle.deb_index.specs.Listed.{Listed}
 use Rattle.deb_unmet.specs.Asked.{fields_asked, fields_with, name_field, rows_asked, rows_with}
-use Rattle.deb_unmet.specs.Fields.{fields_lines, own_environment, own_or, paragraph_lines}
+use Rattle.deb_unmet.specs.Fields.{fields_lines, heading, own_environment, own_or, paragraph_lines}
 use Rattle.deb_unmet.specs.Paragraphs.{HasTextsOf, HaveRelations, IsRelationText, fields_in, heading_in}
 use Rattle.deb_unmet.specs.Spelled.{version_word}
 use Rattle.deb_unmet.specs.declared.asked.Asked.{Asked}
@@ -48,16 +48,23 @@ relation-at (field ∷ fields) [] values i within have = absurd have
 relation-at (field ∷ fields) (text ∷ texts) values zero within have = have.0
 relation-at (field ∷ fields) (text ∷ texts) values (suc i) within have = relation-at fields texts values i (omega (arith, within)) have.1
 
+-- the heading of the texts is that of the values
+pub heading-of_texts : (p : Paragraph) (values : ValueEntries ValueMeaning) → HasTextsOf p.asked p.texts.now values → heading_in p ≡ heading p.asked p.number p.texts.now.version.now values
+heading-of_texts p values has =
+    let text : List ℕ → List ℕ → List ℕ = λ name architecture.
+    concat (codes " " ∷ decimal p.number ∷ codes " " ∷ name ∷ codes " " ∷ p.texts.now.version.now ∷ codes " " ∷ architecture ∷ codes " " ∷ [])
+    in
+    ap (λ name. text name p.texts.now.architecture.now) has.name
+    ∙ ap (text (word_under (name_field p.asked) values)) has.architecture
+
 -- the lines of all fields, with the heading of the texts, are those of the values
 pub lines-of_texts : (p : Paragraph) (values : ValueEntries ValueMeaning) (environment own : Environment) (packages : List Listed) → HasTextsOf p.asked p.texts.now values → own ≡ own_or (own_environment p.asked environment p.texts.now.architecture.now) environment → fields_lines own packages (heading_in p) values (fields_asked p.asked) ≡ paragraph_lines p.asked environment packages p.number p.texts.now.version.now values
 lines-of_texts p values environment own packages has is_own =
-    let lines : List ℕ → List ℕ → List ℕ = λ name architecture.
-    fields_lines (own_or (own_environment p.asked environment architecture) environment) packages
-    (concat (codes " " ∷ decimal p.number ∷ codes " " ∷ name ∷ codes " " ∷ p.texts.now.version.now ∷ codes " " ∷ architecture ∷ codes " " ∷ [])) values (fields_asked p.asked)
-    in
-    ap (λ e. fields_lines e packages (heading_in p) values (fields_asked p.asked)) is_own
-    ∙ ap (λ name. lines name p.texts.now.architecture.now) has.name
-    ∙ ap (lines (word_under (name_field p.asked) values)) has.architecture
+    let environment_at : List ℕ → Environment = λ architecture. own_or (own_environment p.asked environment architecture) environment in
+    let lines : Environment → List ℕ → List ℕ = λ e head. fields_lines e packages head values (fields_asked p.asked) in
+    ap (λ e. lines e (heading_in p)) is_own
+    ∙ ap (lines (environment_at p.texts.now.architecture.now)) (heading-of_texts p values has)
+    ∙ ap (λ architecture. lines (environment_at architecture) (heading p.asked p.number p.texts.now.version.now values)) has.architecture
 
 -- the texts of relations in the rows of the fields that are asked
 module _ (texts : FieldTexts) (values : ValueEntries ValueMeaning) (has : HasTexts texts values) where

@@ -8,6 +8,7 @@ use Rattle.deb_base.specs.Bodies.{paragraph_limit, file_limit}
 use Rattle.deb_base.specs.Kinds.{kind_at, kind_of, known_row, required}
 use Rattle.deb_base.specs.Names.{canonical_name, folded}
 use Rattle.deb_base.specs.declared.kind.Kind.TheVariants.{Version}
+use Rattle.deb_base.specs.declared.version_text.VersionText.{VersionText}
 use Rattle.deb_base.specs.declared.version_text.VersionText.TheVariants.{Canonical, Spelled}
 use Rattle.deb_syntax.specs.Answers.{answer_of_first, next_answer, paragraph_answer, paragraphs_within, seen_from}
 use Rattle.deb_syntax.specs.Fields.{AreDistinct, Field, IsShort}
@@ -31,20 +32,17 @@ use Rattle.deb_field.specs.CanonLaw.{Through}
 use Rattle.deb_field.specs.ValueLaws.{value_law}
 use Rattle.deb_field.specs.Values.{SpellsKind, SpellsValue, ValueMeaning, VersionMeans, value_text}
 use Rattle.deb_control.specs.Acceptance.{has_values}
-use Rattle.deb_control.specs.Documents.{Meaning}
+use Rattle.deb_control.specs.Documents.{Accepted, Meaning}
 use Rattle.deb_control.specs.Pairs.{Pairwise}
 use Rattle.deb_control.specs.ValueFiles.{SpellsEntries, SpellsEntry, ValueEntries}
 use Rattle.deb_control.proofs.FieldValues.{is_some-find}
 use Rattle.deb_control.proofs.FollowedParagraphs.{drop_one}
 use Rattle.deb_control.proofs.ValueBodies.{value_at}
-use Rattle.deb_index.specs.Listed.{Listed}
-use Rattle.deb_relation.specs.Applying.{Environment}
-use Rattle.deb_unmet.specs.Asked.{doc_of, request_for}
-use Rattle.deb_unmet.specs.Asking.{asks_of}
+use Rattle.deb_unmet.specs.Asked.{doc_of}
 use Rattle.deb_control.specs.FieldWords.{word_in, word_of, word_under}
 use Rattle.deb_unmet.specs.Fields.{paragraph_lines}
 use Rattle.deb_unmet.specs.Files.{Asks, lines_from, lines_of}
-use Rattle.deb_unmet.specs.Laws.{SpelledVersionsAreEqual, lines_with}
+use Rattle.deb_unmet.specs.Laws.{SpelledVersionsAreEqual, SpellsVersions, lines_with}
 use Rattle.deb_unmet.specs.Spelled.{fields_after, fields_of_seen, spelled_in, text_in, version_word}
 use Rattle.deb_unmet.specs.declared.asked.Asked.{Asked}
 use Rattle.deb_unmet.specs.declared.asked.Asked.TheVariants.{Packages, Binary, Sources, Source}
@@ -53,8 +51,8 @@ use Rattle.deb_unmet.specs.declared.asked.Asked.TheVariants.{Packages, Binary, S
 pub canonical_lines : (asks : Asks) → asks.versions ≡ Canonical → (text other : List ℕ) (n : ℕ) (meaning : Meaning) → lines_from asks text n meaning ≡ lines_from asks other n meaning
 canonical_lines asks is text other n [] = refl
 canonical_lines asks is text other n (values ∷ more) =
-    ap (λ v. paragraph_lines asks.asked asks.environment asks.packages (n + 1) (version_word v (fields_after text n) values) values ++ lines_from asks text (n + 1) more) is
-    ∙ ap (λ v. paragraph_lines asks.asked asks.environment asks.packages (n + 1) (version_word v (fields_after other n) values) values ++ lines_from asks text (n + 1) more) (sym is)
+    ap (λ v. asks.lines (n + 1) (version_word v (fields_after text n) values) values ++ lines_from asks text (n + 1) more) is
+    ∙ ap (λ v. asks.lines (n + 1) (version_word v (fields_after other n) values) values ++ lines_from asks text (n + 1) more) (sym is)
     ∙ ap (λ l. lines_of asks (n + 1) (fields_after other n) values ++ l) (canonical_lines asks is text other (n + 1) more)
 
 some_of : {A : Type 0} (o : Option A) → is_some o ≡ true → (a : A) × (o ≡ Some a)
@@ -122,12 +120,16 @@ record Spells (spelled canonical : Asks) (text : List ℕ) (n : ℕ) (meaning : 
   pub in_spelled : lines_from spelled text n meaning ≡ lines_with spelled n words meaning
   pub in_canonical : lines_from canonical text n meaning ≡ lines_with spelled n (map (λ word. version_text (version_in word)) words) meaning
 
-module _ (asked : Asked) (environment : Environment) (packages : List Listed) (text : List ℕ) (short : length text ≤ file_limit) where
+-- what is asked of a kind of file that has versions, with these lines
+abbrev pub asks_with : Asked → (ℕ → List ℕ → ValueEntries ValueMeaning → List ℕ) → VersionText → Asks
+asks_with asked lines versions = record { doc = doc_of asked; versions = versions; lines = lines }
+
+module _ (asked : Asked) (lines : ℕ → List ℕ → ValueEntries ValueMeaning → List ℕ) (text : List ℕ) (short : length text ≤ file_limit) where
   abbrev spelled : Asks
-  spelled = asks_of (request_for asked Spelled) environment packages
+  spelled = asks_with asked lines Spelled
 
   abbrev canonical : Asks
-  canonical = asks_of (request_for asked Canonical) environment packages
+  canonical = asks_with asked lines Canonical
 
   -- the next paragraph is the first of those that are left
   next_is : (n : ℕ) (p : Paragraph) (more : List Paragraph) (fields : List Field) → drop n (paragraphs_of text) ≡ p ∷ more → IsShort p → judged p.first p.lines ≡ Ok fields → next_answer text n ≡ Ok (Some (record { first = p.first; fields = fields }))
@@ -153,10 +155,14 @@ module _ (asked : Asked) (environment : Environment) (packages : List Listed) (t
         each = ap suc rest.each;
         are_versions = (one.is_version, rest.are_versions);
         in_spelled = ap (λ f. lines_of spelled (n + 1) f values ++ lines_from spelled text (n + 1) more) found ∙ ap (λ l. lines_of spelled (n + 1) fields values ++ l) rest.in_spelled;
-        in_canonical = ap (λ w. paragraph_lines asked environment packages (n + 1) w values ++ lines_from canonical text (n + 1) more) one.word ∙ ap (λ l. paragraph_lines asked environment packages (n + 1) (version_text (version_in (spelled_in fields))) values ++ l) rest.in_canonical;
+        in_canonical = ap (λ w. lines (n + 1) w values ++ lines_from canonical text (n + 1) more) one.word ∙ ap (λ l. lines (n + 1) (version_text (version_in (spelled_in fields))) values ++ l) rest.in_canonical;
       }
 
-pub spelled_versions_are_equal : SpelledVersionsAreEqual
-spelled_versions_are_equal asked environment packages text meaning accepted =
-    let all = walk asked environment packages text accepted.short 0 (paragraphs_of text) accepted.means.bodies meaning refl (paragraphs_of-IsRun text) accepted.paragraphs_short accepted.means.means accepted.means.spelled accepted.required in
+-- Of an accepted file the spelled versions are equal to the canonical ones, whatever the lines are.
+pub spelled_versions : (asked : Asked) (lines : ℕ → List ℕ → ValueEntries ValueMeaning → List ℕ) (text : List ℕ) (meaning : Meaning) → Accepted (doc_of asked) text meaning → SpellsVersions (asks_with asked lines) text meaning
+spelled_versions asked lines text meaning accepted =
+    let all = walk asked lines text accepted.short 0 (paragraphs_of text) accepted.means.bodies meaning refl (paragraphs_of-IsRun text) accepted.paragraphs_short accepted.means.means accepted.means.spelled accepted.required in
     record { words = all.words; each = all.each; are_versions = all.are_versions; spelled = all.in_spelled; canonical = all.in_canonical }
+
+pub spelled_versions_are_equal : SpelledVersionsAreEqual
+spelled_versions_are_equal asked environment packages text meaning accepted = spelled_versions asked (paragraph_lines asked environment packages) text meaning accepted

@@ -12,7 +12,8 @@ use Rattle.deb_relation.specs.Texts.{group_text}
 use Rattle.deb_field.specs.Values.{NameMeans, RelationMeans}
 use Rattle.deb_index.specs.Alternatives.{alone}
 use Rattle.deb_index.specs.Listed.{Listed}
-use Rattle.deb_unmet.specs.Asked.{request_for}
+use Rattle.deb_unmet.specs.Asked.{doc_of, request_for}
+use Rattle.deb_unmet.specs.Fields.{paragraph_lines}
 use Rattle.deb_unmet.specs.Files.{Asks, is_nothing, lines_of}
 use Rattle.deb_unmet.specs.declared.asked.Request.{Request}
 use Rattle.deb_unmet.specs.declared.asked.Asked.TheVariants.{Sources}
@@ -20,10 +21,9 @@ use Rattle.deb_unmet.specs.declared.asked.Asked.TheVariants.{Sources}
 abbrev pub asks_of : Request → Environment → List Listed → Asks
 asks_of request environment packages =
     record {
-      asked = request.asked;
+      doc = doc_of request.asked;
       versions = request.versions;
-      environment = environment;
-      packages = packages;
+      lines = paragraph_lines request.asked environment packages;
     }
 
 -- Ok: these lines were written, and it says whether there is none. Out of memory: nothing was. A

@@ -6,6 +6,8 @@ use lib.Utf8.{encode}
 use Rattle.std.specs.Io.KnownBytes.{Appends}
 use Rattle.deb_base.specs.Bodies.{paragraph_limit, file_limit}
 use Rattle.deb_base.specs.Devices.{AppendsFront}
+use Rattle.deb_base.specs.declared.doc.Doc.{Doc}
+use Rattle.deb_base.specs.declared.doc.Doc.TheVariants as docs
 use Rattle.deb_base.specs.declared.refusal.Refusal.{Refusal}
 use Rattle.deb_base.specs.declared.version_text.VersionText.{VersionText}
 use Rattle.deb_base.specs.declared.version_text.VersionText.TheVariants.{Canonical, Spelled}
@@ -13,7 +15,6 @@ use Rattle.deb_syntax.specs.Fields.{Field}
 use Rattle.deb_syntax.specs.Lines.{IsClosed}
 use Rattle.deb_syntax.specs.Meaning.{Entries}
 use Rattle.deb_syntax.specs.Reading.{passed_count}
-use Rattle.deb_relation.specs.Applying.{Environment}
 use Rattle.deb_relation.specs.Environments.{environment_with}
 use Rattle.deb_relation.specs.Texts.{group_text}
 use Rattle.deb_version.specs.Places.{version_in}
@@ -22,27 +23,22 @@ use Rattle.deb_control.specs.Documents.{Meaning, Accepted, refusal_of, rules_of}
 use Rattle.deb_control.specs.Refusals.{outcome}
 use Rattle.deb_control.specs.ValueFiles.{SpellsEntries, ValueEntries}
 use Rattle.deb_index.specs.Alternatives.{alone}
-use Rattle.deb_index.specs.Listed.{Listed}
-use Rattle.deb_unmet.specs.Asked.{doc_of}
 use Rattle.deb_unmet.specs.Fields.{paragraph_lines}
 use Rattle.deb_unmet.specs.Spelled.{fields_after, version_word}
-use Rattle.deb_unmet.specs.declared.asked.Asked.{Asked}
 use Rattle.deb_unmet.specs.declared.asked.Asked.TheVariants.{Sources}
 use Rattle.deb_unmet.specs.declared.asking.Summary.{Summary}
 
--- what is asked: of which kind of file, for which environment, and of which packages; and which
--- text of a version the lines have
+-- what is asked: of which kind of file, which text of a version the lines have, and the lines of
+-- the paragraph of a number, with a text of its version and its values
 pub record Asks : Type 0 where
-  pub asked : Asked
+  pub doc : Doc
   pub versions : VersionText
-  pub environment : Environment
-  pub packages : List Listed
+  pub lines : ℕ → List ℕ → ValueEntries ValueMeaning → List ℕ
 
 -- the lines of a paragraph with these fields, which have these values
 abbrev pub lines_of : Asks → ℕ → List Field → ValueEntries ValueMeaning → List ℕ
 lines_of asks number fields values =
-    paragraph_lines asks.asked asks.environment asks.packages number
-    (version_word asks.versions fields values) values
+    asks.lines number (version_word asks.versions fields values) values
 
 -- the lines of a file's paragraphs that come after so many
 abbrev pub lines_from : Asks → List ℕ → ℕ → Meaning → List ℕ
@@ -63,21 +59,21 @@ is_nothing (x ∷ xs) = false
 pub record WritesLines (asks : Asks) (text : List ℕ) (bodies : List Entries)
     (old new : Option (List ℕ)) : Type 0 where
   pub values : Meaning
-  pub are : SpellsEntries (SpellsValue (doc_of asks.asked)) bodies values
+  pub are : SpellsEntries (SpellsValue asks.doc) bodies values
   pub written : Appends old new (file_lines asks text values)
 
 pub record WritesFront (asks : Asks) (text : List ℕ) (bodies : List Entries)
     (old new : Option (List ℕ)) : Type 0 where
   pub values : Meaning
-  pub are : SpellsEntries (SpellsValue (doc_of asks.asked)) bodies values
+  pub are : SpellsEntries (SpellsValue asks.doc) bodies values
   pub written : AppendsFront old new (file_lines asks text values)
 
 -- The file is accepted, exactly its lines were written, and the summary says how many paragraphs it
 -- has and whether there is no line.
-pub record WritesUnmet (asks : Asks) (text : List ℕ) (summary : Summary)
+pub record WritesFile (asks : Asks) (text : List ℕ) (summary : Summary)
     (old new : Option (List ℕ)) : Type 0 where
   pub meaning : Meaning
-  pub accepted : Accepted (doc_of asks.asked) text meaning
+  pub accepted : Accepted asks.doc text meaning
   pub count : length meaning ≡ summary.paragraphs
   pub written : Appends old new (file_lines asks text meaning)
   pub is_empty : summary.is_empty ≡ is_nothing (file_lines asks text meaning)
@@ -86,8 +82,8 @@ pub record WritesUnmet (asks : Asks) (text : List ℕ) (summary : Summary)
 -- written.
 pub record WritesRefused (asks : Asks) (text : List ℕ) (refusal : Refusal)
     (old new : Option (List ℕ)) : Type 0 where
-  pub refused : refusal_of (doc_of asks.asked) text ≡ Some refusal
-  pub lines : WritesLines asks text (outcome (rules_of (doc_of asks.asked)) text).passed old new
+  pub refused : refusal_of asks.doc text ≡ Some refusal
+  pub lines : WritesLines asks text (outcome (rules_of asks.doc) text).passed old new
 
 -- A front of the file was read that ends with a blank line and its newline, or is all of it: its
 -- paragraphs are the first of those that pass, and so they are where that front is a file of its
@@ -99,26 +95,25 @@ pub record WritesRead (asks : Asks) (text : List ℕ) (old new : Option (List �
   pub closed : IsClosed read ⊎ (behind ≡ [])
   pub first : List Entries
   pub more : List Entries
-  pub passed : (outcome (rules_of (doc_of asks.asked)) text).passed ≡ first ++ more
+  pub passed : (outcome (rules_of asks.doc) text).passed ≡ first ++ more
   pub all : passed_count read ≡ length first
-  pub alone : (outcome (rules_of (doc_of asks.asked)) read).passed ≡ first
+  pub alone : (outcome (rules_of asks.doc) read).passed ≡ first
   pub lines : WritesLines asks text first old new
 
 -- These paragraphs pass, others may follow them, and a front of their lines was written.
 pub record WritesSome (asks : Asks) (text : List ℕ) (old new : Option (List ℕ)) : Type 0 where
   pub first : List Entries
   pub more : List Entries
-  pub passed : (outcome (rules_of (doc_of asks.asked)) text).passed ≡ first ++ more
+  pub passed : (outcome (rules_of asks.doc) text).passed ≡ first ++ more
   pub lines : WritesFront asks text first old new
 
 -- For amd64 and no packages: two source packages, of which the second has unmet groups and spells
 -- its version otherwise than the canonical text does.
 abbrev pub asks : VersionText → Asks
 asks versions = record {
-  asked = Sources;
+  doc = docs.Sources;
   versions = versions;
-  environment = environment_with (codes "amd64") [];
-  packages = [];
+  lines = paragraph_lines Sources (environment_with (codes "amd64") []) [];
 }
 
 abbrev pub without : ValueEntries ValueMeaning

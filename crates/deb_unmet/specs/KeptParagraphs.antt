@@ -1,21 +1,16 @@
 -- What is kept of the paragraphs of an index until all of them are read. Debian Policy 5.3, 5.6 and
 -- 7.2; which texts are kept, and how, is this project's own.
 use Rattle.std.specs.Prelude.{◌≡◌, ℕ, List, [], ◌∷◌, take, drop, codes, refl}
-use Rattle.deb_base.specs.declared.doc.Doc.TheVariants.{Packages}
 use Rattle.deb_relation.specs.Regular.{IsRegularRelation}
 use Rattle.deb_relation.specs.Texts.{group_text, relation_text}
-use Rattle.deb_syntax.specs.Answers.{Seen}
 use Rattle.deb_syntax.specs.Fields.{Field}
 use Rattle.deb_version.specs.Places.{version_in}
 use Rattle.deb_field.specs.Values.{ValueMeaning, NameMeans, VersionMeans, ArchitectureMeans, RelationMeans}
 use Rattle.deb_control.specs.FieldWords.{groups_of, value_under, word_under}
-use Rattle.deb_control.specs.Pairs.{Pairwise}
-use Rattle.deb_control.specs.Paragraphs.{AreValuesOf}
 use Rattle.deb_control.specs.ValueFiles.{ValueEntries}
 use Rattle.deb_index.specs.Alternatives.{alone}
 use Rattle.deb_unmet.specs.Spelled.{spelled_in}
 use Rattle.deb_unmet.specs.declared.kept.KeptParagraph.{KeptParagraph}
-use Rattle.deb_unmet.specs.declared.kept.KeptParagraphs.{KeptParagraphs}
 use Rattle.deb_unmet.specs.declared.kept.KeptTexts.{KeptTexts}
 use Rattle.deb_unmet.specs.declared.kept.TextLens.{TextLens}
 use Rattle.deb_base.specs.Literals.{lent, vector}
@@ -54,19 +49,6 @@ pub record HoldsTexts (fields : List Field) (values : ValueEntries ValueMeaning)
     (kept : KeptParagraph) : Type 0 where
   pub texts : texts_kept kept ≡ paragraph_texts fields values
   pub regular : (name : List ℕ) → IsRegularRelation (groups_of (value_under name values))
-
--- This is kept of a paragraph that passes.
-pub record IsKept (seen : Seen) (kept : KeptParagraph) : Type 0 where
-  pub values : ValueEntries ValueMeaning
-  pub are : AreValuesOf Packages seen values
-  pub holds : HoldsTexts seen.fields values kept
-
--- This is kept of these paragraphs.
-abbrev pub AreKept : List KeptParagraph → List Seen → Type 0
-AreKept kept given = Pairwise IsKept given kept
-
-abbrev pub KeepsParagraphs : KeptParagraphs → List Seen → Type 0
-KeepsParagraphs kept given = AreKept kept.paragraphs.items given
 
 -- a package without Pre-Depends, which spells its version otherwise than the canonical text does
 abbrev fields : List Field

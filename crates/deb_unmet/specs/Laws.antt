@@ -7,6 +7,7 @@ use Rattle.std.specs.Str.{bytes_eq}
 use Rattle.deb_relation.specs.Applying.{Environment}
 use Rattle.deb_relation.specs.Meaning.{Group}
 use Rattle.deb_base.specs.declared.doc.Doc.TheVariants.{Packages}
+use Rattle.deb_base.specs.declared.version_text.VersionText.{VersionText}
 use Rattle.deb_base.specs.declared.version_text.VersionText.TheVariants.{Canonical, Spelled}
 use Rattle.deb_version.specs.Canonical.{version_text}
 use Rattle.deb_version.specs.Faults.{first_fault}
@@ -20,7 +21,6 @@ use Rattle.deb_index.specs.declared.verdict.Verdict.{Verdict}
 use Rattle.deb_index.specs.declared.verdict.Verdict.TheVariants.{Ignored, Met, Unmet}
 use Rattle.deb_unmet.specs.Asked.{doc_of, request_for}
 use Rattle.deb_unmet.specs.Asking.{asks_of}
-use Rattle.deb_unmet.specs.Fields.{paragraph_lines}
 use Rattle.deb_unmet.specs.Files.{Asks, file_lines, asks as asks_with, without, with_two}
 use Rattle.deb_unmet.specs.GroupReadings.{EachReading, IsMeaning, SomeReading, verdict_in}
 use Rattle.deb_unmet.specs.Readings.{applies_by}
@@ -56,23 +56,20 @@ abbrev pub lines_with : Asks → ℕ → List (List ℕ) → Meaning → List �
 lines_with asks n words [] = []
 lines_with asks n [] (values ∷ more) = []
 lines_with asks n (word ∷ words) (values ∷ more) =
-    paragraph_lines asks.asked asks.environment asks.packages (n + 1) word values
-    ++ lines_with asks (n + 1) words more
+    asks.lines (n + 1) word values ++ lines_with asks (n + 1) words more
 
 -- The texts of the versions of a file's paragraphs: each is a version. The file's lines with
 -- spelled versions have these texts, and those with canonical versions have the canonical text of
--- each; they don't differ otherwise.
-pub record SpellsVersions (asked : Asked) (environment : Environment) (packages : List Listed)
-    (text : List ℕ) (meaning : Meaning) : Type 0 where
-  pub words : List (List ℕ)
-  pub each : length words ≡ length meaning
-  pub are_versions : AllByRecursion (λ word. first_fault word ≡ None) words
-  pub spelled : file_lines (asks_of (request_for asked Spelled) environment packages) text meaning
-      ≡ lines_with (asks_of (request_for asked Spelled) environment packages) 0 words meaning
-  pub canonical : file_lines (asks_of (request_for asked Canonical) environment packages) text
-      meaning
-      ≡ lines_with (asks_of (request_for asked Spelled) environment packages) 0
-      (map (λ word. version_text (version_in word)) words) meaning
+-- each; they don't differ otherwise. `asks` is what is asked with a text of versions.
+pub record SpellsVersions (asks : VersionText → Asks) (text : List ℕ) (meaning : Meaning) : Type 0
+  where
+    pub words : List (List ℕ)
+    pub each : length words ≡ length meaning
+    pub are_versions : AllByRecursion (λ word. first_fault word ≡ None) words
+    pub spelled : file_lines (asks Spelled) text meaning
+        ≡ lines_with (asks Spelled) 0 words meaning
+    pub canonical : file_lines (asks Canonical) text meaning
+        ≡ lines_with (asks Spelled) 0 (map (λ word. version_text (version_in word)) words) meaning
 
 -- Whichever text of a version is chosen, the lines of an accepted file differ in that word alone,
 -- and the spelled word is an equal version.
@@ -80,7 +77,8 @@ abbrev pub SpelledVersionsAreEqual : Type 0
 SpelledVersionsAreEqual =
     (asked : Asked) (environment : Environment) (packages : List Listed) (text : List ℕ)
     (meaning : Meaning) → Accepted (doc_of asked) text meaning
-    → SpellsVersions asked environment packages text meaning
+    → SpellsVersions (λ versions. asks_of (request_for asked versions) environment packages) text
+    meaning
 
 abbrev pub IsUnmet : Verdict → Type 0
 IsUnmet verdict = verdict ≡ Unmet

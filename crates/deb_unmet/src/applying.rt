@@ -14,7 +14,7 @@ use deb_relation::{Alternative, Env};
 
 /// Whether an alternative applies, over all readings of its architecture list.
 #[derive(Clone, Copy)]
-pub(crate) enum Applies {
+pub enum Applies {
     /// It applies in every reading.
     Surely,
     /// It applies in one reading and not in another.
@@ -23,8 +23,8 @@ pub(crate) enum Applies {
     Never,
 }
 
-/// Returns whether an alternative applies to an environment.
-pub(crate) fn applies_by(alternative: &Alternative<'_>, environment: &Env) -> Applies
+/// Returns whether an alternative applies to an environment (Debian Policy 7.1 and 11.1).
+pub fn applies_by(alternative: &Alternative<'_>, environment: &Env) -> Applies
     ensures { result
         ≡ applies_by (environment_of environment.now) (alternative_of alternative.now) }
 {
@@ -107,7 +107,7 @@ fn has_hyphen(name: &[u8]) -> bool
 
 impl Applies {
     /// Returns whether it applies in every reading.
-    pub(crate) fn surely(self) -> bool
+    pub fn surely(self) -> bool
         ensures { result ≡ surely self }
     {
         match self {
@@ -117,7 +117,7 @@ impl Applies {
     }
 
     /// Returns whether it applies in some reading.
-    pub(crate) fn may(self) -> bool
+    pub fn may(self) -> bool
         ensures { result ≡ may self }
     {
         match self {

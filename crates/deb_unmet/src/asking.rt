@@ -12,7 +12,7 @@ ghost use Rattle.deb_relation.specs.Environments.{environment_of};
 ghost use Rattle.deb_index.specs.Indexes.{packages_of};
 ghost use Rattle.deb_unmet.specs.Asking.{IsWritersFault, PutsLines, asks_of};
 ghost use Rattle.deb_unmet.specs.Fields.{paragraph_lines};
-ghost use Rattle.deb_unmet.specs.Files.{WritesRead, WritesRefused, WritesSome, WritesUnmet};
+ghost use Rattle.deb_unmet.specs.Files.{WritesRead, WritesRefused, WritesSome, WritesFile};
 ghost use Rattle.deb_unmet.specs.Paragraphs.{HasTextsOf};
 
 use crate::asked::Request;
@@ -26,12 +26,12 @@ use deb_index::Index;
 use deb_relation::Env;
 use std::alloc::Global;
 
-/// What `unmet` found in a whole file.
+/// What was written of a whole file.
 #[derive(Clone, Copy, Debug, PartialEq, Eq)]
 pub struct Summary {
     /// The number of paragraphs.
     pub paragraphs: u64,
-    /// No line was written: each group is met or ignored.
+    /// No line was written.
     pub is_empty: bool,
 }
 
@@ -66,7 +66,7 @@ pub fn unmet<R: Source, W: Sink>(
     writer: &mut W,
 ) -> Result<Summary, Fault>
     ensures ok { (text : List ℕ) → R.left reader.old ≡ Some text
-        → IfOk result (λ summary. WritesUnmet
+        → IfOk result (λ summary. WritesFile
         (asks_of request (environment_of environment.now) (packages_of index.now)) text summary
         (W.held writer.old) (W.held writer.new)) }
     ensures refused { (text : List ℕ) → R.left reader.old ≡ Some text

@@ -23,9 +23,12 @@ use std::alloc::{AllocError, Global};
 
 /// The packages that may meet a relation, and the environment of the relation.
 #[derive(Clone, Copy)]
-pub(crate) struct Question<'a> {
-    pub(crate) index: &'a Index,
-    pub(crate) environment: &'a Env,
+pub struct Question<'a> {
+    /// The index of the packages.
+    pub index: &'a Index,
+    /// The environment of the relation. [`crate::append_lines`] takes a binary package's own
+    /// architecture in place of its target, if that can be a target.
+    pub environment: &'a Env,
 }
 
 /// Appends the line of each group that has one, of the relation with a canonical text in a field of

@@ -1,4 +1,4 @@
-//! What is kept of the paragraphs of an index until all of them are read.
+//! What is kept of a paragraph of an index until the whole index is read.
 
 ghost use Rattle.std.specs.Prelude.{◌≡◌, List, [], ◌∷◌, drop, length, take, IfOk};
 ghost use Rattle.std.specs.List.{concat};
@@ -6,7 +6,7 @@ ghost use Rattle.deb_control.specs.FieldTexts.{HasTexts};
 ghost use Rattle.deb_control.specs.ValueFiles.{ValueEntries};
 ghost use Rattle.deb_field.specs.Values.{ValueMeaning};
 ghost use Rattle.deb_syntax.specs.Fields.{Field};
-ghost use Rattle.deb_unmet.specs.KeptParagraphs.{HoldsTexts, KeepsParagraphs, lens_in, paragraph_texts, texts_in, texts_kept};
+ghost use Rattle.deb_unmet.specs.KeptParagraphs.{HoldsTexts, lens_in, paragraph_texts, texts_in, texts_kept};
 ghost use Rattle.deb_unmet.specs.Paragraphs.{HasTextsOf, fields_in};
 ghost use Rattle.deb_unmet.specs.Spelled.{version_word};
 ghost use Rattle.deb_unmet.specs.declared.asked.Asked.TheVariants.{Packages};
@@ -16,7 +16,6 @@ use crate::line_texts::{LineTexts, spelled_body};
 use deb_base::VersionText;
 use deb_base::rows::{ARCHITECTURE, DEPENDS, PACKAGE, PRE_DEPENDS, RECOMMENDS, VERSION};
 use deb_control::{CheckedView, FieldTexts};
-use deb_index::Keeper;
 use std::alloc::{AllocError, Global};
 
 /// The texts that are kept of a paragraph: its name, its version as its canonical text and as the
@@ -112,16 +111,20 @@ fn len_of(text: &[u8]) -> Result<u32, AllocError>
     u32::try_from(text.len()).map_err(|_| AllocError)
 }
 
-/// What is kept of a paragraph: the texts one after another.
+/// What is kept of a paragraph for its lines: the texts one after another.
 #[derive(Drop)]
-pub(crate) struct KeptParagraph {
+pub struct KeptParagraph {
     pub(crate) bytes: Vec<u8>,
     pub(crate) lens: TextLens,
 }
 
 impl KeptParagraph {
-    /// That of a paragraph that was checked.
-    fn of(
+    /// Returns what is kept of a paragraph that was checked. `texts` has its words and relations.
+    ///
+    /// # Errors
+    ///
+    /// Out of memory.
+    pub fn of(
         alloc: Global,
         paragraph: &CheckedView<'_>,
         texts: &FieldTexts,
@@ -156,7 +159,7 @@ impl KeptParagraph {
     }
 
     /// Returns the texts that its lines have, with this text of its version.
-    pub(crate) fn line_texts(&self, versions: VersionText) -> LineTexts<'_>
+    pub fn line_texts(&self, versions: VersionText) -> LineTexts<'_>
         ensures texts { (fields : List Field) (values : ValueEntries ValueMeaning)
             (strength : Strength) → HoldsTexts fields values self.now
             → HasTextsOf (Packages strength) result values }
@@ -183,33 +186,4 @@ fn cut(bytes: &[u8], len: u32) -> (&[u8], &[u8])
     ensures rest { result.1.now ≡ drop len bytes.now }
 {
     bytes.split_at((len as usize).min(bytes.len()))
-}
-
-/// What is kept of the paragraphs of an index, in their order.
-#[derive(Drop)]
-pub(crate) struct KeptParagraphs {
-    pub(crate) alloc: Global,
-    pub(crate) paragraphs: Vec<KeptParagraph>,
-}
-
-impl KeptParagraphs {
-    /// Nothing is kept.
-    pub(crate) fn new(alloc: Global) -> KeptParagraphs
-        ensures { KeepsParagraphs result [] }
-    {
-        KeptParagraphs {
-            alloc,
-            paragraphs: Vec::new(alloc),
-        }
-    }
-}
-
-impl Keeper for KeptParagraphs {
-    ghost Keeps = { KeepsParagraphs };
-
-    fn keep(&mut self, paragraph: &CheckedView<'_>, texts: &FieldTexts) -> Result<(), AllocError> {
-        let kept = KeptParagraph::of(self.alloc, paragraph, texts)?;
-        self.paragraphs.push(kept)?;
-        Ok(())
-    }
 }

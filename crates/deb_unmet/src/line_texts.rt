@@ -17,14 +17,18 @@ use deb_control::{CheckedView, FieldTexts};
 /// How many relations are asked at most.
 const MOST_ASKED: usize = 3;
 
-/// The name, the version and the architecture that lines have of a paragraph, and the canonical
-/// texts of the relations that are asked, in their order.
+/// The texts that lines have of a paragraph.
 #[derive(Clone, Copy)]
-pub(crate) struct LineTexts<'a> {
-    pub(crate) name: &'a [u8],
-    pub(crate) version: &'a [u8],
-    pub(crate) architecture: &'a [u8],
-    pub(crate) relations: [&'a [u8]; MOST_ASKED],
+pub struct LineTexts<'a> {
+    /// The name of its package.
+    pub name: &'a [u8],
+    /// The text of its version that is chosen.
+    pub version: &'a [u8],
+    /// The architecture of a binary package, and `source` for a source package.
+    pub architecture: &'a [u8],
+    /// The canonical texts of the relations that are asked, in their order; each is empty if there
+    /// is no such relation.
+    pub relations: [&'a [u8]; MOST_ASKED],
 }
 
 impl<'a> LineTexts<'a> {

@@ -16,8 +16,13 @@ use crate::paragraph::Paragraph;
 use deb_relation::{Env, EnvFault};
 use std::alloc::{AllocError, Global};
 
-/// Appends the lines of a paragraph.
-pub(crate) fn append_lines(
+/// Appends the lines of a paragraph: one for each group of its relations that no package of the
+/// index meets, or may not meet, as [`crate::unmet`] writes them.
+///
+/// # Errors
+///
+/// Out of memory.
+pub fn append_lines(
     alloc: Global,
     out: &mut Vec<u8>,
     question: &Question<'_>,
@@ -43,7 +48,7 @@ pub(crate) fn append_lines(
 }
 
 /// Returns the own environment, if there is one, and else the other.
-fn own_or<'a>(own: Option<&'a Env>, environment: &'a Env) -> &'a Env
+pub fn own_or<'a>(own: Option<&'a Env>, environment: &'a Env) -> &'a Env
     ensures { environment_of result.now
         ≡ own_or (option_map (λ e. environment_of e.now) own.entry)
         (environment_of environment.now) }
@@ -51,8 +56,13 @@ fn own_or<'a>(own: Option<&'a Env>, environment: &'a Env) -> &'a Env
     own.unwrap_or(environment)
 }
 
-/// Returns the environment of a binary package's own architecture, if that can be a target.
-fn own_environment(
+/// Returns the environment of a binary package's own architecture, with the same profiles; none for
+/// a source package, and if that architecture can't be a target, as `all`.
+///
+/// # Errors
+///
+/// Out of memory.
+pub fn own_environment(
     alloc: Global,
     asked: Asked,
     environment: &Env,

@@ -7,24 +7,28 @@ ghost use Rattle.deb_base.specs.Reading.{TakesNoMore};
 ghost use Rattle.deb_control.specs.Calls.{IfRefused};
 ghost use Rattle.deb_control.specs.Checking.{IsRefusalOfDocument};
 ghost use Rattle.deb_control.specs.Documents.{refusal_of};
+ghost use Rattle.deb_control.specs.FieldTexts.{HasTexts};
+ghost use Rattle.deb_control.specs.ValueFiles.{ValueEntries};
+ghost use Rattle.deb_field.specs.Values.{ValueMeaning};
 ghost use Rattle.deb_relation.specs.Environments.{environment_of};
-ghost use Rattle.deb_index.specs.Indexes.{packages_of};
-ghost use Rattle.deb_index.specs.Keeping.{KeepsAll};
-ghost use Rattle.deb_index.specs.Listing.{ListsAll};
-ghost use Rattle.deb_unmet.specs.Asking.{IsWritersFault};
-ghost use Rattle.deb_unmet.specs.KeptParagraphs.{AreKept};
-ghost use Rattle.deb_unmet.specs.Own.{StopsOwn, WritesOwn};
+ghost use Rattle.deb_unmet.specs.KeptParagraphs.{HoldsTexts};
+ghost use Rattle.deb_unmet.specs.Own.{StopsOwn, WritesOwn, asks_own};
+ghost use Rattle.deb_unmet.specs.Paragraphs.{fields_in};
 
 use crate::asked::{Asked, Strength};
-use crate::asking::{Summary, write_paragraph};
+use crate::asking::Summary;
 use crate::group::Question;
-use crate::kept::{KeptParagraph, KeptParagraphs};
+use crate::in_itself::write_in_itself;
+use crate::kept::KeptParagraph;
+use crate::lines::append_lines;
+use crate::own_lines::OwnLines;
 use crate::paragraph::Paragraph;
 use deb_base::{Fault, Sink, Source, VersionText};
+use deb_control::{CheckedView, FieldTexts};
 use deb_field::Doc;
 use deb_index::Index;
 use deb_relation::Env;
-use std::alloc::Global;
+use std::alloc::{AllocError, Global};
 
 /// Reads an index of packages once, and writes a line for each group of its own relations that none
 /// of its packages meets, or may not meet (Debian Policy 7.1 and 7.2).
@@ -54,13 +58,15 @@ pub fn unmet_in_itself<R: Source, W: Sink>(
     writer: &mut W,
 ) -> Result<Summary, Fault>
     ensures ok { (text : List ℕ) → R.left reader.old ≡ Some text
-        → IfOk result (λ summary. WritesOwn strength versions (environment_of environment.now) text
-        summary (W.held writer.old) (W.held writer.new)) }
+        → IfOk result (λ summary. WritesOwn
+        (asks_own strength versions (environment_of environment.now)) text summary
+        (W.held writer.old) (W.held writer.new)) }
     ensures refused { (text : List ℕ) → R.left reader.old ≡ Some text
         → IfRefused result (λ refusal. refusal_of Doc.Packages text ≡ Some refusal) }
     ensures stopped { (text : List ℕ) → R.left reader.old ≡ Some text
-        → IfErr result (λ fault. StopsOwn fault strength versions
-        (environment_of environment.now) text (W.held writer.old) (W.held writer.new)) }
+        → IfErr result (λ fault. StopsOwn fault
+        (asks_own strength versions (environment_of environment.now)) text (W.held writer.old)
+        (W.held writer.new)) }
     ensures reads_at_most { (text : List ℕ) → R.left reader.old ≡ Some text
         → TakesNoMore text file_limit (R.left reader.new) }
 
@@ -76,59 +82,58 @@ pub fn unmet_in_itself<R: Source, W: Sink>(
     ensures fault_iff_write_failed { WriteFaultIffFailed (W.failures writer.old)
         (W.failures writer.new) result }
 {
-    let mut kept = KeptParagraphs::new(alloc);
-    let index = Index::read_with(alloc, reader, &mut kept)?;
-    let question = Question {
-        index: &index,
+    let lines = UnmetLines {
         environment,
-    };
-    write_kept(
-        alloc,
-        &question,
         strength,
         versions,
-        &kept.paragraphs,
-        writer,
-    )
+    };
+    write_in_itself(alloc, &lines, reader, writer)
 }
 
-/// Writes the lines of the paragraphs of an index that are kept, over its own packages.
-///
-/// # Errors
-///
-/// Out of memory: the lines of the first paragraphs were written. `Fault::Write`: a prefix of all.
-fn write_kept<W: Sink>(
-    alloc: Global,
-    question: &Question<'_>,
+/// The lines of groups, as `unmet` writes them.
+#[derive(Clone, Copy)]
+struct UnmetLines<'a> {
+    environment: &'a Env,
     strength: Strength,
     versions: VersionText,
-    kept: &[KeptParagraph],
-    writer: &mut W,
-) -> Result<Summary, Fault>
-    ensures ok { (text : List ℕ) → ListsAll text (packages_of question.now.index.now)
-        → KeepsAll (AreKept kept.now) text → IfOk result (λ summary. WritesOwn strength versions
-        (environment_of question.now.environment.now) text summary (W.held writer.old)
-        (W.held writer.new)) }
-    ensures stopped { (text : List ℕ) → ListsAll text (packages_of question.now.index.now)
-        → KeepsAll (AreKept kept.now) text → IfErr result (λ fault. StopsOwn fault strength versions
-        (environment_of question.now.environment.now) text (W.held writer.old)
-        (W.held writer.new)) }
-    ensures counts_failure { W.failures writer.new ≡ write_failures_after
-        (W.failures writer.old) result }
-    ensures fault { IsWritersFault result }
-{
-    let mut is_empty = true;
-    for count in 0..kept.len() {
-        let paragraph = Paragraph {
-            asked: Asked::Packages(strength),
-            number: count as u64 + 1,
-            texts: &kept[count].line_texts(versions),
-        };
-        let is_met = write_paragraph(alloc, question, &paragraph, writer)?;
-        is_empty = is_empty && is_met;
+}
+
+impl OwnLines for UnmetLines<'_> {
+    type Kept = KeptParagraph;
+
+    ghost Holds = { HoldsTexts };
+
+    ghost asks = { λ lines. asks_own lines.strength lines.versions
+        (environment_of lines.environment.now) };
+
+    fn keep(
+        alloc: Global,
+        paragraph: &CheckedView<'_>,
+        texts: &FieldTexts,
+    ) -> Result<KeptParagraph, AllocError>
+        ensures { (values : ValueEntries ValueMeaning) → HasTexts texts.now values
+            → IfOk result (HoldsTexts (fields_in paragraph.now) values) }
+    {
+        KeptParagraph::of(alloc, paragraph, texts)
     }
-    Ok(Summary {
-        paragraphs: kept.len() as u64,
-        is_empty,
-    })
+
+    fn append(
+        &self,
+        alloc: Global,
+        out: &mut Vec<u8>,
+        index: &Index,
+        number: u64,
+        kept: &KeptParagraph,
+    ) -> Result<(), AllocError> {
+        let question = Question {
+            index,
+            environment: self.environment,
+        };
+        let paragraph = Paragraph {
+            asked: Asked::Packages(self.strength),
+            number,
+            texts: &kept.line_texts(self.versions),
+        };
+        append_lines(alloc, out, &question, &paragraph)
+    }
 }

@@ -8,17 +8,25 @@ use crate::line_texts::LineTexts;
 use itoa::Buffer;
 use std::alloc::AllocError;
 
-/// A paragraph: what its file is asked, its number there, and the texts that its lines have of it.
+/// A paragraph whose lines are written.
 #[derive(Clone, Copy)]
-pub(crate) struct Paragraph<'a> {
-    pub(crate) asked: Asked,
-    pub(crate) number: u64,
-    pub(crate) texts: &'a LineTexts<'a>,
+pub struct Paragraph<'a> {
+    /// What its file is asked.
+    pub asked: Asked,
+    /// Its number in its file, counted from 1.
+    pub number: u64,
+    /// The texts that its lines have of it.
+    pub texts: &'a LineTexts<'a>,
 }
 
 impl Paragraph<'_> {
-    /// Appends the heading of the paragraph's lines.
-    pub(crate) fn append_heading(&self, out: &mut Vec<u8>) -> Result<(), AllocError>
+    /// Appends the heading of the paragraph's lines: its number, package, version and architecture,
+    /// each after a space, and a space.
+    ///
+    /// # Errors
+    ///
+    /// Out of memory.
+    pub fn append_heading(&self, out: &mut Vec<u8>) -> Result<(), AllocError>
         ensures { OnOk result (out.new.items ≡ out.old.items ++ heading_in self.now) }
     {
         let mut buffer = Buffer::new();
@@ -32,7 +40,11 @@ impl Paragraph<'_> {
 }
 
 /// Appends a space and a text.
-fn append_spaced(out: &mut Vec<u8>, text: &[u8]) -> Result<(), AllocError>
+///
+/// # Errors
+///
+/// Out of memory.
+pub fn append_spaced(out: &mut Vec<u8>, text: &[u8]) -> Result<(), AllocError>
     ensures { OnOk result (out.new.items ≡ out.old.items ++ 32 ∷ text.now) }
 {
     out.push(b' ')?;

@@ -163,7 +163,7 @@ fn bodies_of_fields(rt: HostRuntime) {
 }
 
 /// Names of fields in Debian's indexes.
-const NAMES: [&'static str; 28] = [
+const NAMES: [&'static str; 29] = [
     "Architecture",
     "Binary",
     "Breaks",
@@ -189,6 +189,7 @@ const NAMES: [&'static str; 28] = [
     "Section",
     "Size",
     "Source",
+    "Status",
     "Suggests",
     "Tag",
     "Version",

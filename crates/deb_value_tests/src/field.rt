@@ -8,7 +8,7 @@ use std::test::Fail;
 /// A kind of document, a field and its body, and the canonical text of its value.
 struct Row(Doc, &'static str, &'static str, &'static str);
 
-const ROWS: [Row; 14] = [
+const ROWS: [Row; 16] = [
     Row(Doc::Packages, "pACKAGE", "libstdc++6", "libstdc++6"),
     Row(Doc::Packages, "Source", "aa(1.)", "aa (1.0)"),
     Row(Doc::Packages, "Version", "0:1.00-0", "1.0"),
@@ -28,6 +28,8 @@ const ROWS: [Row; 14] = [
     Row(Doc::Packages, "Depends", ",", ""),
     Row(Doc::Packages, "Provides", "vv (= 01), ww", "vv (= 1), ww"),
     Row(Doc::Packages, "Description", "short  \n .", "short  \n ."),
+    Row(Doc::Status, "Status", "install  ok", "install  ok"),
+    Row(Doc::Status, "Architecture", "linux-any", "linux-any"),
 ];
 
 /// Whether a body's value has this canonical text, after what is there; None where a call

@@ -16,7 +16,7 @@ fn words(alloc: Global, line: &str) -> Result<Vec<String>, AllocError> {
 }
 
 /// A command line, and the task or the fault that it has.
-const LINES: [(&str, &str); 38] = [
+const LINES: [(&str, &str); 42] = [
     (
         "check",
         "Ok(Run(Call { job: Check(Packages), first: None, second: None }))",
@@ -65,6 +65,11 @@ const LINES: [(&str, &str); 38] = [
         first: Some(\"x\"), second: Some(\"y\") }))",
     ),
     (
+        "diff --kind status x y",
+        "Ok(Run(Call { job: Diff { kind: Status, detail: Fields, versions: Canonical }, \
+        first: Some(\"x\"), second: Some(\"y\") }))",
+    ),
+    (
         "diff --kind any x y",
         "Err(Usage(\"usage: diff takes no --kind any\"))",
     ),
@@ -110,8 +115,22 @@ const LINES: [(&str, &str); 38] = [
         "Err(Usage(\"usage: unmet takes another --kind only with a second path\"))",
     ),
     (
+        "unmet --arch amd64 --kind status x y",
+        "Err(Usage(\"usage: unmet takes no --kind status\"))",
+    ),
+    (
         "unmet --arch amd64 --kind any x y",
         "Err(Usage(\"usage: unmet takes no --kind any\"))",
+    ),
+    (
+        "healthy --arch amd64 x",
+        "Ok(Run(Call { job: Healthy { arch: \"amd64\", strength: Depends }, first: Some(\"x\"), \
+        second: None }))",
+    ),
+    (
+        "healthy --recommends --arch=amd64",
+        "Ok(Run(Call { job: Healthy { arch: \"amd64\", strength: Recommends }, first: None, \
+        second: None }))",
     ),
     ("compare 1 xx 2", "Err(Usage(\"usage: unknown operator\"))"),
     ("check --kind foo", "Err(Usage(\"usage: unknown kind\"))"),

@@ -13,7 +13,7 @@ use Rattle.deb_base.specs.declared.code.Code.{Code}
 use Rattle.deb_base.specs.declared.code.Code.TheVariants as code
 use Rattle.deb_base.specs.Docs.{doc_named}
 use Rattle.deb_base.specs.declared.doc.Doc.{Doc}
-use Rattle.deb_base.specs.declared.doc.Doc.TheVariants.{Packages, Binary, Sources, Source, Any}
+use Rattle.deb_base.specs.declared.doc.Doc.TheVariants.{Packages, Binary, Sources, Source, Status, Any}
 use Rattle.deb_base.specs.declared.version_text.VersionText.{VersionText}
 use Rattle.deb_base.specs.declared.version_text.VersionText.TheVariants.{Canonical, Spelled}
 use Rattle.debctl_args.specs.declared.jobs.Cmp.{Cmp}
@@ -86,6 +86,8 @@ commands =
     -- `unmet --arch A [--profiles P,P] [--kind K] [--recommends] [--spelled] INDEX [PATH]`
     ∷ row (codes "unmet") (arch_rule ∷ profiles_rule ∷ kind_rule ∷ recommends_rule
     ∷ spelled_rule ∷ required_rule (codes "index") ∷ optional_rule (codes "path") ∷ [])
+    -- `healthy --arch A [--recommends] [PATH]`
+    ∷ row (codes "healthy") (arch_rule ∷ recommends_rule ∷ optional_rule (codes "path") ∷ [])
     -- `help [COMMAND]`
     ∷ row (codes "help") (optional_rule (codes "command") ∷ []) ∷ []
 
@@ -221,6 +223,7 @@ pub data Wanted : Type 0 where
   queries : Text → List Text → Text → Detail → VersionText → Wanted
   queries_from : Text → List Text → Detail → VersionText → Wanted
   finds_unmet : Text → List Text → Dependents → VersionText → Wanted
+  checks_health : Text → Strength → Wanted
   explains : Doc → Wanted
   explains_all : Doc → Wanted
   explains_rule : Code → Wanted
@@ -253,6 +256,7 @@ wanted_of (job.QueryFrom arch profiles detail versions) =
     queries_from (string_bytes arch) (map string_bytes profiles.items) detail versions
 wanted_of (job.Unmet arch profiles dependents versions) =
     finds_unmet (string_bytes arch) (map string_bytes profiles.items) dependents versions
+wanted_of (job.Healthy arch strength) = checks_health (string_bytes arch) strength
 
 -- the files that a job reads
 abbrev pub reads_of : Job → Reads
@@ -269,6 +273,7 @@ reads_of (job.Sort reverse) = OneFile
 reads_of (job.Query arch profiles relation detail versions) = OneFile
 reads_of (job.QueryFrom arch profiles detail versions) = Paths
 reads_of (job.Unmet arch profiles dependents versions) = Paths
+reads_of (job.Healthy arch strength) = OneFile
 
 -- the kind that is named for the files of a job whose refusals are lines on standard error
 abbrev pub document_of : Job → Option Doc
@@ -323,6 +328,7 @@ pub data Asked : Type 0 where
   relation_or_file : Asked
   no_names : Asked
   no_relations : Asked
+  no_status : Asked
   no_recommends : Asked
   kind_of_path : Asked
   no_number : Asked
@@ -410,6 +416,7 @@ diff_of_kind rows Packages = diff_of_files rows diffed.Packages
 diff_of_kind rows Binary = diff_of_files rows diffed.Binary
 diff_of_kind rows Sources = diff_of_files rows diffed.Sources
 diff_of_kind rows Source = diff_of_files rows diffed.Source
+diff_of_kind rows Status = diff_of_files rows diffed.Status
 diff_of_kind rows Any = no_names
 
 -- `diff`
@@ -603,7 +610,7 @@ unmet_of_sources rows dependents =
     if flag_asked (first_of (codes "recommends") rows) then no_recommends
     else unmet_of_path rows dependents
 
--- which fields of binary packages `unmet` tries
+-- which fields of binary packages `unmet` and `healthy` try
 abbrev pub strength_in : List Row → Strength
 strength_in rows = strength_asked (flag_asked (first_of (codes "recommends") rows))
 
@@ -619,12 +626,22 @@ unmet_of_kind rows Packages = unmet_of_files rows (packages_in rows)
 unmet_of_kind rows Binary = unmet_of_path rows (dependents.Binary (strength_in rows))
 unmet_of_kind rows Sources = unmet_of_sources rows dependents.Sources
 unmet_of_kind rows Source = unmet_of_sources rows dependents.Source
+unmet_of_kind rows Status = no_status
 unmet_of_kind rows Any = no_relations
 
 -- `unmet`
 abbrev pub unmet_asked : List Row → Asked
 unmet_asked rows =
     option_map_or (unmet_of_kind rows) (kind_asked (first_of (codes "kind") rows)) unknown_kind
+
+-- `healthy`, by its architecture and the fields that it tries
+abbrev pub healthy_asked : List Row → Asked
+healthy_asked rows =
+    asks (record {
+      wanted = checks_health (word_in (codes "arch") rows) (strength_in rows);
+      first = first_of (codes "path") rows;
+      second = None;
+    })
 
 abbrev pub help_asked : Option Text → Asked
 help_asked None = asks_help
@@ -645,6 +662,7 @@ asked_by name rows =
     else if bytes_eq name (codes "sort") then sort_asked rows
     else if bytes_eq name (codes "query") then query_asked rows
     else if bytes_eq name (codes "unmet") then unmet_asked rows
+    else if bytes_eq name (codes "healthy") then healthy_asked rows
     else help_asked (first_of (codes "command") rows)
 
 -- what the command that `clap` met asks

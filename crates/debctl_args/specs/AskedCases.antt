@@ -6,8 +6,8 @@ use Rattle.clap.specs.Faults.{fault_of}
 use Rattle.clap.specs.Takes.{takes}
 use Rattle.clap.specs.Walk.{Text}
 use Rattle.clap.specs.declared.error.kind.ErrorKind.TheVariants as kind
-use Rattle.debctl_args.specs.Asked.{debctl_app, asked_of, asks, asks_help, canonicalises, checks, checks_all, checks_whole, comma_pieces, compares, finds_changes, finds_unmet, first_or_whole, keys, kind_asked, kind_of_path, no_names, no_number, no_recommends, no_relations, normalises, number_named, profiles_asked, queries, queries_from, relation_or_file, sorts, compares_files, unknown_command, unknown_kind, unknown_operator, standard_input_twice, operator_named, Asked}
-use Rattle.deb_base.specs.declared.doc.Doc.TheVariants.{Any, Binary, Packages, Source, Sources}
+use Rattle.debctl_args.specs.Asked.{debctl_app, asked_of, asks, asks_help, canonicalises, checks, checks_all, checks_whole, comma_pieces, compares, finds_changes, finds_unmet, first_or_whole, keys, kind_asked, kind_of_path, no_names, no_number, no_recommends, no_relations, no_status, normalises, number_named, profiles_asked, queries, queries_from, relation_or_file, sorts, compares_files, unknown_command, unknown_kind, unknown_operator, standard_input_twice, operator_named, Asked}
+use Rattle.deb_base.specs.declared.doc.Doc.TheVariants.{Any, Binary, Packages, Source, Sources, Status}
 use Rattle.deb_base.specs.declared.version_text.VersionText.TheVariants.{Canonical, Spelled}
 use Rattle.debctl_args.specs.declared.jobs.Cmp.TheVariants as cmp
 use Rattle.debctl_args.specs.declared.jobs.Dependents.{Dependents}
@@ -37,6 +37,11 @@ index_of_sources : asked_of (line (codes "check" ∷ codes "--kind" ∷ codes "s
     ≡ Some (asks (record { wanted = checks Sources; first = None; second = None }))
 unfolding clap_on_literals kind_asked
 index_of_sources = refl
+
+status_file : asked_of (line (codes "check" ∷ codes "-k" ∷ codes "status" ∷ codes "x" ∷ []))
+    ≡ Some (asks (record { wanted = checks Status; first = Some (codes "x"); second = None }))
+unfolding clap_on_literals kind_asked
+status_file = refl
 
 any_control_data : asked_of
     (line (codes "same" ∷ codes "x" ∷ codes "y" ∷ codes "--kind=any" ∷ []))
@@ -208,11 +213,11 @@ diff_with_spelled_versions = refl
 
 kinds_of_a_diff : map (λ kind. asked_of
     (line (codes "diff" ∷ codes "--kind" ∷ kind ∷ codes "x" ∷ codes "y" ∷ [])))
-    (codes "packages" ∷ codes "binary" ∷ codes "sources" ∷ codes "source" ∷ codes "any"
-    ∷ codes "foo" ∷ [])
+    (codes "packages" ∷ codes "binary" ∷ codes "sources" ∷ codes "source" ∷ codes "status"
+    ∷ codes "any" ∷ codes "foo" ∷ [])
     ≡ asks_diff diffed.Packages Fields ∷ asks_diff diffed.Binary Fields
-    ∷ asks_diff diffed.Sources Fields ∷ asks_diff diffed.Source Fields ∷ Some no_names
-    ∷ Some unknown_kind ∷ []
+    ∷ asks_diff diffed.Sources Fields ∷ asks_diff diffed.Source Fields
+    ∷ asks_diff diffed.Status Fields ∷ Some no_names ∷ Some unknown_kind ∷ []
 unfolding clap_on_literals kind_asked
 kinds_of_a_diff = refl
 
@@ -505,10 +510,10 @@ standard_input_for_index_and_file = refl
 
 -- an index is of packages; another kind is that of another file
 kinds_of_an_index : map (λ kind. asked_of (unmet_line (codes "--kind" ∷ kind ∷ codes "x" ∷ [])))
-    (codes "packages" ∷ codes "binary" ∷ codes "sources" ∷ codes "source" ∷ codes "any"
-    ∷ codes "foo" ∷ [])
+    (codes "packages" ∷ codes "binary" ∷ codes "sources" ∷ codes "source" ∷ codes "status"
+    ∷ codes "any" ∷ codes "foo" ∷ [])
     ≡ asks_unmet (dependents.Index Depends) None ∷ Some kind_of_path ∷ Some kind_of_path
-    ∷ Some kind_of_path ∷ Some no_relations ∷ Some unknown_kind ∷ []
+    ∷ Some kind_of_path ∷ Some no_status ∷ Some no_relations ∷ Some unknown_kind ∷ []
 unfolding clap_on_literals kind_asked
 kinds_of_an_index = refl
 
@@ -532,9 +537,9 @@ kinds_without_recommends = refl
 -- source packages have no Recommends
 kinds_with_recommends : map (λ kind. asked_of
     (unmet_line (codes "--recommends" ∷ codes "--kind" ∷ kind ∷ codes "x" ∷ codes "y" ∷ [])))
-    (codes "packages" ∷ codes "sources" ∷ codes "source" ∷ codes "any" ∷ [])
+    (codes "packages" ∷ codes "sources" ∷ codes "source" ∷ codes "status" ∷ codes "any" ∷ [])
     ≡ asks_unmet (dependents.Packages Recommends) (Some (codes "y")) ∷ Some no_recommends
-    ∷ Some no_recommends ∷ Some no_relations ∷ []
+    ∷ Some no_recommends ∷ Some no_status ∷ Some no_relations ∷ []
 unfolding clap_on_literals kind_asked
 kinds_with_recommends = refl
 

@@ -9,7 +9,7 @@ use Rattle.deb_base.specs.declared.doc.Doc.{Doc}
 use Rattle.debctl_args.specs.declared.jobs.Task.{Task}
 use Rattle.debctl_args.specs.declared.arguments.UsageFault.{UsageFault}
 use Rattle.debctl_args.specs.declared.arguments.UsageFault.TheVariants.{Usage, Help, Memory}
-use Rattle.debctl_args.specs.Asked.{asks, asks_help, explain_takes_one, first_or_whole, kind_of_path, no_names, no_number, no_recommends, no_relations, paths_or_list, relation_or_file, request_of, standard_input_twice, unknown_code, unknown_command, unknown_kind, unknown_operator, Asked}
+use Rattle.debctl_args.specs.Asked.{asks, asks_help, explain_takes_one, first_or_whole, kind_of_path, no_names, no_number, no_recommends, no_relations, no_status, paths_or_list, relation_or_file, request_of, standard_input_twice, unknown_code, unknown_command, unknown_kind, unknown_operator, Asked}
 
 -- the text names what isn't known, what stands twice, or what doesn't go together
 abbrev pub IsUsage : Asked → Text → Type 0
@@ -24,6 +24,7 @@ IsUsage paths_or_list text = text ≡ codes "usage: audit takes paths, or --file
 IsUsage relation_or_file text = text ≡ codes "usage: query takes a relation, or --relation-from"
 IsUsage no_names text = text ≡ codes "usage: diff takes no --kind any"
 IsUsage no_relations text = text ≡ codes "usage: unmet takes no --kind any"
+IsUsage no_status text = text ≡ codes "usage: unmet takes no --kind status"
 IsUsage no_recommends text = text ≡ codes "usage: unmet takes --recommends only for binary packages"
 IsUsage kind_of_path text =
     text ≡ codes "usage: unmet takes another --kind only with a second path"

@@ -3,4 +3,5 @@ pub mod AskedCases
 pub mod Commands
 pub mod ExplainAuditCases
 pub mod Fitting
+pub mod HealthyCases
 pub mod RequestCases

@@ -4,7 +4,7 @@ use Rattle.std.specs.Prelude.{◌≡◌, ℕ, [], ◌∷◌, map, Option, Some, 
 use Rattle.std.specs.declared.alloc.Global.{Global}
 use Rattle.clap.specs.declared.error.kind.ErrorKind.TheVariants as kind
 use Rattle.deb_base.specs.declared.code.Code.TheVariants as code
-use Rattle.debctl_args.specs.Asked.{audits, canonicalises, checks, checks_all, checks_whole, compares, document_of, explain_takes_one, explains, explains_all, explains_relation, explains_version, finds_changes, finds_unmet, first_or_whole, keys, kind_of_path, listed, no_names, no_number, no_recommends, no_relations, normalises, paths, paths_or_list, queries, queries_from, reads_of, relation_or_file, request_of, sorts, standard_input_twice, explains_rule, compares_files, unknown_code, unknown_command, unknown_kind, unknown_operator, wanted_of, Request, Wanted}
+use Rattle.debctl_args.specs.Asked.{audits, canonicalises, checks, checks_all, checks_health, checks_whole, compares, document_of, explain_takes_one, explains, explains_all, explains_relation, explains_version, finds_changes, finds_unmet, first_or_whole, keys, kind_of_path, listed, no_names, no_number, no_recommends, no_relations, no_status, normalises, paths, paths_or_list, queries, queries_from, reads_of, relation_or_file, request_of, sorts, standard_input_twice, explains_rule, compares_files, unknown_code, unknown_command, unknown_kind, unknown_operator, wanted_of, Request, Wanted}
 use Rattle.debctl_args.specs.Fitting.{has_mistake, has_request, is_request_kind, IsUsage, FitsKind}
 use Rattle.debctl_args.specs.declared.jobs.Demands.{Demands}
 use Rattle.debctl_args.specs.declared.jobs.Explain.TheVariants as explain
@@ -23,6 +23,7 @@ use Rattle.debctl_args.specs.declared.jobs.Dependents.TheVariants as dependents
 use Rattle.debctl_args.specs.declared.jobs.Extent.TheVariants as extents
 use Rattle.debctl_args.specs.declared.jobs.LineEnd.TheVariants as line_ends
 use Rattle.debctl_args.specs.declared.jobs.Detail.TheVariants.{Reasons, Verdicts}
+use Rattle.debctl_args.specs.declared.jobs.Strength.TheVariants.{Depends, Recommends}
 use Rattle.deb_base.specs.declared.version_text.VersionText.TheVariants.{Canonical, Spelled}
 use Rattle.deb_base.specs.declared.doc.Doc.TheVariants as docs
 use Rattle.deb_base.specs.Literals.{string, vector}
@@ -57,12 +58,14 @@ jobs_on_words : map wanted_of
     ∷ job.VersionKey (vector (one ∷ other ∷ []) refl)
     ∷ job.Query one (vector (one ∷ other ∷ []) refl) other Reasons Canonical
     ∷ job.QueryFrom other (vector (other ∷ one ∷ []) refl) Verdicts Spelled
-    ∷ job.Unmet one (vector (other ∷ []) refl) dependents.Sources Spelled ∷ [])
+    ∷ job.Unmet one (vector (other ∷ []) refl) dependents.Sources Spelled
+    ∷ job.Healthy one Recommends ∷ job.Healthy other Depends ∷ [])
     ≡ compares (codes "amd64") cmps.Less (codes "b-") ∷ canonicalises (codes "b-")
     ∷ keys (codes "amd64" ∷ codes "b-" ∷ [])
     ∷ queries (codes "amd64") (codes "amd64" ∷ codes "b-" ∷ []) (codes "b-") Reasons Canonical
     ∷ queries_from (codes "b-") (codes "b-" ∷ codes "amd64" ∷ []) Verdicts Spelled
-    ∷ finds_unmet (codes "amd64") (codes "b-" ∷ []) dependents.Sources Spelled ∷ []
+    ∷ finds_unmet (codes "amd64") (codes "b-" ∷ []) dependents.Sources Spelled
+    ∷ checks_health (codes "amd64") Recommends ∷ checks_health (codes "b-") Depends ∷ []
 unfolding one other
 jobs_on_words = refl
 
@@ -77,16 +80,16 @@ jobs =
     ∷ job.CanonVersion one ∷ job.VersionKey (vector (one ∷ []) refl) ∷ job.Sort true
     ∷ job.Query one (vector [] refl) other Reasons Canonical
     ∷ job.QueryFrom one (vector [] refl) Verdicts Spelled
-    ∷ job.Unmet one (vector [] refl) dependents.Sources Spelled ∷ []
+    ∷ job.Unmet one (vector [] refl) dependents.Sources Spelled ∷ job.Healthy one Depends ∷ []
 
 files_of_jobs : map reads_of jobs
     ≡ OneFile ∷ OneFile ∷ OneFile ∷ Paths ∷ OneFile ∷ Paths ∷ Nothing ∷ Nothing ∷ Nothing
-    ∷ OneFile ∷ OneFile ∷ Paths ∷ Paths ∷ []
+    ∷ OneFile ∷ OneFile ∷ Paths ∷ Paths ∷ OneFile ∷ []
 files_of_jobs = refl
 
 documents_of_jobs : map document_of jobs
     ≡ Some docs.Binary ∷ Some docs.Source ∷ Some docs.Any ∷ Some docs.Sources ∷ None ∷ None
-    ∷ None ∷ None ∷ None ∷ None ∷ None ∷ None ∷ None ∷ []
+    ∷ None ∷ None ∷ None ∷ None ∷ None ∷ None ∷ None ∷ None ∷ []
 documents_of_jobs = refl
 
 -- ---- requests
@@ -178,12 +181,13 @@ texts_of_mistakes : IsUsage unknown_kind (codes "usage: unknown kind")
     × IsUsage relation_or_file (codes "usage: query takes a relation, or --relation-from")
     × IsUsage no_names (codes "usage: diff takes no --kind any")
     × IsUsage no_relations (codes "usage: unmet takes no --kind any")
+    × IsUsage no_status (codes "usage: unmet takes no --kind status")
     × IsUsage no_recommends (codes "usage: unmet takes --recommends only for binary packages")
     × IsUsage kind_of_path (codes "usage: unmet takes another --kind only with a second path")
     × IsUsage no_number (codes "usage: --least takes a number")
     × IsUsage first_or_whole (codes "usage: --all takes neither --complete nor --least")
 texts_of_mistakes =
-    (refl, refl, refl, refl, refl, refl, refl, refl, refl, refl, refl, refl, refl, refl)
+    (refl, refl, refl, refl, refl, refl, refl, refl, refl, refl, refl, refl, refl, refl, refl)
 
 -- a call for help is answered with help, and a mistake as one
 kinds_of_errors : (FitsKind kind.DisplayHelp (Help one) ≡ (true ≡ true))

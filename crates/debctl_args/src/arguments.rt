@@ -2,7 +2,7 @@
 
 ghost use Rattle.std.specs.Prelude.{◌≡◌, [], Some, None, map, true, string_bytes, IfOk, IfErr, option_copied, option_map};
 ghost use Rattle.clap.specs.Words.{fault_of, found_of, has_subcommand, kind_of, rows_of, subcommand_rows_of, takes};
-ghost use Rattle.debctl_args.specs.Asked.{asked_in, asked_of, asks, audit_asked, canon_version_asked, check_asked, checks_to, debctl_app, demands_asked, compare_asked, diff_asked, diff_of_files, explain_asked, file_explained, help_asked, is_demanding, query_asked, query_of_file, query_of_word, relation_asked, request_of, rule_asked, same_asked, sort_asked, text_asked, unmet_asked, unmet_of_files, unmet_of_path, unmet_of_sources, version_asked, version_key_asked, wanted_of, word_in, Request};
+ghost use Rattle.debctl_args.specs.Asked.{asked_in, asked_of, asks, audit_asked, canon_version_asked, check_asked, checks_to, debctl_app, demands_asked, compare_asked, diff_asked, diff_of_files, explain_asked, file_explained, healthy_asked, help_asked, is_demanding, query_asked, query_of_file, query_of_word, relation_asked, request_of, rule_asked, same_asked, sort_asked, text_asked, unmet_asked, unmet_of_files, unmet_of_path, unmet_of_sources, version_asked, version_key_asked, wanted_of, word_in, Request};
 ghost use Rattle.debctl_args.specs.Fitting.{Answers, AnswersError, AnswersMet, IsHelp, MeansError, FitsKind, UsesText};
 
 use crate::code_argument::code_named;
@@ -37,6 +37,9 @@ const NO_NAMES: &str = "usage: diff takes no --kind any";
 
 /// The text for an `unmet` of files whose relations have no meaning.
 const NO_RELATIONS: &str = "usage: unmet takes no --kind any";
+
+/// The text for an `unmet` of a status file.
+const NO_STATUS: &str = "usage: unmet takes no --kind status";
 
 /// The text for Recommends of source packages.
 const NO_RECOMMENDS: &str = "usage: unmet takes --recommends only for binary packages";
@@ -91,11 +94,12 @@ impl From<AllocError> for UsageFault {
 ///   kind, `--all` or a path names a file; `usage: audit takes paths, or --files0-from` for an
 ///   audit with neither paths nor a list, or with both; `usage: query takes a relation, or
 ///   --relation-from` for a query with neither or with both; `usage: diff takes no --kind any`;
-///   `usage: unmet takes no --kind any`; `usage: unmet takes --recommends only for binary packages`
-///   for the kinds `sources` and `source` with `--recommends`; `usage: unmet takes another --kind
-///   only with a second path` for a kind other than `packages` without PATH; `usage: --least takes
-///   a number` for another N; `usage: --all takes neither --complete nor --least` for either with
-///   `--all`; otherwise that of `clap`.
+///   `usage: unmet takes no --kind any`; `usage: unmet takes no --kind status`; `usage: unmet takes
+///   --recommends only for binary packages` for the kinds `sources` and `source` with
+///   `--recommends`; `usage: unmet takes another --kind only with a second path` for one of the
+///   kinds `binary`, `sources` and `source` without PATH; `usage: --least takes a number` for
+///   another N; `usage: --all takes neither --complete nor --least` for either with `--all`;
+///   otherwise that of `clap`.
 /// - `UsageFault::Help`: the arguments ask for help or for the version.
 /// - `UsageFault::Memory`: a growth of memory was refused.
 pub fn job_of(alloc: Global, words: &[String]) -> Result<Task, UsageFault>
@@ -322,6 +326,7 @@ pub(crate) fn diff_task(alloc: Global, found: &ArgMatches<'_>) -> Result<Task, U
         Doc::Binary => diff_of_files(alloc, found, DiffKind::Binary),
         Doc::Sources => diff_of_files(alloc, found, DiffKind::Sources),
         Doc::Source => diff_of_files(alloc, found, DiffKind::Source),
+        Doc::Status => diff_of_files(alloc, found, DiffKind::Status),
         Doc::Any => Err(usage(alloc, NO_NAMES)),
     }
 }
@@ -462,6 +467,7 @@ pub(crate) fn unmet_task(alloc: Global, found: &ArgMatches<'_>) -> Result<Task, 
         Doc::Binary => unmet_of_path(alloc, found, Dependents::Binary(strength_in(found))),
         Doc::Sources => unmet_of_sources(alloc, found, Dependents::Sources),
         Doc::Source => unmet_of_sources(alloc, found, Dependents::Source),
+        Doc::Status => Err(usage(alloc, NO_STATUS)),
         Doc::Any => Err(usage(alloc, NO_RELATIONS)),
     }
 }
@@ -519,6 +525,21 @@ fn unmet_of_files(
         },
         first: Some(first),
         second,
+    }))
+}
+
+pub(crate) fn healthy_task(alloc: Global, found: &ArgMatches<'_>) -> Result<Task, UsageFault>
+    ensures { Answers (healthy_asked (rows_of (found_of found.now))) result }
+{
+    let arch = String::from_str(alloc, word_in(found, "arch"))?;
+    let first = path_in(alloc, found)?;
+    Ok(Task::Run(Call {
+        job: Job::Healthy {
+            arch,
+            strength: strength_in(found),
+        },
+        first,
+        second: None,
     }))
 }
 

@@ -111,7 +111,7 @@ pub(crate) fn diff_detail_in(found: &ArgMatches<'_>) -> DiffDetail
     }
 }
 
-/// Which fields of binary packages `unmet` tries: Recommends too if `--recommends` is given.
+/// Which fields of binary packages are tried: Recommends too if `--recommends` is given.
 pub(crate) fn strength_in(found: &ArgMatches<'_>) -> Strength
     ensures { result ≡ strength_in (rows_of (found_of found.now)) }
 {

@@ -91,6 +91,12 @@ pub enum Job {
         dependents: Dependents,
         versions: VersionText,
     },
+    /// `healthy`: find the reasons why a set of packages isn't consistent, for a target
+    /// architecture.
+    Healthy {
+        arch: String,
+        strength: Strength,
+    },
 }
 
 /// The files that a job reads.
@@ -112,6 +118,7 @@ impl Job {
         match self {
             Job::Check(_) | Job::CheckAll(_) | Job::Normalise(_) => Reads::OneFile,
             Job::CheckWhole { .. } | Job::Sort { .. } | Job::Query { .. } => Reads::OneFile,
+            Job::Healthy { .. } => Reads::OneFile,
             Job::Same(_) | Job::Diff { .. } => Reads::Paths,
             Job::QueryFrom { .. } | Job::Unmet { .. } => Reads::Paths,
             Job::Compare(..) | Job::CanonVersion(_) | Job::VersionKey(_) => Reads::Nothing,
@@ -151,6 +158,8 @@ pub enum DiffKind {
     Sources,
     /// The description of a source package.
     Source,
+    /// The status file of dpkg.
+    Status,
 }
 
 /// What `diff` prints of each paragraph that changed.
@@ -186,7 +195,7 @@ pub enum Dependents {
     Source,
 }
 
-/// The fields of a binary package whose groups `unmet` tries.
+/// The fields of a binary package whose groups `unmet` and `healthy` try.
 #[derive(Clone, Copy, Debug, PartialEq, Eq)]
 pub enum Strength {
     /// Pre-Depends and Depends.
@@ -197,9 +206,9 @@ pub enum Strength {
 
 /// A command and the paths of the files that it reads.
 ///
-/// If `check`, `normalise`, `sort` or `query` has no path, the file is standard input. `same`,
-/// `diff`, `query --relation-from` and `unmet` have both paths, except for an `unmet` of the index
-/// itself, and no other job has a second one.
+/// If `check`, `normalise`, `sort`, `query` or `healthy` has no path, the file is standard input.
+/// `same`, `diff`, `query --relation-from` and `unmet` have both paths, except for an `unmet` of
+/// the index itself, and no other job has a second one.
 #[derive(Debug, PartialEq, Eq, Drop)]
 pub struct Call {
     pub job: Job,

@@ -46,7 +46,7 @@ pub(crate) const DIFF_KIND: Argument = Argument {
     short: Some('k'),
     form: Form::Value,
     shown: "K",
-    help: Some("The kind of both files: packages (the default), binary, sources or source"),
+    help: Some("The kind of both files: packages (the default), binary, sources, source or status"),
 };
 
 /// `--kind K` of `unmet`

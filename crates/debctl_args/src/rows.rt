@@ -8,7 +8,7 @@ ghost use Rattle.debctl_args.specs.Commands.{row_in};
 
 use crate::arguments::{
     UsageFault, audit_task, canon_version_task, check_task, compare_task, diff_task, explain_task,
-    help_on, query_task, same_task, sort_task, unmet_task, version_key_task,
+    healthy_task, help_on, query_task, same_task, sort_task, unmet_task, version_key_task,
 };
 use crate::found_arguments::{given, kind_in, path_in};
 use crate::jobs::{Call, Job, Task};
@@ -31,7 +31,7 @@ pub(crate) struct Row {
 }
 
 /// The commands, in the order of the program's help.
-static COMMANDS: [Row; 13] = [
+static COMMANDS: [Row; 14] = [
     Row {
         name: "check",
         about: "Checks whether a file is well formed",
@@ -103,6 +103,11 @@ static COMMANDS: [Row; 13] = [
         ],
     },
     Row {
+        name: "healthy",
+        about: "Checks whether a set of packages is consistent",
+        takes: &[ARCH, RECOMMENDS, PATH],
+    },
+    Row {
         name: "help",
         about: "Prints the help of the program or of a command",
         takes: &[COMMAND],
@@ -131,6 +136,7 @@ pub(crate) fn help_after(name: &str) -> Option<&'static str> {
         "sort" => Some(SORT_HELP),
         "query" => Some(QUERY_HELP),
         "unmet" => Some(UNMET_HELP),
+        "healthy" => Some(HEALTHY_HELP),
         _ => None,
     }
 }
@@ -152,6 +158,7 @@ pub(crate) fn task_by(alloc: Global, name: &str, found: &ArgMatches<'_>) -> Resu
         "sort" => sort_task(alloc, found),
         "query" => query_task(alloc, found),
         "unmet" => unmet_task(alloc, found),
+        "healthy" => healthy_task(alloc, found),
         _ => Err(help_on(alloc, given(found, "command"))),
     }
 }
@@ -184,8 +191,8 @@ is held in memory.
 
 Use `--kind sources` for an index of source packages. As `packages`, `binary` or
 `source` it is usually refused because of its Architecture or a missing field. Use
-`--kind any` for other control data, such as a `.changes`, `Release`, status or
-copyright file; its values aren't checked then.
+`--kind status` for `/var/lib/dpkg/status`, and `--kind any` for other control data,
+such as a `.changes`, `Release` or copyright file; its values aren't checked then.
 
 Exit statuses:
   0  accepted
@@ -332,9 +339,10 @@ Prints one line for each paragraph that changed in meaning:
   added NUMBER PACKAGE VERSION ARCHITECTURE
 NUMBER is the position of the paragraph, from 1: in OLD for `removed`, else in NEW.
 VERSION is canonical, or with `--spelled` as the file spells it. ARCHITECTURE is
-`source` for a source package. The FIELDs are those that differ or are in one
-paragraph only, in ascending order. The lines of the paragraphs of OLD are in its
-order. After them come those of the added ones, in the order of NEW.
+`source` for a source package. With `--kind status` either may be empty. The FIELDs
+are those that differ or are in one paragraph only, in ascending order. The lines of
+the paragraphs of OLD are in its order. After them come those of the added ones, in
+the order of NEW.
 
 Paragraphs that mean the same are taken away in pairs, the earliest first; in whatever
 order they are, they have no line. Of the others, those of the same package, version
@@ -541,4 +549,47 @@ Example: which dependencies of this index does no package of it meet?
   $ printf '\\nPackage: cc\\nVersion: 2\\nArchitecture: amd64\\n' >> index
   $ debctl unmet --arch amd64 index; echo $?
   unmet 1 aa 1 all Depends dd
+  1";
+
+const HEALTHY_HELP: &str = "\
+Prints one line for each reason why a set of packages isn't consistent:
+  unmet N P V A FIELD GROUP
+  conflict N P V A FIELD GROUP by M P V A
+  duplicate N P V A with M V A
+Each package is printed as the number of its paragraph, from 1, its name, canonical
+version and architecture. The order is that of the paragraphs, then of Pre-Depends,
+Depends, Recommends, Conflicts and Breaks; duplicates are last.
+
+`unmet`: no package of the set meets the group of Pre-Depends or Depends, or with
+`--recommends` of Recommends. `query` says when a package meets a group.
+
+`conflict`: the group of Conflicts or Breaks excludes the second package, because that
+has or provides its name, in a version that meets its bound, if there is one. Without
+a qualifier, or with `any`, a group speaks of packages of every architecture; with
+`native` of those of A. No package excludes one of its own name.
+
+`duplicate`: the second package has the same name and can't be installed together with
+the first. Two of one name can only if both are `Multi-Arch: same`, of different
+architectures and of equal versions. A package for `all` counts as one for A.
+
+`unsure` is printed in place of `unmet` or `conflict` if the answer depends on how an
+architecture list with a wildcard is read: see `debctl help unmet`.
+
+Nothing is printed before the whole file has been read.
+
+Exit statuses:
+  0  nothing is printed: the set is healthy
+  1  a line is printed
+  2  the architecture or the file is refused: standard error has
+     `line 0: 23 BadEnvironment` or `line N: CODE NAME`, and nothing is printed
+  3  wrong arguments, out of memory, or a failed read or write
+
+Example:
+  $ printf 'Package: aa\\nVersion: 1\\nArchitecture: all\\nDepends: bb\\n' > set
+  $ printf 'Conflicts: mm\\n\\nPackage: cc\\nVersion: 2\\nArchitecture: amd64\\n' >> set
+  $ printf 'Provides: mm\\n\\nPackage: aa\\nVersion: 3\\nArchitecture: all\\n' >> set
+  $ debctl healthy --arch amd64 set; echo $?
+  unmet 1 aa 1 all Depends bb
+  conflict 1 aa 1 all Conflicts mm by 2 cc 2 amd64
+  duplicate 1 aa 1 all with 3 3 all
   1";

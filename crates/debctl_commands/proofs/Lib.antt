@@ -12,6 +12,7 @@ pub mod RelationFiles
 pub mod Turning
 pub mod SameReports
 pub mod FaultReports
+pub mod HealthReports
 pub mod UnmetReports
 pub mod Lacks
 pub mod LongFiles

@@ -52,7 +52,7 @@ module _ {W E : Type 0} (w : Words) (first second : ReaderOfJob) (out : WriterOf
   pub three_if_first : Ends (unmet_promise w) first second out err status → first.failures < first.failures_after → status ≡ 3
   three_if_first (answer, inl e, reported) rose = let same = e.first_untouched in absurd (omega (arith, same, rose))
   three_if_first (answer, inr (environment, inl own), reported) rose =
-      read_is_three err First status first.failures first.failures_after rose own.tried own.asks_own.reads (subst (λ a. ReportsTried err a status) own.is reported)
+      read_is_three err First status first.failures first.failures_after rose own.tried own.in_itself.reads (subst (λ a. ReportsTried err a status) own.is reported)
   three_if_first (answer, inr (environment, inr (other, inl e)), reported) rose =
       index_is_three err First status first.failures first.failures_after rose e.fault e.counted (subst (λ a. ReportsTried err a status) e.is reported)
   three_if_first (answer, inr (environment, inr (other, inr file)), reported) rose = let same = file.unfailed in absurd (omega (arith, same, rose))
@@ -67,7 +67,7 @@ module _ {W E : Type 0} (w : Words) (first second : ReaderOfJob) (out : WriterOf
   pub three_if_out : Ends (unmet_promise w) first second out err status → out.failures out.old < out.failures out.new → status ≡ 3
   three_if_out (answer, inl e, reported) rose = let same = ap out.failures e.unwritten in absurd (omega (arith, same, rose))
   three_if_out (answer, inr (environment, inl own), reported) rose =
-      write_is_three err First status (out.failures out.old) (out.failures out.new) rose own.tried own.asks_own.writes (subst (λ a. ReportsTried err a status) own.is reported)
+      write_is_three err First status (out.failures out.old) (out.failures out.new) rose own.tried own.in_itself.writes (subst (λ a. ReportsTried err a status) own.is reported)
   three_if_out (answer, inr (environment, inr (other, inl e)), reported) rose = let same = ap out.failures e.unwritten in absurd (omega (arith, same, rose))
   three_if_out (answer, inr (environment, inr (other, inr file)), reported) rose =
       write_is_three err Second status (out.failures out.old) (out.failures out.new) rose file.tried file.asks_file.writes (subst (λ a. ReportsTried err a status) file.is reported)

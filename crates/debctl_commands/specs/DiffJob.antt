@@ -22,7 +22,7 @@ use Rattle.deb_diff.specs.declared.kind.Kind.TheVariants as kinds
 use Rattle.debctl_args.specs.declared.jobs.DiffDetail.{DiffDetail}
 use Rattle.debctl_args.specs.declared.jobs.DiffDetail.TheVariants.{Fields, Values}
 use Rattle.debctl_args.specs.declared.jobs.DiffKind.{DiffKind}
-use Rattle.debctl_args.specs.declared.jobs.DiffKind.TheVariants.{Packages, Binary, Sources, Source}
+use Rattle.debctl_args.specs.declared.jobs.DiffKind.TheVariants.{Packages, Binary, Sources, Source, Status}
 use Rattle.debctl_commands.specs.JobDevices.{ReaderOfJob, WriterOfJob}
 
 -- ---- the arguments
@@ -33,6 +33,7 @@ kind_of Packages = kinds.Packages
 kind_of Binary = kinds.Binary
 kind_of Sources = kinds.Sources
 kind_of Source = kinds.Source
+kind_of Status = kinds.Status
 
 -- how much is written of each paragraph that changed
 abbrev pub detail_of : DiffDetail → Detail
@@ -79,8 +80,8 @@ IsRefusedOld kind left =
 
 -- ---- worked cases
 
-arguments_of_diff : (map kind_of (Packages ∷ Binary ∷ Sources ∷ Source ∷ [])
-    ≡ kinds.Packages ∷ kinds.Binary ∷ kinds.Sources ∷ kinds.Source ∷ [])
+arguments_of_diff : (map kind_of (Packages ∷ Binary ∷ Sources ∷ Source ∷ Status ∷ [])
+    ≡ kinds.Packages ∷ kinds.Binary ∷ kinds.Sources ∷ kinds.Source ∷ kinds.Status ∷ [])
     × (map detail_of (Fields ∷ Values ∷ []) ≡ details.Fields ∷ details.Values ∷ [])
     × (form_asked Values Spelled ≡ record { detail = details.Values; versions = Spelled })
 arguments_of_diff = (refl, refl, refl)

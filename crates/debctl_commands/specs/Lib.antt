@@ -18,6 +18,7 @@ pub mod Taking
 pub mod Turns
 pub mod Reporting
 pub mod UnmetJob
+pub mod HealthJob
 pub mod Unopened
 pub mod Verdicts
 pub mod VersionJobs

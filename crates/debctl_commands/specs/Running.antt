@@ -11,6 +11,7 @@ use Rattle.deb_sort.specs.Files.{SortsFile}
 use Rattle.debctl_commands.specs.AllJobs.{ChecksAll, summary_status}
 use Rattle.debctl_commands.specs.DiffJob.{FindsChanges, IsRefusedOld, form_asked}
 use Rattle.debctl_commands.specs.DocumentJobs.{ChecksFile, NormalisesFile}
+use Rattle.debctl_commands.specs.HealthJob.{health_promise, is_architecture}
 use Rattle.debctl_commands.specs.JobDevices.{ReaderOfJob, WriterOfJob}
 use Rattle.debctl_commands.specs.KeyJob.{Keys}
 use Rattle.debctl_commands.specs.Promises.{Answers, Ends, HasStatus, Promise, Refuses, Saying}
@@ -27,7 +28,7 @@ use Rattle.debctl_args.specs.declared.jobs.Dependents.{Dependents}
 use Rattle.debctl_args.specs.declared.jobs.Job.{Job}
 use Rattle.debctl_args.specs.declared.jobs.Job.TheVariants.{Check, CheckAll, CheckWhole, Normalise, Same, Diff}
 use Rattle.debctl_args.specs.declared.jobs.Job.TheVariants.{Compare, CanonVersion, Sort, Query, QueryFrom}
-use Rattle.debctl_args.specs.declared.jobs.Job.TheVariants.{Unmet, VersionKey}
+use Rattle.debctl_args.specs.declared.jobs.Job.TheVariants.{Healthy, Unmet, VersionKey}
 
 -- the question that a query's words are
 abbrev pub asked : String Global → Vec (String Global) Global → String Global → Question
@@ -81,6 +82,7 @@ promise_of (QueryFrom arch profiles detail versions) =
     from_promise (query_options detail versions) (asked_of_file arch profiles)
 promise_of (Unmet arch profiles dependents versions) =
     unmet_promise (words_of_unmet arch profiles dependents versions)
+promise_of (Healthy arch strength) = health_promise (string_bytes arch) strength
 
 -- ---- what each status says
 
@@ -138,12 +140,13 @@ IfSecondUnread (QueryFrom arch profiles detail versions) P = Unit {0}
 IfSecondUnread (Unmet arch profiles dependents versions) P = IsTrue (is_index dependents) → P
 IfSecondUnread _ P = P
 
--- A query or `unmet` whose words are refused leaves the first reader as it was.
+-- A query, `unmet` or `healthy` whose words are refused leaves the first reader as it was.
 abbrev pub IfRefusedWords : Job → Type 0 → Type 0
 IfRefusedWords (Query arch profiles relation detail versions) P =
     AreRefused (asked arch profiles relation) → P
 IfRefusedWords (Unmet arch profiles dependents versions) P =
     IsFalse (has_environment (words_of_unmet arch profiles dependents versions)) → P
+IfRefusedWords (Healthy arch strength) P = IsFalse (is_architecture (string_bytes arch)) → P
 IfRefusedWords _ P = Unit {0}
 
 -- A query whose relation is that of a file leaves the second reader, which is that of the index, as

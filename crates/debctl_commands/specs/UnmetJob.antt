@@ -30,8 +30,8 @@ use Rattle.deb_index.specs.Listing.{ListsAll}
 use Rattle.deb_index.specs.Questions.{bad_environment}
 use Rattle.deb_unmet.specs.Asked.{request_for}
 use Rattle.deb_unmet.specs.Asking.{asks_of}
-use Rattle.deb_unmet.specs.Files.{Asks, WritesRead, WritesRefused, WritesSome, WritesUnmet}
-use Rattle.deb_unmet.specs.Own.{StopsOwn, WritesOwn}
+use Rattle.deb_unmet.specs.Files.{Asks, WritesFile, WritesRead, WritesRefused, WritesSome}
+use Rattle.deb_unmet.specs.Own.{OwnAsks, StopsOwn, WritesOwn, asks_own}
 use Rattle.deb_unmet.specs.declared.asked.Asked.{Asked}
 use Rattle.deb_unmet.specs.declared.asked.Asked.TheVariants as fields
 use Rattle.deb_unmet.specs.declared.asked.Request.{Request}
@@ -112,7 +112,7 @@ pub record AsksFile {W : Type 0} (asks : Asks) (left : Option (List ℕ))
     (count count_after : ℕ) (held : W → Option (List ℕ)) (failures : W → ℕ) (old new : W)
     (answer : Result Summary Fault) : Type 0 where
   pub ok : (text : List ℕ) → left ≡ Some text →
-      IfOk answer (λ summary. WritesUnmet asks text summary (held old) (held new))
+      IfOk answer (λ summary. WritesFile asks text summary (held old) (held new))
   pub refused : (text : List ℕ) → left ≡ Some text →
       IfRefused answer (λ refusal. WritesRefused asks text refusal (held old) (held new))
   pub cut_off : (text : List ℕ) → left ≡ Some text →
@@ -123,17 +123,16 @@ pub record AsksFile {W : Type 0} (asks : Asks) (left : Option (List ℕ))
   pub reads : count_after ≡ read_failures_after count answer
   pub writes : failures new ≡ write_failures_after (failures old) answer
 
--- The same of `unmet_in_itself`, for an index in itself.
-pub record AsksOwn {W : Type 0} (strength : Fields) (versions : VersionText)
-    (environment : Environment) (left : Option (List ℕ)) (count count_after : ℕ)
+-- The same of an index over its own packages.
+pub record AsksOwn {W : Type 0} (own : OwnAsks) (left : Option (List ℕ)) (count count_after : ℕ)
     (held : W → Option (List ℕ)) (failures : W → ℕ) (old new : W)
     (answer : Result Summary Fault) : Type 0 where
-  pub ok : (text : List ℕ) → left ≡ Some text → IfOk answer (λ summary. WritesOwn strength
-      versions environment text summary (held old) (held new))
+  pub ok : (text : List ℕ) → left ≡ Some text →
+      IfOk answer (λ summary. WritesOwn own text summary (held old) (held new))
   pub refused : (text : List ℕ) → left ≡ Some text →
       IfRefused answer (λ refusal. refusal_of docs.Packages text ≡ Some refusal)
-  pub stopped : (text : List ℕ) → left ≡ Some text → IfErr answer (λ fault. StopsOwn fault
-      strength versions environment text (held old) (held new))
+  pub stopped : (text : List ℕ) → left ≡ Some text →
+      IfErr answer (λ fault. StopsOwn fault own text (held old) (held new))
   pub unwritten : IfRefused answer (λ _. new ≡ old)
   pub refusal : IfRefused answer IsRefusalOfDocument
   pub reads : count_after ≡ read_failures_after count answer
@@ -227,8 +226,8 @@ pub record AsksInItself {W : Type 0} (dependents : Dependents) (versions : Versi
     pub second_untouched : second.failures_after ≡ second.failures
     pub tried : Result Summary Fault
     pub is : answer ≡ at_side First tried
-    pub asks_own : AsksOwn (fields_tried strength) versions environment first.text first.failures
-        first.failures_after out.held out.failures out.old out.new tried
+    pub in_itself : AsksOwn (asks_own (fields_tried strength) versions environment) first.text
+        first.failures first.failures_after out.held out.failures out.old out.new tried
 
 abbrev pub AsksBeside : {W : Type 0} → Dependents → VersionText → Environment
     → Saying W Summary Failure

@@ -13,6 +13,7 @@ ghost use Rattle.debctl_commands.specs.Taking.{TakesFile};
 use crate::all_jobs::run_check_all;
 use crate::diff_job::{DiffOptions, form_asked, run_diff};
 use crate::document_jobs::{run_check, run_normalise};
+use crate::health_job::run_healthy;
 use crate::query_from::run_query_from;
 use crate::query_job::{QueryOptions, QueryWords, run_query};
 use crate::same_job::run_same;
@@ -157,6 +158,9 @@ fn run_job<R: Source, S: Source, W: Sink, E: Sink>(
         } => {
             let words = unmet_words(arch, profiles, *dependents, *versions);
             run_unmet(alloc, &words, first, second, out, err)
+        }
+        Job::Healthy { arch, strength } => {
+            run_healthy(alloc, arch.as_str(), *strength, first, out, err)
         }
         Job::Diff { .. } | Job::Query { .. } | Job::QueryFrom { .. } => {
             run_in_detail(alloc, job, first, second, out, err)

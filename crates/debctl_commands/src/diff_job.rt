@@ -71,6 +71,7 @@ fn kind_of(kind: DiffKind) -> Kind
         DiffKind::Binary => Kind::Binary,
         DiffKind::Sources => Kind::Sources,
         DiffKind::Source => Kind::Source,
+        DiffKind::Status => Kind::Status,
     }
 }
 

@@ -118,6 +118,7 @@ fn kind_of_file(job: &Job, about: About) -> Option<Doc> {
             DiffKind::Binary => Doc::Binary,
             DiffKind::Sources => Doc::Sources,
             DiffKind::Source => Doc::Source,
+            DiffKind::Status => Doc::Status,
         }),
         Job::Query { .. } | Job::QueryFrom { .. } => Some(Doc::Packages),
         Job::Unmet { dependents, .. } => Some(match (about, dependents) {

@@ -19,6 +19,7 @@ mod diff_job;
 mod document_jobs;
 mod explain_job;
 mod file_or_nothing;
+mod health_job;
 mod hints;
 mod listed;
 mod opening;

@@ -12,6 +12,7 @@ ghost use Rattle.debctl_commands.specs.UnmetJob.{is_index, request_of, unmet_pro
 ghost use Rattle.debctl_commands.specs.UnmetJob.{AreRefusedBefore, AsksBeside, AsksFile, AsksIn};
 ghost use Rattle.debctl_commands.specs.UnmetJob.{AsksOwn, Failure, IsRefusedIndex, ReportsTried};
 ghost use Rattle.deb_unmet.specs.Asking.{asks_of};
+ghost use Rattle.deb_unmet.specs.Own.{asks_own};
 ghost use Rattle.deb_unmet.specs.declared.asking.Summary.{Summary};
 ghost use Rattle.deb_base.specs.declared.fault.Fault.{Fault};
 
@@ -102,7 +103,11 @@ pub(crate) fn run_unmet<R: Source, S: Source, W: Sink, E: Sink>(
 }
 
 /// Parses the environment that the command-line arguments name.
-fn parse_environment(alloc: Global, target: &str, profiles: &[String]) -> Result<Env, Fault>
+pub(crate) fn parse_environment(
+    alloc: Global,
+    target: &str,
+    profiles: &[String],
+) -> Result<Env, Fault>
     ensures { MakesEnvironment target.now (map string_bytes profiles.now) result }
 {
     let names = names_of(alloc, profiles)?;
@@ -158,8 +163,8 @@ fn run_in_itself<R: Source, W: Sink, E: Sink>(
     err: &mut E,
 ) -> u8
     ensures ends { (tried : Result Summary Fault)
-        × AsksOwn (fields_tried strength) asking.now.versions
-        (environment_of asking.now.environment.now) (R.left first.old) (R.failures first.old)
+        × AsksOwn (asks_own (fields_tried strength) asking.now.versions
+        (environment_of asking.now.environment.now)) (R.left first.old) (R.failures first.old)
         (R.failures first.new) W.held W.failures out.old out.new tried
         × ReportsTried (writer_of E.held E.failures err.old err.new) (at_side Side.First tried)
         result }
@@ -261,7 +266,7 @@ fn asked_of(dependents: Dependents) -> Asked
     }
 }
 
-fn fields_tried(strength: Strength) -> deb_unmet::Strength
+pub(crate) fn fields_tried(strength: Strength) -> deb_unmet::Strength
     ensures { result ≡ fields_tried strength }
 {
     match strength {

@@ -1,5 +1,5 @@
 -- Numbers that ask something don't ask nothing.
-use Rattle.std.proofs.Common.{◌≡◌, ◌≤◌, ◌<◌, ℕ, Bool, inl, inr, arith}
+use Rattle.std.proofs.Common.{◌≡◌, ◌≤◌, ◌<◌, ℕ, Bool, inl, inr, subst, arith}
 use Rattle.std.specs.Prelude.{IsTrue}
 use Rattle.deb_unmet.specs.Asked.{doc_of}
 use Rattle.deb_unmet.specs.declared.asked.Asked.{Asked}
@@ -9,7 +9,7 @@ use Rattle.deb_diff.specs.declared.detail.Detail.{Detail}
 use Rattle.deb_diff.specs.declared.detail.Detail.TheVariants.{Fields, Values}
 use Rattle.deb_diff.specs.declared.kind.Kind.{Kind}
 use Rattle.deb_diff.specs.declared.kind.Kind.TheVariants as kinds
-use Rattle.debctl_ffi.specs.Diffs.{ComparesNothing, detail_number}
+use Rattle.debctl_ffi.specs.Diffs.{ComparesNothing, IsNotCompared, detail_number}
 use Rattle.debctl_ffi.specs.Documents.{kind_number}
 use Rattle.debctl_ffi.specs.Unmet.{AsksNothing, IsAsked, asks_recommends}
 
@@ -40,11 +40,12 @@ asks_something kind recommends asks is (inl most) = below_four kind _ is.kind_is
 asks_something kind recommends asks is (inr both) =
     of_sources kind recommends asks is.kind_is is.recommends_is both.0 both.1
 
-kinds_compared : (of : Kind) → kind_number (doc_compared of) < 4
-kinds_compared kinds.Binary = omega arith
-kinds_compared kinds.Packages = omega arith
-kinds_compared kinds.Source = omega arith
-kinds_compared kinds.Sources = omega arith
+kinds_compared : (of : Kind) → IsNotCompared (kind_number (doc_compared of)) → ⊥
+kinds_compared kinds.Binary none = elim none [ inl e ↦ omega (arith, e) | inr most ↦ omega (arith, most) ]
+kinds_compared kinds.Packages none = elim none [ inl e ↦ omega (arith, e) | inr most ↦ omega (arith, most) ]
+kinds_compared kinds.Source none = elim none [ inl e ↦ omega (arith, e) | inr most ↦ omega (arith, most) ]
+kinds_compared kinds.Sources none = elim none [ inl e ↦ omega (arith, e) | inr most ↦ omega (arith, most) ]
+kinds_compared kinds.Status none = elim none [ inl e ↦ omega (arith, e) | inr most ↦ omega (arith, most) ]
 
 details : (how : Detail) → detail_number how < 2
 details Fields = omega arith
@@ -52,5 +53,5 @@ details Values = omega arith
 
 pub compares_something : (kind detail : ℕ) (of : Kind) (how : Detail) → kind ≡ kind_number (doc_compared of)
     → detail ≡ detail_number how → ComparesNothing kind detail → ⊥
-compares_something kind detail of how is how_is (inl most) = below_four kind _ is (kinds_compared of) most
+compares_something kind detail of how is how_is (inl none) = kinds_compared of (subst IsNotCompared is none)
 compares_something kind detail of how is how_is (inr most) = below_two detail _ how_is (details how) most

@@ -25,15 +25,19 @@ detail_number Values = 1
 numbers_of_details : map detail_number (Fields ∷ Values ∷ []) ≡ 0 ∷ 1 ∷ []
 numbers_of_details = refl
 
+-- The number is that of other control data, or of no kind.
+abbrev pub IsNotCompared : ℕ → Type 0
+IsNotCompared kind = (kind ≡ 4) ⊎ (6 ≤ kind)
+
 -- The numbers ask this; or they ask nothing, since there is no such kind, or no such detail.
 pub record IsComparing (kind detail : ℕ) (of : Kind) (how : Detail) : Type 0 where
   pub kind_is : kind ≡ kind_number (doc_of of)
   pub detail_is : detail ≡ detail_number how
 
 abbrev pub ComparesNothing : ℕ → ℕ → Type 0
-ComparesNothing kind detail = (4 ≤ kind) ⊎ (2 ≤ detail)
+ComparesNothing kind detail = IsNotCompared kind ⊎ (2 ≤ detail)
 
-nothing_compared : ComparesNothing 3 1 ≡ ((4 ≤ 3) ⊎ (2 ≤ 1))
+nothing_compared : ComparesNothing 3 1 ≡ ((◌≡◌ {A = ℕ} 3 4 ⊎ (6 ≤ 3)) ⊎ (2 ≤ 1))
 nothing_compared = refl
 
 -- ---- the lines

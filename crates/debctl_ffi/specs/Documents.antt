@@ -4,7 +4,7 @@ use Rattle.std.specs.Prelude.{◌≡◌, ℕ, ◌≤◌, ◌⊎◌, List, [], �
 use Rattle.deb_base.specs.Faults.{RefusedOrMemory}
 use Rattle.deb_base.specs.declared.refusal.Refusal.{Refusal}
 use Rattle.deb_base.specs.declared.doc.Doc.{Doc}
-use Rattle.deb_base.specs.declared.doc.Doc.TheVariants.{Binary, Packages, Source, Sources, Any}
+use Rattle.deb_base.specs.declared.doc.Doc.TheVariants.{Binary, Packages, Source, Sources, Status, Any}
 use Rattle.deb_control.specs.Calls.{HasParagraphs}
 use Rattle.deb_control.specs.Comparing.{RefusesSecond, AnswersSame}
 use Rattle.deb_control.specs.Documents.{Accepted, Meaning, canonical_text, refusal_of}
@@ -23,19 +23,20 @@ kind_number Packages = 1
 kind_number Source = 2
 kind_number Sources = 3
 kind_number Any = 4
+kind_number Status = 5
 
 -- The number is one of a kind; it is none.
 abbrev pub IsKind : ℕ → Type 0
 IsKind number = (doc : Doc) × (number ≡ kind_number doc)
 
 abbrev pub IsNoKind : ℕ → Type 0
-IsNoKind number = 5 ≤ number
+IsNoKind number = 6 ≤ number
 
-numbers_of_kinds : map kind_number (Binary ∷ Packages ∷ Source ∷ Sources ∷ Any ∷ [])
-    ≡ 0 ∷ 1 ∷ 2 ∷ 3 ∷ 4 ∷ []
+numbers_of_kinds : map kind_number (Binary ∷ Packages ∷ Source ∷ Sources ∷ Any ∷ Status ∷ [])
+    ≡ 0 ∷ 1 ∷ 2 ∷ 3 ∷ 4 ∷ 5 ∷ []
 numbers_of_kinds = refl
 
-other_numbers : (IsNoKind 4 ≡ (5 ≤ 4)) × (IsNoKind 5 ≡ (5 ≤ 5))
+other_numbers : (IsNoKind 5 ≡ (6 ≤ 5)) × (IsNoKind 6 ≡ (6 ≤ 6))
 other_numbers = (refl, refl)
 
 -- The number is that of a kind, of which this holds.

@@ -9,6 +9,7 @@ pub mod AllRefusals
 pub mod Queries
 pub mod Unmet
 pub mod Askers
+pub mod Health
 pub mod Fields
 pub mod Tables
 pub mod RelationParts

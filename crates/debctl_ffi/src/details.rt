@@ -39,7 +39,8 @@ pub unsafe extern "C" fn deb_index_details(
     ensures none_held { HoldsNone loan.value → result.status ≡ 7 }
     ensures status { HasStatus result.status (0 ∷ 1 ∷ 4 ∷ 5 ∷ 7 ∷ []) }
 {
-    details_at(unsafe { &*(index as *const Loaded) }, number, out, len)
+    let loaded = &*(index as *const Loaded);
+    details_at(loaded, number, out, len)
 }
 
 /// The answer of [`deb_index_details`].

@@ -3,7 +3,7 @@
 ghost use Rattle.std.specs.Prelude.{◌≡◌, ◌≤◌, [], ◌∷◌, IfErr, IfNone, IfOk, IfSome};
 ghost use Rattle.debctl_ffi.specs.Answers.{HasStatus};
 ghost use Rattle.debctl_ffi.specs.Buffers.{buffer};
-ghost use Rattle.debctl_ffi.specs.Diffs.{ComparesNothing, DiffFails, Differs, HasDiff, IsDiffRefusal, detail_number};
+ghost use Rattle.debctl_ffi.specs.Diffs.{ComparesNothing, DiffFails, Differs, HasDiff, IsDiffRefusal, IsNotCompared, detail_number};
 ghost use Rattle.debctl_ffi.specs.Documents.{kind_number};
 ghost use Rattle.debctl_ffi.specs.Replies.{Replies};
 ghost use Rattle.deb_diff.specs.Kinds.{doc_of};
@@ -63,13 +63,14 @@ pub extern "C" fn deb_diff(
 /// The kind of two files that has this number, in which any control data is none.
 fn kind_of_files(kind: u8) -> Option<Kind>
     ensures some { IfSome result (λ of. kind ≡ kind_number (doc_of of)) }
-    ensures none { IfNone result (4 ≤ kind) }
+    ensures none { IfNone result (IsNotCompared kind) }
 {
     match kind {
         0 => Some(Kind::Binary),
         1 => Some(Kind::Packages),
         2 => Some(Kind::Source),
         3 => Some(Kind::Sources),
+        5 => Some(Kind::Status),
         _ => None,
     }
 }

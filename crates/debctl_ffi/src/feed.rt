@@ -46,7 +46,7 @@ pub unsafe extern "C" fn deb_reader_start(
         ∗ ⌜ Starts kind answer.new started ⌝) }
 {
     let started = Reader::start(alloc, kind, answer);
-    unsafe { (reader as *mut Reader).write(started) }
+    (reader as *mut Reader).write(started)
 }
 
 /// Takes the next piece of the file, and reads each paragraph that ends in it; the file ends with
@@ -67,13 +67,8 @@ pub unsafe extern "C" fn deb_reader_feed(
         sem 𝓛 (lies_at the_row full_share reader new)
         ∗ ⌜ FeedsOn fed text.now (is_set is_last) answer.new new ⌝) }
 {
-    let new = Reader::feed(
-        unsafe { (reader as *mut Reader).read() },
-        text,
-        is_last,
-        answer,
-    );
-    unsafe { (reader as *mut Reader).write(new) }
+    let new = Reader::feed((reader as *mut Reader).read(), text, is_last, answer);
+    (reader as *mut Reader).write(new)
 }
 
 /// Writes the tables of [`crate::fields::deb_fields`] for the paragraphs that the last
@@ -100,8 +95,9 @@ pub unsafe extern "C" fn deb_reader_fields(
         (buffer values.old values.new values_length.new)) result }
     ensures status { HasStatus result.status (0 ∷ 4 ∷ []) }
 {
+    let fed = &*(reader as *const Reader);
     Reader::fields(
-        unsafe { &*(reader as *const Reader) },
+        fed,
         spans,
         span_count,
         names,
@@ -118,5 +114,5 @@ pub unsafe extern "C" fn deb_reader_free(reader: *mut u8)
     requires* started { sem 𝓛 (lies_at the_row full_share reader fed) }
     ensures* room { sem 𝓛 (room_at the_row reader) }
 {
-    discard(unsafe { (reader as *mut Reader).read() })
+    discard((reader as *mut Reader).read())
 }

@@ -50,7 +50,7 @@ pub unsafe extern "C" fn deb_index_read(
         ∗ ⌜ IsLoading text.now answer.new loaded ⌝) }
 {
     let loaded = Loaded::read(alloc, text, answer);
-    unsafe { (index as *mut Loaded).write(loaded) }
+    (index as *mut Loaded).write(loaded)
 }
 
 /// Frees what [`deb_index_read`] loaded. The memory is the caller's again.
@@ -60,7 +60,7 @@ pub unsafe extern "C" fn deb_index_free(index: *mut u8)
     requires* loaded { sem 𝓛 (lies_at the_row full_share index loaded) }
     ensures* room { sem 𝓛 (room_at the_row index) }
 {
-    discard(unsafe { (index as *mut Loaded).read() })
+    discard((index as *mut Loaded).read())
 }
 
 /// Writes the report of [`crate::query::deb_query`] on a loaded index. Its statuses, and 7: nothing
@@ -84,14 +84,8 @@ pub unsafe extern "C" fn deb_index_query(
     ensures none_held { HoldsNone loan.value → result.status ≡ 7 }
     ensures status { HasStatus result.status (0 ∷ 1 ∷ 2 ∷ 4 ∷ 5 ∷ 7 ∷ []) }
 {
-    Loaded::query(
-        unsafe { &*(index as *const Loaded) },
-        target,
-        profiles,
-        relation,
-        out,
-        len,
-    )
+    let loaded = &*(index as *const Loaded);
+    Loaded::query(loaded, target, profiles, relation, out, len)
 }
 
 /// Writes the lines of [`crate::unmet::deb_unmet`] for a loaded index. Its statuses, and 7: nothing
@@ -118,16 +112,8 @@ pub unsafe extern "C" fn deb_index_unmet(
     ensures unknown_kind { AsksNothing kind (is_set recommends) → result.status ≡ 6 }
     ensures status { HasStatus result.status (0 ∷ 1 ∷ 2 ∷ 3 ∷ 4 ∷ 5 ∷ 6 ∷ 7 ∷ []) }
 {
-    Loaded::unmet(
-        unsafe { &*(index as *const Loaded) },
-        kind,
-        recommends,
-        target,
-        profiles,
-        file,
-        out,
-        len,
-    )
+    let loaded = &*(index as *const Loaded);
+    Loaded::unmet(loaded, kind, recommends, target, profiles, file, out, len)
 }
 
 /// Writes the numbers of the packages of a loaded index that have a name, counted from 1, in
@@ -149,7 +135,8 @@ pub unsafe extern "C" fn deb_index_packages(
     ensures none_held { HoldsNone loan.value → result.status ≡ 7 }
     ensures status { HasStatus result.status (0 ∷ 4 ∷ 7 ∷ []) }
 {
-    Loaded::packages(unsafe { &*(index as *const Loaded) }, name, numbers, count)
+    let loaded = &*(index as *const Loaded);
+    Loaded::packages(loaded, name, numbers, count)
 }
 
 /// Writes the numbers of the packages of a loaded index that provide a name, counted from 1, in
@@ -171,7 +158,8 @@ pub unsafe extern "C" fn deb_index_providers(
     ensures none_held { HoldsNone loan.value → result.status ≡ 7 }
     ensures status { HasStatus result.status (0 ∷ 4 ∷ 7 ∷ []) }
 {
-    Loaded::providers(unsafe { &*(index as *const Loaded) }, name, numbers, count)
+    let loaded = &*(index as *const Loaded);
+    Loaded::providers(loaded, name, numbers, count)
 }
 
 /// Writes the name, the canonical version and the architecture of the package of a loaded index
@@ -193,5 +181,6 @@ pub unsafe extern "C" fn deb_index_package(
     ensures none_held { HoldsNone loan.value → result.status ≡ 7 }
     ensures status { HasStatus result.status (0 ∷ 1 ∷ 4 ∷ 5 ∷ 7 ∷ []) }
 {
-    Loaded::package_at(unsafe { &*(index as *const Loaded) }, number, out, len)
+    let loaded = &*(index as *const Loaded);
+    Loaded::package_at(loaded, number, out, len)
 }

@@ -16,6 +16,7 @@ pub(crate) fn kind_of(number: u8) -> Option<Doc>
         2 => Some(Doc::Source),
         3 => Some(Doc::Sources),
         4 => Some(Doc::Any),
+        5 => Some(Doc::Status),
         _ => None,
     }
 }

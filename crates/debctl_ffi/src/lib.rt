@@ -26,6 +26,7 @@ mod feed;
 mod field;
 mod fields;
 mod files;
+mod health;
 mod index;
 mod kept;
 mod kind;

@@ -70,12 +70,6 @@ pub unsafe extern "C" fn deb_index_query_why(
     ensures none_held { HoldsNone loan.value → result.status ≡ 7 }
     ensures status { HasStatus result.status (0 ∷ 1 ∷ 2 ∷ 4 ∷ 5 ∷ 7 ∷ []) }
 {
-    Loaded::query_why(
-        unsafe { &*(index as *const Loaded) },
-        target,
-        profiles,
-        relation,
-        out,
-        len,
-    )
+    let loaded = &*(index as *const Loaded);
+    Loaded::query_why(loaded, target, profiles, relation, out, len)
 }

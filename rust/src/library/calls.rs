@@ -177,3 +177,23 @@ pub fn unmet(
         length
     )
 }
+
+/// Recommends is asked too unless `recommends` is 0.
+pub fn healthy(
+    recommends: u8,
+    (target, index): (&[u8], &[u8]),
+    out: &mut [u8],
+    length: &mut usize,
+) -> Answer {
+    written!(
+        deb_healthy(
+            recommends,
+            target.as_ptr(),
+            target.len(),
+            index.as_ptr(),
+            index.len()
+        ),
+        out,
+        length
+    )
+}

@@ -77,7 +77,7 @@ pub struct Part {
 pub struct Row {
     pub kind: u8,
     pub cell_count: u8,
-    pub cells: [Part; 6],
+    pub cells: [Part; 10],
 }
 
 /// A text among several.
@@ -263,6 +263,16 @@ extern "C" {
         index_length: usize,
         text: *const u8,
         text_length: usize,
+        out: *mut u8,
+        out_size: usize,
+        length: *mut usize,
+    ) -> Answer;
+    pub fn deb_healthy(
+        recommends: u8,
+        target: *const u8,
+        target_length: usize,
+        index: *const u8,
+        index_length: usize,
         out: *mut u8,
         out_size: usize,
         length: *mut usize,

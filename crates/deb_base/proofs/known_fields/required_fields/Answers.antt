@@ -13,3 +13,7 @@ returns-in-Source c = rw c.in-Source.is refl
 pub returns-in-Sources : goal.returns-in-Sources
 unfolding known_row
 returns-in-Sources c = rw c.in-Sources.is refl
+
+pub returns-in-Status : goal.returns-in-Status
+unfolding known_row
+returns-in-Status c = rw c.in-Status.is refl

@@ -13,7 +13,7 @@ returns-in-Index-clause-ends g c =
         second_untouched = refl;
         tried = e.0;
         is = refl;
-        asks_own = e.1;
+        in_itself = e.1;
       }),
       e.2,
     )

@@ -1,5 +1,6 @@
 use Rattle.std.proofs.Common.{subst}
 use Rattle.deb_relation.specs.Environments.{environment_of}
+use Rattle.deb_unmet.specs.Own.{asks_own}
 use Rattle.debctl_commands.specs.UnmetJob.{AsksOwn}
 use Rattle.debctl_commands.proofs.unmet_job.run_in_itself.Goals as goal
 
@@ -9,7 +10,7 @@ returns-clause-ends g c =
     let answer = c.unmet_in_itself-answer.result in (
       answer,
       subst
-          (λ strength. AsksOwn strength c.args.asking.now.versions (environment_of c.args.asking.now.environment.now)
+          (λ strength. AsksOwn (asks_own strength c.args.asking.now.versions (environment_of c.args.asking.now.environment.now))
           (g.R.Source.left c.args.first.now) (g.R.Source.failures c.args.first.now) (g.R.Source.failures c.unmet_in_itself-answer.new.reader)
           g.W.Sink.held g.W.Sink.failures c.args.out.now c.unmet_in_itself-answer.new.writer answer)
           c.fields_tried-strength.ensures

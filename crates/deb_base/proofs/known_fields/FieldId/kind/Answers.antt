@@ -6,7 +6,7 @@ pub returns-in-Binary : goal.returns-in-Binary
 unfolding kind_of
 returns-in-Binary c = λ name is.
     let kind = c.usual_kind-kind.ensures ∙ ap kind_at (sym is) in
-    elim c.in-Binary.is [ inl e ↦ rw e kind | inr e ↦ rw e kind ]
+    elim c.in-Binary.is [ inl e ↦ rw e kind | inr (inl e) ↦ rw e kind | inr (inr e) ↦ rw e kind ]
 
 pub returns-in-Source : goal.returns-in-Source
 unfolding kind_of

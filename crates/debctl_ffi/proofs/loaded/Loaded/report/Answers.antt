@@ -6,10 +6,33 @@ use Rattle.debctl_ffi.proofs.Loading.{lists_held}
 use Rattle.debctl_ffi.proofs.loaded.Loaded.report.Goals as goal
 
 pub returns-in-Ok-true-default-clause-answers : goal.returns-in-Ok-true-default-clause-answers
-returns-in-Ok-true-default-clause-answers c = inl (record { told = c.yes.result; items = c.deref.result.now; found = inl (c.yes.ensures, λ text holds. rw (c.in-Ok-true-default.field-0-0-test, sym c.deref.ensures.value) at (c.in-Ok-true-default.ensures.ok text (lists_held text c.args.self.now c.in-Some.index c.in-Some.is holds))); replies = c.reply.ensures })
+returns-in-Ok-true-default-clause-answers c = inl (record {
+  told = c.yes.result;
+  items = c.deref.result.now;
+  found = inl (
+    c.yes.ensures,
+    λ text holds. rw (c.in-Ok-true-default.field-0-0-test, sym c.deref.ensures.value) at (
+        c.in-Ok-true-default.ensures.ok text
+        (lists_held text c.args.self.now c.in-Some.index c.in-Some.is holds)),
+  );
+  replies = c.reply.ensures;
+})
 
 pub returns-in-Ok-false-default-clause-answers : goal.returns-in-Ok-false-default-clause-answers
-returns-in-Ok-false-default-clause-answers c = inl (record { told = c.no.result; items = c.deref-in-Ok-false-default.result.now; found = inr (c.no.ensures, λ text holds. rw (c.in-Ok-false-default.field-0-0-test, sym c.deref-in-Ok-false-default.ensures.value) at (c.in-Ok-false-default.ensures.ok text (lists_held text c.args.self.now c.in-Some.index c.in-Some.is holds))); replies = c.reply-in-Ok-false-default.ensures })
+returns-in-Ok-false-default-clause-answers c = inl (record {
+  told = c.no.result;
+  items = c.deref-in-Ok-false-default.result.now;
+  found = inr (
+    c.no.ensures,
+    λ text holds. rw (
+      c.in-Ok-false-default.field-0-0-test,
+      sym c.deref-in-Ok-false-default.ensures.value,
+    ) at (
+        c.in-Ok-false-default.ensures.ok text
+        (lists_held text c.args.self.now c.in-Some.index c.in-Some.is holds)),
+  );
+  replies = c.reply-in-Ok-false-default.ensures;
+})
 
 pub returns-in-Err-Refused-clause-answers : goal.returns-in-Err-Refused-clause-answers
 returns-in-Err-Refused-clause-answers c =

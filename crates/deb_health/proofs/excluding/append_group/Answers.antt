@@ -1,0 +1,23 @@
+use Rattle.std.proofs.Common.{◌≡◌, ◌++◌, append-nil, sym, ap, ◌∙◌, subst}
+use Rattle.std.specs.List.{flat_map}
+use Rattle.deb_relation.specs.Texts.{group_text}
+use Rattle.deb_index.proofs.TextPieces.{alternatives_all, alternatives_more, alternatives_none, lines_more}
+use Rattle.deb_health.proofs.Exclusions.{alternatives_of}
+use Rattle.deb_health.proofs.excluding.append_group.Goals as goal
+
+pub loop-rest-init : goal.loop-rest-init
+loop-rest-init c = λ g regular is.
+    alternatives_none (λ done. c.args.out.now.items ≡ c.args.out.now.items ++ flat_map (alternatives_of c.args.negative.now c.args.group.now) done) g c.args.group.now regular is (sym (append-nil c.args.out.now.items))
+
+pub loop-rest-preserved : goal.loop-rest-preserved
+loop-rest-preserved c = λ g regular is.
+    let lines = alternatives_of c.args.negative.now c.args.group.now in
+    alternatives_more (λ done. c.loop-rest.out.items ≡ c.args.out.now.items ++ flat_map lines done) (λ done. c.append_only.new.out.items ≡ c.args.out.now.items ++ flat_map lines done) g c.loop-rest.rest.now c.in_ok-relation.others.now (c.loop-rest.invariant g regular is) (sym c.is_empty.ensures ∙ c.loop-rest-test.true)
+    c.in_ok-relation.ensures.others
+    (λ a more done good text so_far. lines_more lines done a c.args.out.now.items c.loop-rest.out.items c.append_only.new.out.items so_far (c.in_ok-append_only.ensures a (c.in_ok-relation.ensures.first a more good text)))
+
+pub returns : goal.returns
+returns c = λ g regular is.
+    let lines = alternatives_of c.args.negative.now c.args.group.now in
+    alternatives_all (λ done. c.loop-rest.out.items ≡ c.args.out.now.items ++ flat_map lines done) g c.loop-rest.rest.now (c.loop-rest.invariant g regular is) (sym c.is_empty.ensures ∙ c.loop-rest-test.false)
+    ∙ ap (λ t. c.args.out.now.items ++ flat_map (alternatives_of c.args.negative.now t) g) is

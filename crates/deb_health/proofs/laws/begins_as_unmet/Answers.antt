@@ -1,0 +1,5 @@
+use Rattle.std.proofs.Common.{refl}
+use Rattle.deb_health.proofs.laws.begins_as_unmet.Goals as goal
+
+pub returns : goal.returns
+returns c = λ strength environment packages number fields values. (_, refl)

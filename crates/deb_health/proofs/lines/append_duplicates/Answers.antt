@@ -1,0 +1,36 @@
+use Rattle.std.proofs.Common.{◌≡◌, ◌++◌, Bool, [], ltb, not, ap, ◌∙◌}
+use Rattle.std.specs.List.{filter, flat_map}
+use Rattle.std.specs.Option.{option_map_or}
+use Rattle.std.proofs.lemmas.List.{take_all}
+use Rattle.deb_relation.specs.Environments.{environment_of}
+use Rattle.deb_index.specs.Indexes.{packages_of}
+use Rattle.deb_index.specs.Kept.{listed_of}
+use Rattle.deb_index.specs.Listed.{Listed}
+use Rattle.deb_index.specs.Named.{has_name, numbers_of}
+use Rattle.deb_unmet.specs.Paragraphs.{heading_in}
+use Rattle.deb_health.specs.Lines.{duplicate_line, line_at}
+use Rattle.deb_health.specs.Together.{are_together, rules_out}
+use Rattle.deb_health.proofs.Duplicates.{lines-behind, lines_behind}
+use Rattle.deb_health.proofs.Exclusions.{one-more}
+use Rattle.deb_health.proofs.lines.append_duplicates.Goals as goal
+
+pub loop-number-preserved : goal.loop-number-preserved
+loop-number-preserved c =
+    let packages = packages_of c.args.set.now.index.now in
+    let p = listed_of c.in-Some.«package» in
+    let test : Listed → Bool = λ q. not (are_together (environment_of c.args.set.now.environment.now).target p q) in
+    let line = line_at (duplicate_line (heading_in c.args.paragraph.now)) packages in
+    one-more (lines_behind c.args.paragraph.now.number test packages line) c.packages-number-items.result.now c.loop-number.number-index _ c.args.out.now.items c.loop-number.out.items c.append_if_duplicate.new.out.items c.loop-number-test.true c.loop-number.invariant c.in_ok-append_if_duplicate.ensures
+
+pub returns : goal.returns
+returns c =
+    let packages = packages_of c.args.set.now.index.now in
+    let p = listed_of c.in-Some.«package» in
+    let target = (environment_of c.args.set.now.environment.now).target in
+    let test : Listed → Bool = λ q. not (are_together target p q) in
+    let line = line_at (duplicate_line (heading_in c.args.paragraph.now)) packages in
+    let n = c.args.paragraph.now.number in
+    c.loop-number.invariant
+    ∙ ap (λ ks. c.args.out.now.items ++ flat_map (lines_behind n test packages line) ks) (take_all c.loop-number.number-index c.packages-number-items.result.now c.loop-number-test.false ∙ c.packages-number-items.ensures ∙ ap (λ name. numbers_of (has_name name) packages) c.name.ensures)
+    ∙ ap (λ l. c.args.out.now.items ++ l) (lines-behind n (has_name p.name) test packages line)
+    ∙ ap (λ o. c.args.out.now.items ++ option_map_or (λ q. flat_map line (filter (λ other. ltb n other) (numbers_of (rules_out target q) packages))) o []) c.in-Some.ensures.listed

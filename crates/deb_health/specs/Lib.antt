@@ -1,0 +1,6 @@
+pub mod Excluding
+pub mod Together
+pub mod Lines
+pub mod Kept
+pub mod Health
+pub mod Laws

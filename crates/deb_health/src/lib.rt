@@ -1,0 +1,20 @@
+//! Whether a set of packages is consistent: what each depends on is there, and none excludes
+//! another (Debian Policy 7.2 to 7.5).
+//!
+//! ```text
+//! let environment = Env::new(alloc, b"amd64", &[])?;
+//! let summary = healthy(alloc, &environment, Strength::Depends, &mut packages, &mut writer)?;
+//! summary.is_empty; // no line was written
+//! ```
+//!
+//! `specs/` defines which lines a package has; `laws` has the theorems about these definitions.
+#![tactic(auto)]
+
+mod excluding;
+mod kept;
+pub mod laws;
+mod lines;
+mod members;
+mod together;
+
+pub use members::healthy;

@@ -1,0 +1,34 @@
+use Rattle.std.proofs.Common.{sym, ◌∙◌, subst}
+use Rattle.std.proofs.lemmas.Result.{err_from_is_err_and}
+use Rattle.deb_index.specs.Keeping.{KeepsAll}
+use Rattle.deb_unmet.specs.Own.{AreKept}
+use Rattle.deb_unmet.proofs.OwnFiles.{unread, unrefused, unstarted, write_told}
+use Rattle.deb_unmet.proofs.in_itself.write_in_itself.Goals as goal
+
+pub returns-in_err-index-clause-stopped : goal.returns-in_err-index-clause-stopped
+returns-in_err-index-clause-stopped g c = λ text told.
+    let p = err_from_is_err_and c.from_residual.result c.from_residual.ensures.1 in
+    rw (p.1, p.2) (unstarted c.in_err-index.field-0.0 _ (g.L.OwnLines.asks c.args.lines.now) text (g.W.Sink.held c.args.writer.now) c.in_err-index.ensures.fault)
+
+pub returns-clause-ok : goal.returns-clause-ok
+returns-clause-ok g c = λ text told.
+    c.write_kept.ensures.ok text (c.in_ok-index.ensures.ok text told) (subst (λ kept. KeepsAll (AreKept g.L.OwnLines.Holds kept) text) (sym c.deref.ensures.value) (c.in_ok-index.ensures.keeps text told c.new-kept.ensures))
+
+pub returns-clause-refused : goal.returns-clause-refused
+returns-clause-refused g c = λ text told. unrefused c.write_kept.result _ c.write_kept.ensures.fault
+
+pub returns-clause-stopped : goal.returns-clause-stopped
+returns-clause-stopped g c = λ text told.
+    c.write_kept.ensures.stopped text (c.in_ok-index.ensures.ok text told) (subst (λ kept. KeepsAll (AreKept g.L.OwnLines.Holds kept) text) (sym c.deref.ensures.value) (c.in_ok-index.ensures.keeps text told c.new-kept.ensures))
+
+pub returns-clause-unwritten : goal.returns-clause-unwritten
+returns-clause-unwritten g c = unrefused c.write_kept.result _ c.write_kept.ensures.fault
+
+pub returns-clause-refusal : goal.returns-clause-refusal
+returns-clause-refusal g c = unrefused c.write_kept.result _ c.write_kept.ensures.fault
+
+pub returns-clause-counts_read_failure : goal.returns-clause-counts_read_failure
+returns-clause-counts_read_failure g c = c.in_ok-index.ensures.counts_read_failure ∙ sym (unread _ c.write_kept.result c.write_kept.ensures.fault)
+
+pub returns-clause-fault_iff_write_failed : goal.returns-clause-fault_iff_write_failed
+returns-clause-fault_iff_write_failed g c = write_told _ _ c.write_kept.result c.write_kept.ensures.counts_failure

@@ -1,0 +1,110 @@
+//! Whether a set of packages is healthy, for programs in C.
+
+ghost use Rattle.std.specs.Prelude.{◌≡◌, ◌∷◌, [], IfErr, IfOk, Some};
+ghost use Rattle.deb_base.specs.Faults.{RefusedOrMemory};
+ghost use Rattle.deb_base.specs.declared.doc.Doc.TheVariants.{Packages};
+ghost use Rattle.deb_control.specs.Documents.{refusal_of};
+ghost use Rattle.deb_relation.specs.Environments.{environment_of};
+ghost use Rattle.debctl_ffi.specs.Answers.{HasStatus};
+ghost use Rattle.debctl_ffi.specs.Buffers.{buffer};
+ghost use Rattle.debctl_ffi.specs.Health.{HasSetLines, IsOfSet, ListsSet, SetFails, strength_of};
+ghost use Rattle.debctl_ffi.specs.Replies.{Replies};
+ghost use Rattle.debctl_ffi.specs.Unmet.{RefusesAsker, asker, is_set};
+
+use crate::answer::{Answer, no_memory, refused, some, yes};
+use crate::asker::make_environment;
+use crate::buffer::reply;
+use deb_base::{Fault, SliceSource, VecSink};
+use deb_health::healthy;
+use deb_relation::Env;
+use deb_unmet::{Strength, Summary};
+use std::alloc::Global;
+
+/// Writes why a set of packages isn't healthy for a target architecture, a line for each reason, to
+/// the start of `out`, and returns the length of these lines (Debian Policy 7.2 to 7.5). The set is
+/// the packages of an index; what they recommend must be met too if `recommends` isn't 0. Status 0:
+/// there is no line, the set is healthy. 1: there is one. With the number of the packages. 4: `out`
+/// is too small; `len` is the length that it needs. 5: out of memory.
+///
+/// Status 2, refused: the target, with the code 23 and the line 0; else the index, with its first
+/// refusal. Except for status 0 and 1, `out` is unchanged.
+#[unsafe(no_mangle)]
+pub extern "C" fn deb_healthy(
+    alloc: Global,
+    recommends: u8,
+    target: &[u8],
+    index: &[u8],
+    out: &mut [u8],
+    len: &mut usize,
+) -> Answer
+    ensures answers { let by = asker target.now [] index.now in
+        Replies (ListsSet (strength_of (is_set recommends)) by) (SetFails by)
+        (buffer out.old out.new len.new) result }
+    ensures status { HasStatus result.status (0 ∷ 1 ∷ 2 ∷ 4 ∷ 5 ∷ []) }
+{
+    *len = 0;
+    match lines_for(alloc, strength_of(recommends != 0), target, index) {
+        Ok((summary, lines)) => {
+            if summary.is_empty {
+                reply(yes(summary.paragraphs), &lines, out, len)
+            } else {
+                reply(some(summary.paragraphs), &lines, out, len)
+            }
+        }
+        Err(Fault::Refused(refusal)) => refused(&refusal),
+        Err(_) => no_memory(),
+    }
+}
+
+/// Which fields are asked: Recommends too, or not.
+fn strength_of(recommends: bool) -> Strength
+    ensures { result ≡ strength_of recommends }
+{
+    if recommends {
+        Strength::Recommends
+    } else {
+        Strength::Depends
+    }
+}
+
+/// The lines of a set in memory, and its summary. Else a refusal: of the target; else of the index.
+/// Or out of memory.
+fn lines_for(
+    alloc: Global,
+    strength: Strength,
+    target: &[u8],
+    index: &[u8],
+) -> Result<(Summary, Vec<u8>), Fault>
+    ensures ok { IfOk result
+        (λ answer. IsOfSet strength (asker target.now [] index.now) answer.0 answer.1.items) }
+    ensures fault { IfErr result
+        (λ fault. RefusedOrMemory fault (RefusesAsker (asker target.now [] index.now))) }
+{
+    let environment = make_environment(alloc, target, &[])?;
+    lines_in(alloc, &environment, strength, index)
+}
+
+/// The lines of a set in memory for an environment, and its summary; or the refusal of the index,
+/// or out of memory.
+fn lines_in(
+    alloc: Global,
+    environment: &Env,
+    strength: Strength,
+    index: &[u8],
+) -> Result<(Summary, Vec<u8>), Fault>
+    ensures ok { IfOk result
+        (λ answer. HasSetLines strength (environment_of environment.now) index.now answer.0
+        answer.1.items) }
+    ensures fault { IfErr result
+        (λ fault. RefusedOrMemory fault
+        (λ refusal. refusal_of Packages index.now ≡ Some refusal)) }
+{
+    let mut sink = VecSink::new(alloc);
+    let mut source = SliceSource::new(index);
+    match healthy(alloc, environment, strength, &mut source, &mut sink) {
+        Ok(summary) => Ok((summary, sink.into_bytes())),
+        Err(Fault::Refused(refusal)) => Err(Fault::Refused(refusal)),
+        Err(Fault::Memory | Fault::Write) => Err(Fault::Memory),
+        Err(Fault::Read) => unreachable!(),
+    }
+}
