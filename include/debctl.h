@@ -481,7 +481,8 @@ enum deb_form {
     DEB_REPORT = 0,      /* deb_query, deb_index_query, and both with _why */
     DEB_UNMET_LINES = 1, /* deb_unmet, deb_index_unmet */
     DEB_DIFF_LINES = 2,  /* deb_diff */
-    DEB_EXPLANATION = 3  /* deb_explain, deb_explain_all, deb_explain_relation, deb_explain_version */
+    DEB_EXPLANATION = 3, /* deb_explain, deb_explain_all, deb_explain_relation, deb_explain_version */
+    DEB_HEALTH_LINES = 4 /* deb_healthy */
 };
 
 /* What a line of a text says, and its cells. */
@@ -505,14 +506,20 @@ enum deb_row_kind {
     DEB_ROW_OK = 16,            /* the number in `ok N` */
     DEB_ROW_SUMMARY = 17,       /* the numbers in `ok N, M refused` */
     DEB_ROW_VALID = 18,         /* no cell: the line `ok` of deb_explain_relation or _version */
-    DEB_ROW_DOWNGRADED = 19     /* as DEB_ROW_UPGRADED, with an earlier new version */
+    DEB_ROW_DOWNGRADED = 19,    /* as DEB_ROW_UPGRADED, with an earlier new version */
+    DEB_ROW_UNMET_NEED = 20,    /* number, package, version, architecture, field, group */
+    DEB_ROW_UNSURE_NEED = 21,   /* the same */
+    DEB_ROW_CONFLICT = 22,      /* the same; number, name, version, architecture of the excluded one */
+    DEB_ROW_UNSURE_CONFLICT = 23, /* the same */
+    DEB_ROW_DUPLICATE = 24      /* number, package, version, architecture; number, version,
+                                 * architecture of the later one */
 };
 
 /* A line of a text. `fields` is one cell, with a space between two names. */
 struct deb_row {
     uint8_t kind;              /* one of deb_row_kind */
     uint8_t cell_count;        /* how many cells the kind has */
-    struct deb_span cells[6];  /* where they are in the text; after them only zeros */
+    struct deb_span cells[10]; /* where they are in the text; after them only zeros */
 };
 
 /* Writes what the lines of a text say to the start of `rows`: a row for each line, in their order.

@@ -38,7 +38,7 @@ from ._library import Kind, Text, lib
 from ._paragraphs import Paragraph, paragraphs
 from ._refusals import Code, Refused
 from ._relations import Alternative, applies, relations, satisfies
-from ._rows import Change, Group, NumberedPackage, Reason, UnmetGroup
+from ._rows import Change, Group, HealthReason, NumberedPackage, Reason, UnmetGroup
 from ._versions import Parts, Version, canonical, compare, key
 
 __version__ = "0.1.0"
@@ -52,16 +52,16 @@ def library_version() -> str:
 
 __all__ = [
     "AllChecked", "AllExplained", "Alternative", "Change", "Code", "Details", "Explanation",
-    "Group", "HealthReport", "Index", "Kind", "NumberedPackage", "Package", "Paragraph", "Parts",
-    "Reason", "Refused", "Report", "Text", "UnmetGroup", "UnmetReport", "Version", "applies",
-    "canonical", "check", "check_all", "compare", "diff", "explain", "explain_all",
-    "explain_relation", "explain_version", "healthy", "key", "library_version", "normalise",
-    "paragraphs", "query", "relations", "same", "satisfies", "unmet",
+    "Group", "HealthReason", "HealthReport", "Index", "Kind", "NumberedPackage", "Package",
+    "Paragraph", "Parts", "Reason", "Refused", "Report", "Text", "UnmetGroup", "UnmetReport",
+    "Version", "applies", "canonical", "check", "check_all", "compare", "diff", "explain",
+    "explain_all", "explain_relation", "explain_version", "healthy", "key", "library_version",
+    "normalise", "paragraphs", "query", "relations", "same", "satisfies", "unmet",
 ]
 
 for _public in (
-    AllChecked, AllExplained, Alternative, Change, Code, Details, Explanation, Group, HealthReport,
-    Index, NumberedPackage, Package, Paragraph, Parts, Reason, Refused, Report, UnmetGroup,
-    UnmetReport, Version,
+    AllChecked, AllExplained, Alternative, Change, Code, Details, Explanation, Group, HealthReason,
+    HealthReport, Index, NumberedPackage, Package, Paragraph, Parts, Reason, Refused, Report,
+    UnmetGroup, UnmetReport, Version,
 ):
     _public.__module__ = __name__

@@ -9,7 +9,10 @@ from ._library import (
     texts_of, written,
 )
 from ._refusals import Refused
-from ._rows import Change, Group, UnmetGroup, changes_of, groups_of, unmet_groups_of
+from ._rows import (
+    Change, Group, HealthReason, UnmetGroup, changes_of, groups_of, health_reasons_of,
+    unmet_groups_of,
+)
 
 _PACKAGES = 1
 _REPORT_ROOM = 1 << 18
@@ -60,6 +63,11 @@ class HealthReport(NamedTuple):
 
     def __bool__(self) -> bool:
         return self.healthy
+
+    @property
+    def reasons(self) -> List[HealthReason]:
+        """Why the set isn't healthy, in the order of the text."""
+        return health_reasons_of(self.text)
 
 
 def check(text: Text, kind: Kind = "packages") -> int:
@@ -214,10 +222,13 @@ def healthy(index: Text, arch: Text, *, recommends: bool = False) -> HealthRepor
     `recommends` Recommends too.
 
         >>> import debctl
-        >>> index = "Package: aa\nVersion: 1\nArchitecture: all\n"
-        >>> report = debctl.healthy(index + "Conflicts: bb\n\n" + index.replace("aa", "bb"), "amd64")
+        >>> aa = "Package: aa\\nVersion: 1\\nArchitecture: all\\nConflicts: bb\\n\\n"
+        >>> bb = "Package: bb\\nVersion: 1\\nArchitecture: all\\n"
+        >>> report = debctl.healthy(aa + bb, "amd64")
         >>> print(bool(report), report.text, end="")
         False conflict 1 aa 1 all Conflicts bb by 2 bb 1 all
+        >>> [(it.verdict, it.package.name, it.group, it.by.number) for it in report.reasons]
+        [('conflict', 'aa', 'bb', 2)]
 
     Raises Refused if the architecture or the index is refused.
     """

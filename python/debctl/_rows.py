@@ -6,19 +6,23 @@ from typing import Dict, Iterator, List, Literal, NamedTuple, Optional, Tuple
 
 from ._library import YES, lib, tables
 
-REPORT, UNMET_LINES, DIFF_LINES, EXPLANATION = range(4)
+REPORT, UNMET_LINES, DIFF_LINES, EXPLANATION, HEALTH_LINES = range(5)
 (
     MET, UNMET, IGNORED, PACKAGE, REASON, PACKAGE_REASON, UNMET_GROUP, UNSURE_GROUP, REMOVED,
     CHANGED, UPGRADED, ADDED, OLD_LINE, NEW_LINE, KEY, END, OK, SUMMARY, VALID,
-    DOWNGRADED,
-) = range(20)
-_ROW = struct.Struct("@BB6x12N")  # its kind, how many cells it has, and where they are
+    DOWNGRADED, UNMET_NEED, UNSURE_NEED, CONFLICT, UNSURE_CONFLICT, DUPLICATE,
+) = range(25)
+_ROW = struct.Struct("@BB6x20N")  # its kind, how many cells it has, and where they are
 
 Row = Tuple[int, List[str]]
 Verdict = Literal["met", "unmet", "ignored"]
 _VERDICTS: Dict[int, Verdict] = {MET: "met", UNMET: "unmet", IGNORED: "ignored"}
 _WORDS: Dict[int, Literal["changed", "upgraded", "downgraded"]] = {
     CHANGED: "changed", UPGRADED: "upgraded", DOWNGRADED: "downgraded"
+}
+
+_HEALTH: Dict[int, Literal["unmet", "conflict", "unsure"]] = {
+    UNMET_NEED: "unmet", UNSURE_NEED: "unsure", CONFLICT: "conflict", UNSURE_CONFLICT: "unsure"
 }
 
 
@@ -75,6 +79,18 @@ class UnmetGroup(NamedTuple):
     group: str
 
 
+class HealthReason(NamedTuple):
+    """Why a set of packages isn't healthy: a package, and the name of its field and the canonical
+    text of a group that no package of the set meets or, if there is a package `by`, that excludes
+    it. A duplicate has no field and no group; `by` is then a later package of the same name."""
+
+    verdict: Literal["unmet", "conflict", "unsure", "duplicate"]
+    package: NumberedPackage
+    field: Optional[str]
+    group: Optional[str]
+    by: Optional[NumberedPackage]
+
+
 class Change(NamedTuple):
     """What became of a paragraph: the number that it has in the old file or, if it was added, in
     the new one; its versions, canonical; the names of the fields that differ. `old` and `new` are
@@ -129,6 +145,21 @@ def unmet_groups_of(text: str) -> List[UnmetGroup]:
         UnmetGroup("unmet" if kind == UNMET_GROUP else "unsure", int(cells[0]), *cells[1:])
         for kind, cells in rows_of(UNMET_LINES, text)
     ]
+
+
+def _health_reason(kind: int, cells: List[str]) -> HealthReason:
+    """Returns the reason that a row is."""
+    package = _package(cells)
+    if kind == DUPLICATE:
+        later = _package([cells[4], package.name, *cells[5:]])
+        return HealthReason("duplicate", package, None, None, later)
+    by = _package(cells[6:]) if kind in (CONFLICT, UNSURE_CONFLICT) else None
+    return HealthReason(_HEALTH[kind], package, cells[4], cells[5], by)
+
+
+def health_reasons_of(text: str) -> List[HealthReason]:
+    """Returns the reasons of a report on a set of packages."""
+    return [_health_reason(kind, cells) for kind, cells in rows_of(HEALTH_LINES, text)]
 
 
 def _change(head: Row, below: List[Row], text: str) -> Change:

@@ -235,7 +235,7 @@ fn answer(call: &str, number: usize, files: &[Vec<u8>]) -> Result<Vec<u8>, Error
         "unmet" => of_unmet(number, files)?,
         "healthy" => {
             let report = healthy(number > 0, &files[0], &files[1])?;
-            done(report.healthy, 0) + &report.text
+            with_rows(&done(report.healthy, 0), &report.text, &report.printed())
         }
         "diff" => of_diff(number, files)?,
         "check" => {

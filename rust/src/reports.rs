@@ -96,10 +96,53 @@ pub struct UnmetGroup {
 #[derive(Clone, Debug, PartialEq, Eq, Hash)]
 #[non_exhaustive]
 pub struct HealthReport {
-    /// Whether the set is healthy: there is no line in the report.
+    /// Whether the set is healthy: there is no reason in the report.
     pub healthy: bool,
+    /// Why the set isn't healthy, in the order of the packages.
+    pub reasons: Vec<HealthReason>,
     /// The lines of the report.
     pub text: String,
+}
+
+/// Why a set of packages isn't healthy.
+#[derive(Clone, Debug, PartialEq, Eq, Hash)]
+#[non_exhaustive]
+pub struct HealthReason {
+    /// The package.
+    pub package: Package,
+    /// What is wrong about it.
+    pub fault: HealthFault,
+}
+
+/// What is wrong about a package of a set.
+#[derive(Clone, Debug, PartialEq, Eq, Hash)]
+#[non_exhaustive]
+pub enum HealthFault {
+    /// No package of the set meets a group of a field.
+    Unmet {
+        /// The name of the field.
+        field: String,
+        /// The canonical text of the group.
+        group: String,
+        /// Whether the answer depends on an architecture wildcard.
+        unsure: bool,
+    },
+    /// A group of a field excludes a package of the set.
+    Conflict {
+        /// The name of the field.
+        field: String,
+        /// The canonical text of the group.
+        group: String,
+        /// The package that is excluded.
+        by: Package,
+        /// Whether the answer depends on an architecture wildcard.
+        unsure: bool,
+    },
+    /// A later package has the same name, and the two can't be installed together.
+    Duplicate {
+        /// The later package.
+        with: Package,
+    },
 }
 
 impl fmt::Display for Report {
@@ -195,6 +238,35 @@ pub(crate) fn unmet_report((answer, text): (Answer, Vec<u8>)) -> UnmetReport {
     }
 }
 
+/// Returns the reason that a row is.
+fn health_reason(row: Row) -> HealthReason {
+    let fault = match row.kind {
+        texts::DUPLICATE => HealthFault::Duplicate {
+            with: Package {
+                number: row.number(4),
+                name: row.text(1),
+                version: row.text(5),
+                architecture: row.text(6),
+            },
+        },
+        texts::CONFLICT | texts::UNSURE_CONFLICT => HealthFault::Conflict {
+            field: row.text(4),
+            group: row.text(5),
+            by: package(&row, 6),
+            unsure: row.kind == texts::UNSURE_CONFLICT,
+        },
+        _ => HealthFault::Unmet {
+            field: row.text(4),
+            group: row.text(5),
+            unsure: row.kind != texts::UNMET_NEED,
+        },
+    };
+    HealthReason {
+        package: package(&row, 0),
+        fault,
+    }
+}
+
 /// Returns profiles as the library takes them.
 pub(crate) fn texts_of<'a>(profiles: &[&'a [u8]]) -> Vec<Text<'a>> {
     profiles.iter().map(|profile| Text::of(profile)).collect()
@@ -287,6 +359,7 @@ pub fn unmet(
 ///     Package: bb\nVersion: 2\nArchitecture: all\n";
 /// let report = debctl::healthy(false, "amd64", index)?;
 /// assert!(!report.healthy);
+/// assert_eq!(report.reasons[0].package.name, "aa");
 /// assert_eq!(report.text, "conflict 1 aa 1 all Conflicts bb by 2 bb 2 all\n");
 /// # Ok::<(), debctl::Error>(())
 /// ```
@@ -301,8 +374,10 @@ pub fn healthy(
     };
     let (answer, text) = written(index.len() + 4096, call);
     let answer = answered_of(answer, (Kind::Packages, index), (Kind::Packages, index))?;
+    let text = string(text);
     Ok(HealthReport {
         healthy: answer.status == library::YES,
-        text: string(text),
+        reasons: rows(Form::HealthLines, &text).map(health_reason).collect(),
+        text,
     })
 }

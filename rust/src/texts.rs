@@ -66,12 +66,13 @@ pub(crate) enum Form {
     UnmetLines = 1,
     DiffLines = 2,
     Explanation = 3,
+    HealthLines = 4,
 }
 
 /// A line of a text: its kind, its cells, and where the line ends.
 pub(crate) struct Row<'a> {
     pub kind: u8,
-    pub cells: [&'a str; 6],
+    pub cells: [&'a str; 10],
     pub end: usize,
 }
 
@@ -90,6 +91,10 @@ pub(crate) const KEY: u8 = 14;
 pub(crate) const END: u8 = 15;
 pub(crate) const OK: u8 = 16;
 pub(crate) const DOWNGRADED: u8 = 19;
+pub(crate) const UNMET_NEED: u8 = 20;
+pub(crate) const CONFLICT: u8 = 22;
+pub(crate) const UNSURE_CONFLICT: u8 = 23;
+pub(crate) const DUPLICATE: u8 = 24;
 
 impl Row<'_> {
     /// Returns the number in a cell.

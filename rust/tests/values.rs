@@ -2,9 +2,10 @@
 //! an index keeps.
 
 use debctl::{
-    applies, canonical, compare, diff, explain, explain_relation, explain_version, paragraphs,
-    query, query_why, relations, satisfies, spelled_relations, unmet, Alternative, Asked,
-    ChangeKind, Code, Compared, Error, Explanation, Index, Kind, Verdict, Version,
+    applies, canonical, compare, diff, explain, explain_relation, explain_version, healthy,
+    paragraphs, query, query_why, relations, satisfies, spelled_relations, unmet, Alternative,
+    Asked, ChangeKind, Code, Compared, Error, Explanation, HealthFault, Index, Kind, Verdict,
+    Version,
 };
 use std::collections::HashMap;
 
@@ -82,6 +83,52 @@ fn a_report_of_unmet_relations_has_groups() -> Result<(), Error> {
         [&first.package, &first.version, &first.architecture],
         ["gg", "1", "source"]
     );
+    Ok(())
+}
+
+#[test]
+fn a_report_on_a_set_has_reasons() -> Result<(), Error> {
+    let set = format!(
+        "{INDEX}Depends: zz, yy [linux-any]\nBreaks: mta\nConflicts: xx [linux-any]\n\n\
+         Package: xx\nVersion: 1\nArchitecture: all\n\n\
+         Package: bb\nVersion: 3\nArchitecture: all\n"
+    );
+    let report = healthy(false, "amd64", &set)?;
+    let texts = |field: &str, group: &str| (field.to_owned(), group.to_owned());
+    let index = Index::read(&set)?;
+    let package = |number| Ok::<_, Error>(index.package(number)?.expect("a package"));
+    let faults: Vec<_> = report.reasons.iter().map(|it| it.fault.clone()).collect();
+    let unmet = |group: &str, unsure| {
+        let (field, group) = texts("Depends", group);
+        HealthFault::Unmet {
+            field,
+            group,
+            unsure,
+        }
+    };
+    let conflict = |(field, group), number, unsure| {
+        let by = package(number)?;
+        Ok::<_, Error>(HealthFault::Conflict {
+            field,
+            group,
+            by,
+            unsure,
+        })
+    };
+    assert_eq!(
+        faults,
+        [
+            unmet("yy [linux-any]", true),
+            unmet("zz", false),
+            conflict(texts("Conflicts", "xx [linux-any]"), 3, true)?,
+            conflict(texts("Breaks", "mta"), 1, false)?,
+            HealthFault::Duplicate { with: package(4)? },
+        ]
+    );
+    for reason in &report.reasons {
+        assert_eq!(reason.package, package(2)?);
+    }
+    assert!(!report.healthy && healthy(false, "amd64", INDEX)?.reasons.is_empty());
     Ok(())
 }
 

@@ -240,8 +240,8 @@ static void try_rows(uint8_t form, struct written it, uint8_t status) {
         REQUIRE(rows.length == 0);
     for (size_t i = 0; i < rows.length; i++) {
         const struct deb_row *row = (const struct deb_row *)rows.text + i;
-        REQUIRE(row->kind <= DEB_ROW_DOWNGRADED && row->cell_count <= 6);
-        for (int cell = 0; cell < 6; cell++)
+        REQUIRE(row->kind <= DEB_ROW_DUPLICATE && row->cell_count <= 10);
+        for (int cell = 0; cell < 10; cell++)
             if (cell < row->cell_count) {
                 REQUIRE(row->cells[cell].start >= at && row->cells[cell].length <= it.length);
                 REQUIRE(row->cells[cell].start <= it.length - row->cells[cell].length);
@@ -436,6 +436,7 @@ static void try_index(uint8_t kind, struct deb_text relation, struct deb_text te
     if (one.answer.status <= DEB_NO) {
         WRITE(two, 2, 1, deb_healthy(chosen >> 7, target.bytes, target.length, text.bytes, text.length, out, room, length));
         REQUIRE(two.answer.status <= DEB_NO && two.answer.count == one.answer.count && two.length >= (count ? 0 : one.length));
+        try_rows(DEB_HEALTH_LINES, two, DEB_YES);
     }
     for (uint64_t number = 0; number <= held + 1 && number < 8; number++) {
         WRITE(package, 3, 1, deb_index_package(index, number, out, room, length));

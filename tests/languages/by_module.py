@@ -112,7 +112,7 @@ def answered(call, number, texts, loaded):
         return b"%d 0 0 0\n" % (not it) + by_rows(it.text, it) + more
     if call == "healthy":
         it = debctl.healthy(texts[1], texts[0], recommends=bool(number))
-        return b"%d 0 0 0\n" % (not it) + it.text.encode()
+        return b"%d 0 0 0\n" % (not it) + by_rows(it.text, it)
     if call in ("explain", "explain-relation", "explain-version"):
         return explained(call, number, texts)
     if call in ("check-all", "explain-all"):

@@ -128,6 +128,7 @@ static size_t rows_of(uint8_t form, const uint8_t *text, size_t length, struct d
 static int rows_agree(const struct question *q, const uint8_t *text, size_t length) {
     uint8_t form = is_query(q)         ? DEB_REPORT
                    : calls(q, "unmet") ? DEB_UNMET_LINES
+                   : calls(q, "healthy") ? DEB_HEALTH_LINES
                    : calls(q, "diff")  ? DEB_DIFF_LINES
                                        : DEB_EXPLANATION;
     struct deb_row *rows;

@@ -7,7 +7,7 @@ import sys
 from pathlib import Path
 
 import debctl
-from debctl import Alternative, NumberedPackage, Parts, Reason, Refused, Version
+from debctl import Alternative, HealthReason, NumberedPackage, Parts, Reason, Refused, Version
 from printed import printed
 
 INDEX = (
@@ -59,6 +59,30 @@ def reports():
         and all(printed(it) == it.text.encode() for it in (QUERY, unmet, met))
         and debctl.unmet(INDEX, "Format: 1.0\nSource: ss\nVersion: 1\nBuild-Depends: cc [linux-amd64]\n",
                          "amd64", kind="source").groups[0].field == "Build-Depends"
+    )
+
+
+def health():
+    """Whether a set of packages has its reasons, each with its packages."""
+    set_ = (
+        HELLO + "Depends: aa, by [any] | cc, cc [linux-any]\nBreaks: mta, by [linux-any]\n\n" + INDEX + "\n"
+        + HELLO.replace("Version: 1", "Version: 2") + "\n"
+        + HELLO.replace("hello", "by").replace("all", "i386")
+    )
+    report, healthy = debctl.healthy(set_, "amd64"), debctl.healthy(INDEX, "amd64")
+    hello = NumberedPackage(1, "hello", "1", "all")
+    return (
+        not report and bool(healthy) and healthy.reasons == []
+        and [printed(it) == it.text.encode() for it in (report, healthy)] == [True, True]
+        and report.reasons == [
+            HealthReason("unmet", hello, "Depends", "by [any] | cc", None),
+            HealthReason("unsure", hello, "Depends", "cc [linux-any]", None),
+            HealthReason(
+                "unsure", hello, "Breaks", "by [linux-any]", NumberedPackage(5, "by", "1", "i386")
+            ),
+            HealthReason("conflict", hello, "Breaks", "mta", AA._replace(number=2)),
+            HealthReason("duplicate", hello, None, None, hello._replace(number=4, version="2")),
+        ]
     )
 
 
@@ -291,8 +315,9 @@ def texts():
 
 
 TESTS = {
-    "groups": groups(), "reports": reports(), "changes": changes(), "explanations": explanations(),
-    "parts": parts(), "versions and texts": versions_and_texts(), "spelled": spelled(),
+    "groups": groups(), "reports": reports(), "health": health(), "changes": changes(),
+    "explanations": explanations(), "parts": parts(), "versions and texts": versions_and_texts(),
+    "spelled": spelled(),
     "profiles": profiles(), "one alternative": one_alternative(), "details": details(),
     "pieces": pieces(), "texts": texts(),
     "a missing field": next(debctl.paragraphs(HELLO)).relations("Depends") == [],

@@ -14,6 +14,8 @@ static const char *const rules[] = {
     "removed | | | |", "changed | | | | |", "upgraded | | | | | |", "added | | | |",
     " -|", " +|", "|: |", "", "ok |", "ok |, | refused", "ok",
     "downgraded | | | | | |",
+    "unmet | | | | | |", "unsure | | | | | |",
+    "conflict | | | | | | by | | | |", "unsure | | | | | | by | | | |", "duplicate | | | | with | | |",
 };
 
 /* Appends a row to `to`, with the newline, and returns its end; NULL if the row isn't one of its
@@ -48,7 +50,7 @@ static int prints_as(const struct deb_row *rows, size_t count, const uint8_t *te
     size_t at, cell;
     int same = again != NULL;
     for (at = 0; at < count && same; at++) {
-        for (cell = rows[at].cell_count; cell < 6; cell++)
+        for (cell = rows[at].cell_count; cell < 10; cell++)
             same &= rows[at].cells[cell].start == 0 && rows[at].cells[cell].length == 0;
         to = print_row(&rows[at], text, to, length - (size_t)(to - again));
         same &= to != NULL;

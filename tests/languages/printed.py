@@ -1,6 +1,6 @@
 """The texts of the Python module's objects, printed again from what the objects say alone."""
 
-from debctl import AllExplained, Explanation, Report, UnmetReport
+from debctl import AllExplained, Explanation, HealthReport, Report, UnmetReport
 
 
 def of_package(package):
@@ -24,6 +24,16 @@ def of_unmet(group):
         group.verdict, str(group.number), group.package, group.version, group.architecture,
         group.field, group.group,
     ])
+
+
+def of_health(reason):
+    """The line of a reason why a set isn't healthy."""
+    line = [reason.verdict, of_package(reason.package)]
+    if reason.verdict == "duplicate":
+        by = reason.by
+        return " ".join([*line, "with", str(by.number), by.version, by.architecture])
+    line += [reason.field, reason.group]
+    return " ".join(line if reason.by is None else [*line, "by", of_package(reason.by)])
 
 
 def of_change(change):
@@ -71,6 +81,8 @@ def printed(it):
         lines = [line for group in it.groups for line in of_group(group)]
     elif isinstance(it, UnmetReport):
         lines = [of_unmet(group) for group in it.groups]
+    elif isinstance(it, HealthReport):
+        lines = [of_health(reason) for reason in it.reasons]
     elif isinstance(it, Explanation):
         lines = of_explanation(it)
     elif isinstance(it, AllExplained):

@@ -63,7 +63,7 @@ TESTS = {
     "query": (lambda: debctl.query("p1, p2 | p3", INDEX, "amd64").groups, 2),
     "query, why": (lambda: debctl.query("p1 (>= 3), qq", INDEX, "amd64", why=True).groups, 2),
     "unmet": (lambda: debctl.unmet(INDEX, INDEX, "amd64").groups, 2),
-    "healthy": (lambda: debctl.healthy(INDEX, "amd64"), 1),
+    "healthy": (lambda: debctl.healthy(INDEX, "amd64").reasons, 2),
     "Index": (lambda: debctl.Index(INDEX), 2),  # and frees it
     "Index.query": (lambda: LOADED.query(NAMES, "amd64").groups, 2),
     "Index.unmet": (lambda: LOADED.unmet(INDEX, "amd64").groups, 2),

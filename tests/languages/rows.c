@@ -44,6 +44,17 @@ static const struct lined all[] = {
      4,
      {DEB_ROW_KEY, DEB_ROW_KEY, DEB_ROW_END, DEB_ROW_SUMMARY},
      "line/2/value/a: b/1/2/"},
+    {DEB_HEALTH_LINES,
+     "unmet 1 aa 1 amd64 Depends bb | by (>= 1) [by x]\nunsure 1 aa 1 amd64 Depends x [any] | by\n"
+     "conflict 1 aa 1 amd64 Conflicts mm by 2 by 2 all\n"
+     "unsure 2 by 2 all Breaks by (<< 2) [3 by linux-any] by 1 aa 1 amd64\n"
+     "duplicate 1 aa 1 amd64 with 3 1.1 amd64\nconflict 4 dd 1 all Breaks by by 5 by 6 all\n",
+     6,
+     {DEB_ROW_UNMET_NEED, DEB_ROW_UNSURE_NEED, DEB_ROW_CONFLICT, DEB_ROW_UNSURE_CONFLICT,
+      DEB_ROW_DUPLICATE, DEB_ROW_CONFLICT},
+     "1/aa/1/amd64/Depends/bb | by (>= 1) [by x]/1/aa/1/amd64/Depends/x [any] | by/"
+     "1/aa/1/amd64/Conflicts/mm/2/by/2/all/2/by/2/all/Breaks/by (<< 2) [3 by linux-any]/1/aa/1/amd64/"
+     "1/aa/1/amd64/3/1.1/amd64/4/dd/1/all/Breaks/by/5/by/6/all/"},
     {DEB_EXPLANATION, "ok 12\nok\n", 2, {DEB_ROW_OK, DEB_ROW_VALID}, "12/"},
 };
 
@@ -88,7 +99,7 @@ static void try_lines(const struct lined *it) {
        count == it->count);
 }
 
-/* Texts of no form, and texts of another one. */
+/* Texts of no form, and texts of another one. deb_healthy may write the lines of deb_unmet too. */
 static void try_others(void) {
     static const char *texts[] = {
         "x",
@@ -111,12 +122,16 @@ static void try_others(void) {
         "ok 1, refused\n",
         "ok 1, 2\n",
         " aa:\n",
+        "conflict 1 aa 1 all Breaks bb\n",
+        "conflict 1 aa 1 all Breaks bb by 2 bb 1 all x\n",
+        "duplicate 1 aa 1 all with 2 aa 1 all\n",
+        "unmet 1 aa 1 all Depends bb by 2 bb 1 all\n",
     };
-    static const uint8_t forms[] = {4, 5, 128, 255};
+    static const uint8_t forms[] = {5, 6, 128, 255};
     uint8_t form;
     size_t at, count;
     for (at = 0; at < sizeof texts / sizeof *texts; at++)
-        for (form = 0; form < 4; form++) {
+        for (form = 0; form < 5; form++) {
             struct deb_row *rows = sevens(4 * sizeof *rows);
             struct deb_answer answer;
             count = 99;
@@ -128,8 +143,9 @@ static void try_others(void) {
             free(rows);
         }
     for (at = 0; at < sizeof all / sizeof *all; at++)
-        for (form = 0; form < 4; form++)
-            if (form != all[at].form && all[at].count)
+        for (form = 0; form < 5; form++)
+            if (form != all[at].form && all[at].count &&
+                (form != DEB_HEALTH_LINES || all[at].form != DEB_UNMET_LINES))
                 IS(is(deb_rows(form, bytes(all[at].text), strlen(all[at].text), NULL, 0, &count),
                       DEB_NO, 0, 0, 0) &&
                    count == 0);

@@ -8,13 +8,13 @@ use Rattle.deb_rows.specs.Cells.{begins_with_number, begins_with_space, cell_of,
 use Rattle.deb_rows.specs.Kinds.{Piece, any_text, form_of, front_of, package_and, package_last, pieces_of}
 use Rattle.deb_rows.specs.Rows.{are_cells, cells_text}
 use Rattle.deb_rows.specs.declared.cell.Class.{Class}
-use Rattle.deb_rows.specs.declared.cell.Class.TheVariants.{Number, Word, Key, Alternative, Reason}
+use Rattle.deb_rows.specs.declared.cell.Class.TheVariants.{Number, Word, Key, Alternative, Reason, Group}
 use Rattle.deb_rows.specs.declared.form.Form.{Form}
 use Rattle.deb_rows.specs.declared.form.Form.TheVariants as form
 use Rattle.deb_rows.specs.declared.kind.RowKind.{RowKind}
 use Rattle.deb_rows.specs.declared.kind.RowKind.TheVariants as kind
 use Rattle.deb_rows.proofs.Ends.{Closes, cell_of-closed}
-use Rattle.deb_rows.proofs.KindFacts.{alternative_colon, key_colon, number_comma, number_line}
+use Rattle.deb_rows.proofs.KindFacts.{alternative_colon, group_by, group_line, key_colon, number_comma, number_line, number_space, word_space}
 
 -- ---- the kind of the line that a text begins with
 
@@ -59,11 +59,28 @@ key_kind text tail =
 abbrev pub explanation_kind : List ℕ → RowKind
 explanation_kind text = key_kind text (drop (length (cell_of Key text)) text)
 
+-- of what follows a cell, and of what follows the space after it
+abbrev pub after_cell : Class → List ℕ → List ℕ
+after_cell class text = drop (length (cell_of class text)) text
+
+abbrev pub skip : Class → List ℕ → List ℕ
+skip class text = drop 1 (after_cell class text)
+
+abbrev pub unsure_kind : List ℕ → RowKind
+unsure_kind text =
+    cond (get_or (after_cell Group (skip Word (skip Word (skip Word (skip Word (skip Number text)))))) 0 0 == 10) kind.UnsureNeed kind.UnsureConflict
+
+abbrev pub health_kind : List ℕ → RowKind
+health_kind text =
+    cond (get_or text 0 0 == 99) kind.Conflict
+    (cond (get_or text 0 0 == 100) kind.Duplicate (cond (get_or text 2 0 == 109) kind.UnmetNeed (unsure_kind (drop 7 text))))
+
 abbrev pub text_kind : Form → List ℕ → RowKind
 text_kind form.Report text = report_kind text
 text_kind form.UnmetLines text = unmet_kind text
 text_kind form.DiffLines text = diff_kind text
 text_kind form.Explanation text = explanation_kind text
+text_kind form.HealthLines text = health_kind text
 
 -- ---- cells, one by one
 
@@ -272,6 +289,83 @@ summary_line_kind cells more e =
     ∙ ap number_kind (append_assoc n (codes ", " ++ line) more)
     ∙ ap (λ t. cond (get_or t 0 0 == 10) kind.Count kind.Summary) tail
 
+-- ---- a set of packages
+
+skip_cell : (class : Class) (cell rest more : List ℕ) → Closes class (codes " " ++ (rest ++ more)) → is_cell class cell ≡ true
+    → skip class ((cell ++ (codes " " ++ rest)) ++ more) ≡ rest ++ more
+skip_cell class cell rest more closes is =
+    ap (skip class) (append_assoc cell (codes " " ++ rest) more) ∙ ap (drop 1) (past_cell class cell (codes " " ++ (rest ++ more)) closes is)
+
+skip_word : (pieces : List Piece) (cells : List (List ℕ)) (more : List ℕ) (are : are_cells (word ∷ pieces) cells ≡ true)
+    → skip Word (cells_text (word ∷ pieces) cells ++ more) ≡ cells_text pieces (split word pieces cells are).rest ++ more
+skip_word pieces cells more are =
+    let one = split word pieces cells are in
+    let rest = cells_text pieces one.rest in
+    ap (λ l. skip Word (cells_text (word ∷ pieces) l ++ more)) one.same ∙ skip_cell Word one.first rest more (word_space (rest ++ more)) one.is
+
+abbrev number : Piece
+number = (Number, codes " ")
+
+skip_number : (pieces : List Piece) (cells : List (List ℕ)) (more : List ℕ) (are : are_cells (number ∷ pieces) cells ≡ true)
+    → skip Number (cells_text (number ∷ pieces) cells ++ more) ≡ cells_text pieces (split number pieces cells are).rest ++ more
+skip_number pieces cells more are =
+    let one = split number pieces cells are in
+    let rest = cells_text pieces one.rest in
+    ap (λ l. skip Number (cells_text (number ∷ pieces) l ++ more)) one.same ∙ skip_cell Number one.first rest more (number_space (rest ++ more)) one.is
+
+-- what a line of a package goes on with, after the field
+record Skipped (pieces : List Piece) (text : List ℕ) (more : List ℕ) : Type 0 where
+  rest : List (List ℕ)
+  are : are_cells pieces rest ≡ true
+  same : skip Word (skip Word (skip Word (skip Word (skip Number text)))) ≡ cells_text pieces rest ++ more
+
+skip_field : (pieces : List Piece) (cells : List (List ℕ)) (more : List ℕ) → are_cells (package_and (word ∷ pieces)) cells ≡ true
+    → Skipped pieces (cells_text (package_and (word ∷ pieces)) cells ++ more) more
+skip_field pieces cells more e =
+    let p4 = word ∷ pieces in
+    let p3 = word ∷ p4 in
+    let p2 = word ∷ p3 in
+    let p1 = word ∷ p2 in
+    let one = split number p1 cells e in
+    let two = split word p2 one.rest one.are in
+    let three = split word p3 two.rest two.are in
+    let four = split word p4 three.rest three.are in
+    let five = split word pieces four.rest four.are in
+    record {
+      rest = five.rest;
+      are = five.are;
+      same =
+          ap (λ t. skip Word (skip Word (skip Word (skip Word t)))) (skip_number p1 cells more e)
+          ∙ ap (λ t. skip Word (skip Word (skip Word t))) (skip_word p2 one.rest more one.are)
+          ∙ ap (λ t. skip Word (skip Word t)) (skip_word p3 two.rest more two.are)
+          ∙ ap (skip Word) (skip_word p4 three.rest more three.are)
+          ∙ skip_word pieces four.rest more four.are;
+    }
+
+unsure_need_kind : (cells : List (List ℕ)) (more : List ℕ) → are_cells (pieces_of kind.UnsureNeed) cells ≡ true
+    → unsure_kind (cells_text (pieces_of kind.UnsureNeed) cells ++ more) ≡ kind.UnsureNeed
+unsure_need_kind cells more e =
+    let pieces = (Group, codes "\n") ∷ [] in
+    let skipped = skip_field pieces cells more e in
+    let group = split (Group, codes "\n") [] skipped.rest skipped.are in
+    let g = group.first in
+    let line = cells_text [] group.rest in
+    ap (λ t. cond (get_or (after_cell Group t) 0 0 == 10) kind.UnsureNeed kind.UnsureConflict)
+    (skipped.same ∙ ap (λ l. cells_text pieces l ++ more) group.same ∙ append_assoc g (codes "\n") more)
+    ∙ ap (λ t. cond (get_or t 0 0 == 10) kind.UnsureNeed kind.UnsureConflict) (past_cell Group g (codes "\n" ++ more) (group_line more) group.is)
+
+unsure_conflict_kind : (cells : List (List ℕ)) (more : List ℕ) → are_cells (pieces_of kind.UnsureConflict) cells ≡ true
+    → unsure_kind (cells_text (pieces_of kind.UnsureConflict) cells ++ more) ≡ kind.UnsureConflict
+unsure_conflict_kind cells more e =
+    let skipped = skip_field ((Group, codes " by ") ∷ package_last) cells more e in
+    let group = split (Group, codes " by ") package_last skipped.rest skipped.are in
+    let g = group.first in
+    let line = cells_text package_last group.rest in
+    ap (λ t. cond (get_or (after_cell Group t) 0 0 == 10) kind.UnsureNeed kind.UnsureConflict)
+    (skipped.same ∙ ap (λ l. cells_text ((Group, codes " by ") ∷ package_last) l ++ more) group.same ∙ append_assoc g (codes " by " ++ line) more)
+    ∙ ap (λ t. cond (get_or t 0 0 == 10) kind.UnsureNeed kind.UnsureConflict)
+    (past_cell Group g (codes " by " ++ (line ++ more)) (group_by (word ∷ word ∷ last_word ∷ []) group.rest more group.are) group.is)
+
 -- ---- every kind
 
 pub line_kind : (of : RowKind) (cells : List (List ℕ)) (more : List ℕ) → are_cells (pieces_of of) cells ≡ true
@@ -296,3 +390,8 @@ line_kind kind.Count cells more e = count_line_kind cells more e
 line_kind kind.Summary cells more e = summary_line_kind cells more e
 line_kind kind.Valid cells more e = refl
 line_kind kind.Downgraded cells more e = refl
+line_kind kind.UnmetNeed cells more e = refl
+line_kind kind.UnsureNeed cells more e = unsure_need_kind cells more e
+line_kind kind.Conflict cells more e = refl
+line_kind kind.UnsureConflict cells more e = unsure_conflict_kind cells more e
+line_kind kind.Duplicate cells more e = refl

@@ -1,60 +1,77 @@
 -- A cell ends before the text after it, and is a cell.
 use Rattle.std.proofs.Common.{◌≡◌, ◌+◌, ℕ, true, false, cond, List, [], ◌∷◌, ◌++◌, length, drop, refl, sym, ap, ◌∙◌, inl, inr}
-use Rattle.std.specs.Prelude.{◌==◌, ◌&&◌, Some, None}
-use Rattle.std.proofs.lemmas.Bool.{cases_Bool, and_parts, or_parts, or_from, and_right, and_from, false≢true}
+use Rattle.std.specs.Prelude.{◌==◌, ◌&&◌, Some, None, codes}
+use Rattle.std.proofs.lemmas.Bool.{cases_Bool, and_parts, or_parts, or_from, and_left, and_right, and_from, false≢true}
 use Rattle.std.proofs.lemmas.Bool.Decides.{Decides-eqb}
 use Rattle.std.specs.Option.{option_map_or, is_some}
 use Rattle.std.proofs.lemmas.List.{drop_at, drop-drop}
 use Rattle.std.proofs.lemmas.Slice.Eq.{starts_is}
-use Rattle.deb_rows.specs.Cells.{begins_with_space, stops, cell_of, is_unstopped, is_cell, fits}
+use Rattle.deb_rows.specs.Cells.{begins_with_by, begins_with_digit_after, begins_with_space, stops, cell_of, is_unstopped, is_cell, fits}
 use Rattle.deb_rows.specs.Reads.{begins_with, read_cell}
 use Rattle.deb_rows.specs.declared.cell.Class.{Class}
-use Rattle.deb_rows.specs.declared.cell.Class.TheVariants.{Number, Word, Key, Alternative, Reason, Line}
+use Rattle.deb_rows.specs.declared.cell.Class.TheVariants.{Number, Word, Key, Alternative, Reason, Line, Group}
 use Rattle.deb_rows.proofs.Cells.{cell_of-append-drop}
-
--- whether a byte ends a cell depends on the byte after it alone
-pub stops-by_next : (class : Class) (b c : ℕ) (cs ds : List ℕ) → stops class b (c ∷ cs) ≡ stops class b (c ∷ ds)
-stops-by_next Number b c cs ds = refl
-stops-by_next Word b c cs ds = refl
-stops-by_next Key b c cs ds = refl
-stops-by_next Alternative b c cs ds = refl
-stops-by_next Reason b c cs ds = refl
-stops-by_next Line b c cs ds = refl
 
 -- a text that ends a cell, and with which no byte ends it that doesn't at the end of a text
 pub record Closes (class : Class) (next : List ℕ) : Type 0 where
   pub empty : cell_of class next ≡ []
-  pub same : (b : ℕ) → stops class b next ≡ stops class b []
+  pub same : (b : ℕ) (bs : List ℕ) → stops class b (bs ++ next) ≡ stops class b bs
 
 -- a cell with such a text after it
 pub cell_of-closed : (class : Class) (cell next : List ℕ) → Closes class next → is_unstopped class cell ≡ true → cell_of class (cell ++ next) ≡ cell
 cell_of-closed class [] next closes free = closes.empty
-cell_of-closed class (b ∷ []) next closes free = elim (cases_Bool (stops class b [])) [
-  | inl e ↦ let no : false ≡ true = ap (λ t. cond t false true) (sym e) ∙ free in cc no
-  | inr e ↦ ap (λ t. cond t [] (b ∷ cell_of class next)) (closes.same b ∙ e) ∙ ap (λ l. b ∷ l) closes.empty
-]
-cell_of-closed class (b ∷ c ∷ cs) next closes free = elim (cases_Bool (stops class b (c ∷ cs))) [
-  | inl e ↦ let no : false ≡ true = ap (λ t. cond t false (is_unstopped class (c ∷ cs))) (sym e) ∙ free in cc no
+cell_of-closed class (b ∷ bs) next closes free = elim (cases_Bool (stops class b bs)) [
+  | inl e ↦ let no : false ≡ true = ap (λ t. cond t false (is_unstopped class bs)) (sym e) ∙ free in cc no
   | inr e ↦
-      ap (λ t. cond t [] (b ∷ cell_of class (c ∷ cs ++ next))) (stops-by_next class b c (cs ++ next) cs ∙ e)
-      ∙ ap (λ l. b ∷ l) (cell_of-closed class (c ∷ cs) next closes (ap (λ t. cond t false (is_unstopped class (c ∷ cs))) (sym e) ∙ free))
+      ap (λ t. cond t [] (b ∷ cell_of class (bs ++ next))) (closes.same b bs ∙ e)
+      ∙ ap (λ l. b ∷ l) (cell_of-closed class bs next closes (ap (λ t. cond t false (is_unstopped class bs)) (sym e) ∙ free))
+]
+
+-- what begins so less of a text
+digit_before : (bs more : List ℕ) → begins_with_digit_after [] (bs ++ more) ≡ false → begins_with_digit_after [] bs ≡ false
+digit_before [] more e = refl
+digit_before (b ∷ bs) more e = e
+
+begins_before : (before bs more : List ℕ) → begins_with_digit_after before (bs ++ more) ≡ false → begins_with_digit_after before bs ≡ false
+begins_before [] bs more e = digit_before bs more e
+begins_before (c ∷ cs) [] more e = refl
+begins_before (c ∷ cs) (b ∷ bs) more e = elim (cases_Bool (b == c)) [
+  | inl h ↦
+      ap (λ t. t && begins_with_digit_after cs bs) h
+      ∙ begins_before cs bs more (ap (λ t. t && begins_with_digit_after cs (bs ++ more)) (sym h) ∙ e)
+  | inr h ↦ and_left (b == c) (begins_with_digit_after cs bs) h
 ]
 
 -- before the end of a cell nothing ends it
-stops-at_end : (class : Class) (b : ℕ) (bs : List ℕ) → stops class b bs ≡ false → stops class b [] ≡ false
-stops-at_end Number b bs e = e
-stops-at_end Word b bs e = e
-stops-at_end Key b bs e = e
-stops-at_end Alternative b bs e = or_from (b == 10) (b == 58 && false) (or_parts (b == 10) (b == 58 && begins_with_space bs) e).0 (and_right (b == 58) false refl)
-stops-at_end Reason b bs e = e
-stops-at_end Line b bs e = e
+stops_before_alternative : (b : ℕ) (bs more : List ℕ) → stops Alternative b (bs ++ more) ≡ false → stops Alternative b bs ≡ false
+stops_before_alternative b [] more e =
+    or_from (b == 10) (b == 58 && false) (or_parts (b == 10) (b == 58 && begins_with_space more) e).0 (and_right (b == 58) false refl)
+stops_before_alternative b (c ∷ cs) more e = e
+
+stops_before_group : (b : ℕ) (bs more : List ℕ) → stops Group b (bs ++ more) ≡ false → stops Group b bs ≡ false
+stops_before_group b bs more e =
+    let parts = or_parts (b == 10) (b == 32 && begins_with_by (bs ++ more)) e in
+    or_from (b == 10) (b == 32 && begins_with_by bs) parts.0
+    (elim (cases_Bool (b == 32)) [
+      | inl h ↦
+          ap (λ t. t && begins_with_by bs) h
+          ∙ begins_before (codes "by ") bs more (ap (λ t. t && begins_with_by (bs ++ more)) (sym h) ∙ parts.1)
+      | inr h ↦ and_left (b == 32) (begins_with_by bs) h
+    ])
+
+stops_before : (class : Class) (b : ℕ) (bs more : List ℕ) → stops class b (bs ++ more) ≡ false → stops class b bs ≡ false
+stops_before Number b bs more e = e
+stops_before Word b bs more e = e
+stops_before Key b bs more e = e
+stops_before Alternative b bs more e = stops_before_alternative b bs more e
+stops_before Reason b bs more e = e
+stops_before Line b bs more e = e
+stops_before Group b bs more e = stops_before_group b bs more e
 
 stops-before_end : (class : Class) (b : ℕ) (bs : List ℕ) → stops class b bs ≡ false → stops class b (cell_of class bs) ≡ false
-stops-before_end class b [] e = e
-stops-before_end class b (c ∷ cs) e = elim (cases_Bool (stops class c cs)) [
-  | inl h ↦ ap (λ t. stops class b (cond t [] (c ∷ cell_of class cs))) h ∙ stops-at_end class b (c ∷ cs) e
-  | inr h ↦ ap (λ t. stops class b (cond t [] (c ∷ cell_of class cs))) h ∙ stops-by_next class b c (cell_of class cs) cs ∙ e
-]
+stops-before_end class b bs e =
+    stops_before class b (cell_of class bs) (drop (length (cell_of class bs)) bs)
+    (ap (stops class b) (sym (cell_of-append-drop class bs)) ∙ e)
 
 pub cell_of-unstopped : (class : Class) (text : List ℕ) → is_unstopped class (cell_of class text) ≡ true
 cell_of-unstopped class [] = refl

@@ -61,10 +61,12 @@ cells_found (piece ∷ pieces) text at i places out e =
     more_cells_found piece pieces text at i places out n (cell_found piece.0 piece.1 (drop at text) n read)
     (cells_found pieces text (at + (n + length piece.1)) (i + 1) (slice_set places i (span at n)) out rest))
 
--- each cell ends before the text after it
+-- each cell ends before the text after it and the cells that follow
 abbrev pub Close : List Piece → Type 0
 Close [] = Unit {0}
-Close (piece ∷ pieces) = ((more : List ℕ) → Closes piece.0 (piece.1 ++ more)) × Close pieces
+Close (piece ∷ pieces) =
+    ((cells : List (List ℕ)) (more : List ℕ) → are_cells pieces cells ≡ true → Closes piece.0 (piece.1 ++ (cells_text pieces cells ++ more)))
+    × Close pieces
 
 pub cells_are_read : (pieces : List Piece) (cells : List (List ℕ)) (text more : List ℕ) (at i : ℕ) (places : List Span)
     → Close pieces → are_cells pieces cells ≡ true → drop at text ≡ cells_text pieces cells ++ more
@@ -85,7 +87,7 @@ cells_are_read (piece ∷ pieces) (cell ∷ cells) text more at i places close a
     ∙ drop_at (cell ++ after) (rest ++ more) (n + length after) (length-append cell after) in
     let F : ℕ → Option (List Span × ℕ) = λ n. read_cells pieces text (at + (n + length after)) (i + 1) (slice_set places i (span at n)) in
     let read : read_cell piece.0 after (drop at text) ≡ Some n =
-    ap (read_cell piece.0 after) begins ∙ cell_is_read piece.0 cell after (rest ++ more) (close.0 (rest ++ more)) parts.0 in
+    ap (read_cell piece.0 after) begins ∙ cell_is_read piece.0 cell after (rest ++ more) (close.0 cells more parts.1) parts.0 in
     let lengths : at + (n + length after) + length rest ≡ at + length (cell ++ (after ++ rest)) =
     let a = length-append cell (after ++ rest) in let b = length-append after rest in omega (arith, a, b) in
     ap (option_and_then F) read

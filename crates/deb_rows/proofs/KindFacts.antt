@@ -1,8 +1,13 @@
 -- The cells of each kind end before the text after them, and each kind is among those of its form.
-use Rattle.std.proofs.Common.{◌≡◌, ◌⊎◌, ℕ, List, [], ◌∷◌, ◌++◌, refl, inl, inr}
-use Rattle.std.specs.Prelude.{codes}
-use Rattle.deb_rows.specs.Kinds.{Piece, any_text, form_of, kinds_of, package_and, package_last, pieces_of, word_and_text}
-use Rattle.deb_rows.specs.declared.cell.Class.TheVariants.{Number, Word, Key, Alternative, Reason, Line}
+use Rattle.std.proofs.Common.{◌≡◌, ◌⊎◌, ◌∙◌, ℕ, true, false, cond, not, List, [], ◌∷◌, ◌++◌, refl, sym, ap, inl, inr}
+use Rattle.std.specs.Prelude.{◌==◌, ◌&&◌, ◌||◌, codes}
+use Rattle.std.specs.Char.{is_ascii_digit}
+use Rattle.std.proofs.lemmas.Bool.{cases_Bool, and_parts, false≢true}
+use Rattle.deb_rows.specs.Cells.{begins_with_by, cell_of, is_cell, is_unstopped, stops}
+use Rattle.deb_rows.specs.Kinds.{Piece, any_text, field_and_excluded, field_and_group, form_of, kinds_of, package_and, package_last, package_twice, pieces_of, word_and_text}
+use Rattle.deb_rows.specs.Rows.{are_cells, cells_text}
+use Rattle.deb_rows.specs.declared.cell.Class.{Class}
+use Rattle.deb_rows.specs.declared.cell.Class.TheVariants.{Number, Word, Key, Alternative, Reason, Line, Group}
 use Rattle.deb_rows.specs.declared.form.Form.{Form}
 use Rattle.deb_rows.specs.declared.form.Form.TheVariants as form
 use Rattle.deb_rows.specs.declared.kind.RowKind.{RowKind}
@@ -11,65 +16,162 @@ use Rattle.deb_rows.proofs.Ends.{Closes}
 use Rattle.deb_rows.proofs.Found.{Close}
 
 pub number_space : (more : List ℕ) → Closes Number (codes " " ++ more)
-number_space more = record { empty = refl; same = λ b. refl }
+number_space more = record { empty = refl; same = λ b bs. refl }
 
 pub number_line : (more : List ℕ) → Closes Number (codes "\n" ++ more)
-number_line more = record { empty = refl; same = λ b. refl }
+number_line more = record { empty = refl; same = λ b bs. refl }
 
 pub number_comma : (more : List ℕ) → Closes Number (codes ", " ++ more)
-number_comma more = record { empty = refl; same = λ b. refl }
+number_comma more = record { empty = refl; same = λ b bs. refl }
 
 number_refused : (more : List ℕ) → Closes Number (codes " refused\n" ++ more)
-number_refused more = record { empty = refl; same = λ b. refl }
+number_refused more = record { empty = refl; same = λ b bs. refl }
 
-word_space : (more : List ℕ) → Closes Word (codes " " ++ more)
-word_space more = record { empty = refl; same = λ b. refl }
+pub word_space : (more : List ℕ) → Closes Word (codes " " ++ more)
+word_space more = record { empty = refl; same = λ b bs. refl }
 
 word_line : (more : List ℕ) → Closes Word (codes "\n" ++ more)
-word_line more = record { empty = refl; same = λ b. refl }
+word_line more = record { empty = refl; same = λ b bs. refl }
+
+word_with : (more : List ℕ) → Closes Word (codes " with " ++ more)
+word_with more = record { empty = refl; same = λ b bs. refl }
 
 pub key_colon : (more : List ℕ) → Closes Key (codes ": " ++ more)
-key_colon more = record { empty = refl; same = λ b. refl }
+key_colon more = record { empty = refl; same = λ b bs. refl }
+
+alternative_same : (more : List ℕ) (b : ℕ) (bs : List ℕ) → stops Alternative b (bs ++ (codes ": " ++ more)) ≡ stops Alternative b bs
+alternative_same more b [] = refl
+alternative_same more b (c ∷ cs) = refl
 
 pub alternative_colon : (more : List ℕ) → Closes Alternative (codes ": " ++ more)
-alternative_colon more = record { empty = refl; same = λ b. refl }
+alternative_colon more = record { empty = refl; same = alternative_same more }
 
 reason_line : (more : List ℕ) → Closes Reason (codes "\n" ++ more)
-reason_line more = record { empty = refl; same = λ b. refl }
+reason_line more = record { empty = refl; same = λ b bs. refl }
 
 text_line : (more : List ℕ) → Closes Line (codes "\n" ++ more)
-text_line more = record { empty = refl; same = λ b. refl }
+text_line more = record { empty = refl; same = λ b bs. refl }
+
+-- `by` goes on no further than it does where these follow
+by_before_line : (bs more : List ℕ) → begins_with_by (bs ++ (codes "\n" ++ more)) ≡ begins_with_by bs
+by_before_line [] more = refl
+by_before_line (a ∷ []) more = refl
+by_before_line (a ∷ b ∷ []) more = refl
+by_before_line (a ∷ b ∷ c ∷ []) more = refl
+by_before_line (a ∷ b ∷ c ∷ d ∷ ds) more = refl
+
+by_before_by : (bs more : List ℕ) → begins_with_by (bs ++ (codes " by " ++ more)) ≡ begins_with_by bs
+by_before_by [] more = refl
+by_before_by (a ∷ []) more = refl
+by_before_by (a ∷ b ∷ []) more = refl
+by_before_by (a ∷ b ∷ c ∷ []) more = refl
+by_before_by (a ∷ b ∷ c ∷ d ∷ ds) more = refl
+
+pub group_line : (more : List ℕ) → Closes Group (codes "\n" ++ more)
+group_line more = record {
+  empty = refl;
+  same = λ b bs. ap (λ t. b == 10 || b == 32 && t) (by_before_line bs more);
+}
+
+first_digit : (d : ℕ) (ds : List ℕ) (pieces : List Piece) (cells : List (List ℕ))
+    → are_cells ((Number, codes " ") ∷ pieces) ((d ∷ ds) ∷ cells) ≡ true → is_ascii_digit d ≡ true
+first_digit d ds pieces cells are = elim (cases_Bool (is_ascii_digit d)) [
+  | inl e ↦ e
+  | inr e ↦
+      let free = (and_parts (is_unstopped Number (d ∷ ds)) true (and_parts (is_cell Number (d ∷ ds)) (are_cells pieces cells) are).0).0 in
+      absurd (false≢true (ap (λ t. cond (not t) false (is_unstopped Number ds)) (sym e) ∙ free))
+]
+
+-- a group ends before `by` and a number
+pub group_by : (pieces : List Piece) (cells : List (List ℕ)) (more : List ℕ)
+    → are_cells ((Number, codes " ") ∷ pieces) cells ≡ true
+    → Closes Group (codes " by " ++ (cells_text ((Number, codes " ") ∷ pieces) cells ++ more))
+group_by pieces [] more are = absurd (false≢true are)
+group_by pieces ([] ∷ cells) more are = absurd (false≢true are)
+group_by pieces ((d ∷ ds) ∷ cells) more are =
+    let rest = (ds ++ (codes " " ++ cells_text pieces cells)) ++ more in
+    let digit : is_ascii_digit d ≡ true = first_digit d ds pieces cells are in
+    record {
+      empty = ap (λ t. cond t [] (32 ∷ cell_of Group (codes "by " ++ (d ∷ rest)))) digit;
+      same = λ b bs. ap (λ t. b == 10 || b == 32 && t) (by_before_by bs (d ∷ rest));
+    }
+
+-- whatever cells follow
+always : (class : Class) (after : List ℕ) (pieces : List Piece) → ((more : List ℕ) → Closes class (after ++ more)) → (cells : List (List ℕ)) (more : List ℕ)
+    → are_cells pieces cells ≡ true → Closes class (after ++ (cells_text pieces cells ++ more))
+always class after pieces closes cells more are = closes (cells_text pieces cells ++ more)
+
+number_first : (pieces : List Piece) → Close pieces → Close ((Number, codes " ") ∷ pieces)
+number_first pieces close = (always Number (codes " ") pieces number_space, close)
+
+pub word_first : (pieces : List Piece) → Close pieces → Close ((Word, codes " ") ∷ pieces)
+word_first pieces close = (always Word (codes " ") pieces word_space, close)
 
 text_closes : Close any_text
-text_closes = (text_line, tt)
+text_closes = (always Line (codes "\n") [] text_line, tt)
+
+last_closes : Close ((Word, codes "\n") ∷ [])
+last_closes = (always Word (codes "\n") [] word_line, tt)
 
 package_closes : Close package_last
-package_closes = (number_space, (word_space, (word_space, (word_line, tt))))
+package_closes =
+    number_first ((Word, codes " ") ∷ (Word, codes " ") ∷ (Word, codes "\n") ∷ [])
+    (word_first ((Word, codes " ") ∷ (Word, codes "\n") ∷ []) (word_first ((Word, codes "\n") ∷ []) last_closes))
 
 package_and_closes : (pieces : List Piece) → Close pieces → Close (package_and pieces)
-package_and_closes pieces close = (number_space, (word_space, (word_space, (word_space, close))))
+package_and_closes pieces close =
+    number_first ((Word, codes " ") ∷ (Word, codes " ") ∷ (Word, codes " ") ∷ pieces)
+    (word_first ((Word, codes " ") ∷ (Word, codes " ") ∷ pieces) (word_first ((Word, codes " ") ∷ pieces) (word_first pieces close)))
+
+word_and_text_closes : Close word_and_text
+word_and_text_closes = word_first any_text text_closes
+
+group_closes : Close field_and_group
+group_closes = word_first ((Group, codes "\n") ∷ []) (always Group (codes "\n") [] group_line, tt)
+
+excluded_closes : Close field_and_excluded
+excluded_closes =
+    word_first ((Group, codes " by ") ∷ package_last)
+    (group_by ((Word, codes " ") ∷ (Word, codes " ") ∷ (Word, codes "\n") ∷ []), package_closes)
+
+twice_closes : Close package_twice
+twice_closes =
+    let last : List Piece = (Word, codes " ") ∷ (Word, codes "\n") ∷ [] in
+    let rest : List Piece = (Number, codes " ") ∷ last in
+    let with : Piece = (Word, codes " with ") in
+    number_first ((Word, codes " ") ∷ (Word, codes " ") ∷ with ∷ rest)
+    (word_first ((Word, codes " ") ∷ with ∷ rest)
+    (word_first (with ∷ rest)
+    (always Word (codes " with ") rest word_with, number_first last (word_first ((Word, codes "\n") ∷ []) last_closes))))
 
 pub cells_close : (kind : RowKind) → Close (pieces_of kind)
 cells_close kind.Met = text_closes
 cells_close kind.Unmet = text_closes
 cells_close kind.Ignored = text_closes
 cells_close kind.Package = package_closes
-cells_close kind.Reason = (alternative_colon, (reason_line, tt))
-cells_close kind.PackageReason = (alternative_colon, package_and_closes any_text text_closes)
-cells_close kind.UnmetGroup = package_and_closes word_and_text (word_space, text_closes)
-cells_close kind.UnsureGroup = package_and_closes word_and_text (word_space, text_closes)
+cells_close kind.Reason =
+    (always Alternative (codes ": ") ((Reason, codes "\n") ∷ []) alternative_colon, (always Reason (codes "\n") [] reason_line, tt))
+cells_close kind.PackageReason = (always Alternative (codes ": ") (package_and any_text) alternative_colon, package_and_closes any_text text_closes)
+cells_close kind.UnmetGroup = package_and_closes word_and_text word_and_text_closes
+cells_close kind.UnsureGroup = package_and_closes word_and_text word_and_text_closes
 cells_close kind.Removed = package_closes
 cells_close kind.Changed = package_and_closes any_text text_closes
-cells_close kind.Upgraded = package_and_closes word_and_text (word_space, text_closes)
+cells_close kind.Upgraded = package_and_closes word_and_text word_and_text_closes
 cells_close kind.Added = package_closes
 cells_close kind.OldLine = text_closes
 cells_close kind.NewLine = text_closes
-cells_close kind.Key = (key_colon, text_closes)
+cells_close kind.Key = (always Key (codes ": ") any_text key_colon, text_closes)
 cells_close kind.End = tt
-cells_close kind.Count = (number_line, tt)
-cells_close kind.Summary = (number_comma, (number_refused, tt))
+cells_close kind.Count = (always Number (codes "\n") [] number_line, tt)
+cells_close kind.Summary =
+    (always Number (codes ", ") ((Number, codes " refused\n") ∷ []) number_comma, (always Number (codes " refused\n") [] number_refused, tt))
 cells_close kind.Valid = tt
-cells_close kind.Downgraded = package_and_closes word_and_text (word_space, text_closes)
+cells_close kind.Downgraded = package_and_closes word_and_text word_and_text_closes
+cells_close kind.UnmetNeed = package_and_closes field_and_group group_closes
+cells_close kind.UnsureNeed = package_and_closes field_and_group group_closes
+cells_close kind.Conflict = package_and_closes field_and_excluded excluded_closes
+cells_close kind.UnsureConflict = package_and_closes field_and_excluded excluded_closes
+cells_close kind.Duplicate = twice_closes
 
 -- a kind is one of these
 abbrev pub IsAmong : RowKind → List RowKind → Type 0
@@ -97,6 +199,11 @@ is_among kind.Count = inr (inr (inl refl))
 is_among kind.Summary = inr (inr (inr (inl refl)))
 is_among kind.Valid = inr (inr (inr (inr (inl refl))))
 is_among kind.Downgraded = inr (inr (inr (inr (inr (inr (inl refl))))))
+is_among kind.UnmetNeed = inl refl
+is_among kind.UnsureNeed = inr (inl refl)
+is_among kind.Conflict = inr (inr (inl refl))
+is_among kind.UnsureConflict = inr (inr (inr (inl refl)))
+is_among kind.Duplicate = inr (inr (inr (inr (inl refl))))
 
 -- these kinds are of a form
 abbrev pub AreOf : Form → List RowKind → Type 0
@@ -108,3 +215,4 @@ are_of_form form.Report = (refl, (refl, (refl, (refl, (refl, (refl, tt))))))
 are_of_form form.UnmetLines = (refl, (refl, tt))
 are_of_form form.DiffLines = (refl, (refl, (refl, (refl, (refl, (refl, (refl, tt)))))))
 are_of_form form.Explanation = (refl, (refl, (refl, (refl, (refl, tt)))))
+are_of_form form.HealthLines = (refl, (refl, (refl, (refl, (refl, tt)))))

@@ -48,7 +48,7 @@ take-placed (one ∷ more) places i room =
     ∙ ap (λ l. l ++ more) (take_more_set places i one (omega (arith, room)))
     ∙ append_assoc (take i places) (one ∷ []) more
 
-few_pieces : (of : RowKind) → length (pieces_of of) ≤ 6
+few_pieces : (of : RowKind) → length (pieces_of of) ≤ 10
 few_pieces kind.Met = omega arith
 few_pieces kind.Unmet = omega arith
 few_pieces kind.Ignored = omega arith
@@ -69,6 +69,11 @@ few_pieces kind.Count = omega arith
 few_pieces kind.Summary = omega arith
 few_pieces kind.Valid = omega arith
 few_pieces kind.Downgraded = omega arith
+few_pieces kind.UnmetNeed = omega arith
+few_pieces kind.UnsureNeed = omega arith
+few_pieces kind.Conflict = omega arith
+few_pieces kind.UnsureConflict = omega arith
+few_pieces kind.Duplicate = omega arith
 
 entry_names : (form : Form) (text : List ℕ) (row : RowText) (start : ℕ) (more : List ℕ) → IsRow form row → drop start text ≡ row_line row ++ more
     → cells_in text (row_at start row) ≡ row.cells

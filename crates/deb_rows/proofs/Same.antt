@@ -33,8 +33,8 @@ same_cells (piece ∷ pieces) (c ∷ cs) (d ∷ ds) t u close are also e =
     let right : (d ++ (after ++ U)) ++ u ≡ d ++ (after ++ (U ++ u)) = append_assoc d (after ++ U) u ∙ ap (λ l. d ++ l) (append_assoc after U u) in
     let whole : c ++ (after ++ (T ++ t)) ≡ d ++ (after ++ (U ++ u)) = sym left ∙ e ∙ right in
     let same : c ≡ d =
-    sym (cell_of-closed class c (after ++ (T ++ t)) (close.0 (T ++ t)) (free class c first.0)) ∙ ap (cell_of class) whole
-    ∙ cell_of-closed class d (after ++ (U ++ u)) (close.0 (U ++ u)) (free class d second.0) in
+    sym (cell_of-closed class c (after ++ (T ++ t)) (close.0 cs t first.1) (free class c first.0)) ∙ ap (cell_of class) whole
+    ∙ cell_of-closed class d (after ++ (U ++ u)) (close.0 ds u second.1) (free class d second.0) in
     let rest : after ++ (T ++ t) ≡ after ++ (U ++ u) =
     append_cancel_left c (after ++ (T ++ t)) (after ++ (U ++ u)) (whole ∙ ap (λ l. l ++ (after ++ (U ++ u))) (sym same)) in
     let more = same_cells pieces cs ds t u close.1 first.1 second.1 (append_cancel_left after (T ++ t) (U ++ u) rest) in
@@ -94,6 +94,11 @@ line_bytes kind.Count cells e = refl
 line_bytes kind.Summary cells e = refl
 line_bytes kind.Valid cells e = refl
 line_bytes kind.Downgraded cells e = refl
+line_bytes kind.UnmetNeed cells e = refl
+line_bytes kind.UnsureNeed cells e = refl
+line_bytes kind.Conflict cells e = refl
+line_bytes kind.UnsureConflict cells e = refl
+line_bytes kind.Duplicate cells e = refl
 
 some_bytes : (text : List ℕ) → has_bytes text ≡ true → 1 ≤ length text
 some_bytes [] e = absurd (false≢true e)

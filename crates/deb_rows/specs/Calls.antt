@@ -1,5 +1,5 @@
 -- What the public call promises.
-use Rattle.std.specs.Prelude.{◌≡◌, ℕ, ◌<◌, ◌≤◌, List, [], ◌∷◌, ◌++◌, codes, drop, length, refl}
+use Rattle.std.specs.Prelude.{◌≡◌, ℕ, ◌<◌, ◌≤◌, List, [], ◌∷◌, ◌++◌, codes, drop, length, replicate, refl}
 use Rattle.std.proofs.Common.{arith}
 use Rattle.deb_rows.specs.Rows.{HasRows, RowText, row, span, table_of}
 use Rattle.deb_rows.specs.declared.form.Form.{Form}
@@ -42,7 +42,7 @@ pub record Scans (form : Form) (text : List ℕ) (before after : List Row) (coun
 -- Worked cases: a text of one row, in a table of two entries and in none.
 
 abbrev places : List Span
-places = span 0 0 ∷ span 0 0 ∷ span 0 0 ∷ span 0 0 ∷ span 0 0 ∷ span 0 0 ∷ []
+places = replicate 10 (span 0 0)
 
 abbrev entry : ℕ → Row
 entry kind = record { kind = kind; cell_count = 0; cells = places }

@@ -3,12 +3,25 @@
 use Rattle.std.specs.Prelude.{◌≡◌, ℕ, ◌==◌, ◌&&◌, ◌||◌, Bool, true, false, not, cond, List, [], ◌∷◌, map, codes, refl}
 use Rattle.std.specs.Char.{is_ascii_digit, is_ascii_lowercase}
 use Rattle.deb_rows.specs.declared.cell.Class.{Class}
-use Rattle.deb_rows.specs.declared.cell.Class.TheVariants.{Number, Word, Key, Alternative, Reason, Line}
+use Rattle.deb_rows.specs.declared.cell.Class.TheVariants.{Number, Word, Key, Alternative, Reason, Line, Group}
 
 -- whether a text begins with a space
 abbrev pub begins_with_space : List ℕ → Bool
 begins_with_space [] = false
 begins_with_space (b ∷ bs) = b == 32
+
+-- whether a text begins with this one and a digit after it
+abbrev pub begins_with_digit_after : List ℕ → List ℕ → Bool
+begins_with_digit_after [] [] = false
+begins_with_digit_after [] (b ∷ bs) = is_ascii_digit b
+begins_with_digit_after (c ∷ cs) [] = false
+begins_with_digit_after (c ∷ cs) (b ∷ bs) = (b == c) && begins_with_digit_after cs bs
+
+-- Whether a text begins with `by`, a space and a digit. No group of relations contains that after
+-- a space: a list has its names in the order of their bytes, so that none after `by` begins with a
+-- digit.
+abbrev pub begins_with_by : List ℕ → Bool
+begins_with_by text = begins_with_digit_after (codes "by ") text
 
 -- Whether a byte ends a cell of a class, before a text. No cell contains a newline.
 abbrev pub stops : Class → ℕ → List ℕ → Bool
@@ -18,6 +31,7 @@ stops Key b after = not (is_ascii_lowercase b)
 stops Alternative b after = (b == 10) || ((b == 58) && begins_with_space after)
 stops Reason b after = b == 10
 stops Line b after = b == 10
+stops Group b after = (b == 10) || ((b == 32) && begins_with_by after)
 
 -- the bytes at the start of a text, up to the first that ends the cell
 abbrev pub cell_of : Class → List ℕ → List ℕ
@@ -56,6 +70,7 @@ fits Key cell = has_bytes cell
 fits Alternative cell = true
 fits Reason cell = not (begins_with_number cell)
 fits Line cell = true
+fits Group cell = true
 
 -- whether a text is a cell of a class
 abbrev pub is_cell : Class → List ℕ → Bool
@@ -94,3 +109,14 @@ texts : (cell_of Line (codes "12 a: b\n") ≡ codes "12 a: b")
     × (map (is_cell Line) (codes "12 a: b" ∷ codes "" ∷ codes "a\n" ∷ [])
     ≡ true ∷ true ∷ false ∷ [])
 texts = (refl, refl)
+
+-- a group ends before `by` and a number
+groups : map (cell_of Group)
+    (codes "cc by 2 cc 2 all\n" ∷ codes "a (>= 1) [b by c] | by\nd by 1" ∷ codes "by by 1 by" ∷ [])
+    ≡ codes "cc" ∷ codes "a (>= 1) [b by c] | by" ∷ codes "by" ∷ []
+groups = refl
+
+group_cells : map (is_cell Group)
+    (codes "a | by" ∷ codes "" ∷ codes "a by x" ∷ codes "a by " ∷ codes "a by 1" ∷ codes "a\n" ∷ [])
+    ≡ true ∷ true ∷ true ∷ true ∷ false ∷ false ∷ []
+group_cells = refl

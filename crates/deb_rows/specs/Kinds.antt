@@ -3,7 +3,7 @@
 use Rattle.std.specs.Prelude.{◌≡◌, ℕ, List, [], ◌∷◌, codes, map, replicate, refl}
 use Rattle.std.specs.Borrow.{Bor}
 use Rattle.deb_rows.specs.declared.cell.Class.{Class}
-use Rattle.deb_rows.specs.declared.cell.Class.TheVariants.{Number, Word, Key, Alternative, Reason, Line}
+use Rattle.deb_rows.specs.declared.cell.Class.TheVariants.{Number, Word, Key, Alternative, Reason, Line, Group}
 use Rattle.deb_rows.specs.declared.form.Form.{Form}
 use Rattle.deb_rows.specs.declared.form.Form.TheVariants as form
 use Rattle.deb_rows.specs.declared.kind.RowKind.{RowKind}
@@ -39,6 +39,11 @@ front_of kind.Count = codes "ok "
 front_of kind.Summary = codes "ok "
 front_of kind.Valid = codes "ok\n"
 front_of kind.Downgraded = codes "downgraded "
+front_of kind.UnmetNeed = codes "unmet "
+front_of kind.UnsureNeed = codes "unsure "
+front_of kind.Conflict = codes "conflict "
+front_of kind.UnsureConflict = codes "unsure "
+front_of kind.Duplicate = codes "duplicate "
 
 -- a number, name, version and architecture, each with a space after it, and more
 abbrev pub package_and : List Piece → List Piece
@@ -55,6 +60,20 @@ any_text = (Line, codes "\n") ∷ []
 -- a word, and after it any text
 abbrev pub word_and_text : List Piece
 word_and_text = (Word, codes " ") ∷ any_text
+
+-- a field, and after it a group
+abbrev pub field_and_group : List Piece
+field_and_group = (Word, codes " ") ∷ (Group, codes "\n") ∷ []
+
+-- the same, and the package that is excluded
+abbrev pub field_and_excluded : List Piece
+field_and_excluded = (Word, codes " ") ∷ (Group, codes " by ") ∷ package_last
+
+-- two packages of one name
+abbrev pub package_twice : List Piece
+package_twice =
+    (Number, codes " ") ∷ (Word, codes " ") ∷ (Word, codes " ") ∷ (Word, codes " with ")
+    ∷ (Number, codes " ") ∷ (Word, codes " ") ∷ (Word, codes "\n") ∷ []
 
 -- the cells of a line
 abbrev pub pieces_of : RowKind → List Piece
@@ -78,6 +97,11 @@ pieces_of kind.Count = (Number, codes "\n") ∷ []
 pieces_of kind.Summary = (Number, codes ", ") ∷ (Number, codes " refused\n") ∷ []
 pieces_of kind.Valid = []
 pieces_of kind.Downgraded = package_and word_and_text
+pieces_of kind.UnmetNeed = package_and field_and_group
+pieces_of kind.UnsureNeed = package_and field_and_group
+pieces_of kind.Conflict = package_and field_and_excluded
+pieces_of kind.UnsureConflict = package_and field_and_excluded
+pieces_of kind.Duplicate = package_twice
 
 -- the number of a kind in a table
 abbrev pub number_of : RowKind → ℕ
@@ -101,6 +125,11 @@ number_of kind.Count = 16
 number_of kind.Summary = 17
 number_of kind.Valid = 18
 number_of kind.Downgraded = 19
+number_of kind.UnmetNeed = 20
+number_of kind.UnsureNeed = 21
+number_of kind.Conflict = 22
+number_of kind.UnsureConflict = 23
+number_of kind.Duplicate = 24
 
 -- the form of the texts that have a kind
 abbrev pub form_of : RowKind → Form
@@ -124,6 +153,11 @@ form_of kind.Count = form.Explanation
 form_of kind.Summary = form.Explanation
 form_of kind.Valid = form.Explanation
 form_of kind.Downgraded = form.DiffLines
+form_of kind.UnmetNeed = form.HealthLines
+form_of kind.UnsureNeed = form.HealthLines
+form_of kind.Conflict = form.HealthLines
+form_of kind.UnsureConflict = form.HealthLines
+form_of kind.Duplicate = form.HealthLines
 
 -- the kinds of a form
 abbrev pub kinds_of : Form → List RowKind
@@ -134,6 +168,8 @@ kinds_of form.DiffLines =
     kind.Removed ∷ kind.Changed ∷ kind.Upgraded ∷ kind.Added ∷ kind.OldLine ∷ kind.NewLine
     ∷ kind.Downgraded ∷ []
 kinds_of form.Explanation = kind.Key ∷ kind.End ∷ kind.Count ∷ kind.Summary ∷ kind.Valid ∷ []
+kinds_of form.HealthLines =
+    kind.UnmetNeed ∷ kind.UnsureNeed ∷ kind.Conflict ∷ kind.UnsureConflict ∷ kind.Duplicate ∷ []
 
 -- Worked cases.
 
@@ -147,17 +183,28 @@ pieces : (piece_in (Word, record { ref_ptr = (0, 0); now = codes " " }) ≡ (Wor
     ≡ (Number, codes " ") ∷ (Word, codes " ") ∷ (Word, codes " ") ∷ (Word, codes "\n") ∷ [])
 pieces = (refl, refl, refl, refl, refl)
 
+pieces_of_sets : (pieces_of kind.UnmetNeed ≡ (Number, codes " ") ∷ (Word, codes " ")
+    ∷ (Word, codes " ") ∷ (Word, codes " ") ∷ (Word, codes " ") ∷ (Group, codes "\n") ∷ [])
+    × (pieces_of kind.UnsureNeed ≡ pieces_of kind.UnmetNeed)
+    × (pieces_of kind.Conflict ≡ (Number, codes " ") ∷ (Word, codes " ") ∷ (Word, codes " ")
+    ∷ (Word, codes " ") ∷ (Word, codes " ") ∷ (Group, codes " by ") ∷ (Number, codes " ")
+    ∷ (Word, codes " ") ∷ (Word, codes " ") ∷ (Word, codes "\n") ∷ [])
+    × (pieces_of kind.UnsureConflict ≡ pieces_of kind.Conflict)
+    × (pieces_of kind.Duplicate ≡ (Number, codes " ") ∷ (Word, codes " ") ∷ (Word, codes " ")
+    ∷ (Word, codes " with ") ∷ (Number, codes " ") ∷ (Word, codes " ") ∷ (Word, codes "\n") ∷ [])
+pieces_of_sets = (refl, refl, refl, refl, refl)
+
 -- the kinds have the numbers of `deb_row_kind` in `include/debctl.h`
 numbers : map (map number_of)
     (kinds_of form.Report ∷ kinds_of form.UnmetLines ∷ kinds_of form.DiffLines
-    ∷ kinds_of form.Explanation ∷ [])
+    ∷ kinds_of form.Explanation ∷ kinds_of form.HealthLines ∷ [])
     ≡ (0 ∷ 1 ∷ 2 ∷ 3 ∷ 4 ∷ 5 ∷ []) ∷ (6 ∷ 7 ∷ []) ∷ (8 ∷ 9 ∷ 10 ∷ 11 ∷ 12 ∷ 13 ∷ 19 ∷ [])
-    ∷ (14 ∷ 15 ∷ 16 ∷ 17 ∷ 18 ∷ []) ∷ []
+    ∷ (14 ∷ 15 ∷ 16 ∷ 17 ∷ 18 ∷ []) ∷ (20 ∷ 21 ∷ 22 ∷ 23 ∷ 24 ∷ []) ∷ []
 numbers = refl
 
 forms : map (map form_of)
     (kinds_of form.Report ∷ kinds_of form.UnmetLines ∷ kinds_of form.DiffLines
-    ∷ kinds_of form.Explanation ∷ [])
+    ∷ kinds_of form.Explanation ∷ kinds_of form.HealthLines ∷ [])
     ≡ replicate 6 form.Report ∷ replicate 2 form.UnmetLines ∷ replicate 7 form.DiffLines
-    ∷ replicate 5 form.Explanation ∷ []
+    ∷ replicate 5 form.Explanation ∷ replicate 5 form.HealthLines ∷ []
 forms = refl

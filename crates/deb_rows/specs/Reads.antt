@@ -1,6 +1,6 @@
 -- How a row is read at an offset of a text. The proofs show that this finds a row exactly if the
 -- text goes on with the line of one.
-use Rattle.std.specs.Prelude.{◌≡◌, ℕ, ◌+◌, ◌==◌, ◌&&◌, Bool, cond, List, [], ◌∷◌, drop, length, slice_set, Option, Some, None, codes, refl}
+use Rattle.std.specs.Prelude.{◌≡◌, ℕ, ◌+◌, ◌==◌, ◌&&◌, Bool, cond, List, [], ◌∷◌, drop, length, replicate, slice_set, Option, Some, None, codes, refl}
 use Rattle.std.specs.List.{starts_with}
 use Rattle.std.specs.Option.{option_and_then, option_map, option_or}
 use Rattle.deb_rows.specs.Cells.{cell_of, fits}
@@ -75,10 +75,10 @@ cells_read = (refl, refl, refl, refl)
 
 -- a row, at an offset; none, where the line has another form; none, where it has no newline
 rows_read : (read_row Report (codes "met a\nmet b c\n") 6
-    ≡ Some (found Met (span 10 3 ∷ span 0 0 ∷ span 0 0 ∷ span 0 0 ∷ span 0 0 ∷ span 0 0 ∷ [], 14)))
+    ≡ Some (found Met (span 10 3 ∷ replicate 9 (span 0 0), 14)))
     × (read_row Report (codes " 1 b 2 all\n") 0
     ≡ Some (found Package
-    (span 1 1 ∷ span 3 1 ∷ span 5 1 ∷ span 7 3 ∷ span 0 0 ∷ span 0 0 ∷ [], 11)))
+    (span 1 1 ∷ span 3 1 ∷ span 5 1 ∷ span 7 3 ∷ replicate 6 (span 0 0), 11)))
     × (read_row Report (codes "removed 1 a 1 all\n") 0 ≡ None)
     × (read_row Report (codes "met a") 0 ≡ None)
 unfolding read_cell

@@ -1,6 +1,6 @@
 -- The rows of a text that this library writes: what a line says, how it is printed, and where its
 -- cells then are. The forms are this project's own.
-use Rattle.std.specs.Prelude.{◌≡◌, ℕ, ◌+◌, ◌&&◌, Bool, true, false, List, [], ◌∷◌, ◌++◌, length, map, slice_set, codes, refl}
+use Rattle.std.specs.Prelude.{◌≡◌, ℕ, ◌+◌, ◌&&◌, Bool, true, false, List, [], ◌∷◌, ◌++◌, length, map, replicate, slice_set, codes, refl}
 use Rattle.deb_rows.specs.Cells.{is_cell}
 use Rattle.deb_rows.specs.Kinds.{Piece, form_of, front_of, number_of, pieces_of}
 use Rattle.deb_rows.specs.declared.form.Form.{Form}
@@ -72,9 +72,9 @@ abbrev pub placed : ℕ → List Span → List Span → List Span
 placed i places [] = places
 placed i places (one ∷ more) = placed (i + 1) (slice_set places i one) more
 
--- places for six cells, in which there is none
+-- places for ten cells, in which there is none
 abbrev pub no_cells : List Span
-no_cells = span 0 0 ∷ span 0 0 ∷ span 0 0 ∷ span 0 0 ∷ span 0 0 ∷ span 0 0 ∷ []
+no_cells = replicate 10 (span 0 0)
 
 -- the entry of a row whose line begins at this offset
 abbrev pub row_at : ℕ → RowText → Row
@@ -156,6 +156,27 @@ explanations : (row_line (row kind.Key (codes "value" ∷ codes "a: b" ∷ [])) 
     × (row_line (row kind.Valid []) ≡ codes "ok\n")
 explanations = (refl, refl, refl, refl, refl)
 
+needs_of_sets : (row_line (row kind.UnmetNeed
+    (codes "1" ∷ codes "aa" ∷ codes "1" ∷ codes "amd64" ∷ codes "Depends" ∷ codes "b | by" ∷ []))
+    ≡ codes "unmet 1 aa 1 amd64 Depends b | by\n")
+    × (row_line (row kind.UnsureNeed
+    (codes "1" ∷ codes "aa" ∷ codes "1" ∷ codes "all" ∷ codes "Depends" ∷ codes "b [any]" ∷ []))
+    ≡ codes "unsure 1 aa 1 all Depends b [any]\n")
+needs_of_sets = (refl, refl)
+
+conflicts : (row_line (row kind.Conflict
+    (codes "1" ∷ codes "aa" ∷ codes "1" ∷ codes "amd64" ∷ codes "Conflicts" ∷ codes "mm (<< 2)"
+    ∷ codes "2" ∷ codes "cc" ∷ codes "3" ∷ codes "all" ∷ []))
+    ≡ codes "conflict 1 aa 1 amd64 Conflicts mm (<< 2) by 2 cc 3 all\n")
+    × (row_line (row kind.UnsureConflict
+    (codes "2" ∷ codes "cc" ∷ codes "2" ∷ codes "all" ∷ codes "Breaks" ∷ codes "aa [linux-any]"
+    ∷ codes "1" ∷ codes "aa" ∷ codes "1" ∷ codes "amd64" ∷ []))
+    ≡ codes "unsure 2 cc 2 all Breaks aa [linux-any] by 1 aa 1 amd64\n")
+    × (row_line (row kind.Duplicate
+    (codes "1" ∷ codes "aa" ∷ codes "1" ∷ codes "amd64" ∷ codes "3" ∷ codes "1.1" ∷ codes "i386"
+    ∷ [])) ≡ codes "duplicate 1 aa 1 amd64 with 3 1.1 i386\n")
+conflicts = (refl, refl, refl)
+
 lines : rows_text (row kind.Met (codes "a" ∷ []) ∷ row kind.Unmet (codes "b" ∷ []) ∷ [])
     ≡ codes "met a\nunmet b\n"
 lines = refl
@@ -187,11 +208,13 @@ table : table_of (row kind.Met (codes "aa" ∷ [])
     ≡ record {
       kind = 0;
       cell_count = 1;
-      cells = span 4 2 ∷ span 0 0 ∷ span 0 0 ∷ span 0 0 ∷ span 0 0 ∷ span 0 0 ∷ [];
+      cells = span 4 2 ∷ span 0 0 ∷ span 0 0 ∷ span 0 0 ∷ span 0 0 ∷ span 0 0 ∷ span 0 0 ∷ span 0 0
+          ∷ span 0 0 ∷ span 0 0 ∷ [];
     }
     ∷ record {
       kind = 3;
       cell_count = 4;
-      cells = span 8 1 ∷ span 10 2 ∷ span 13 1 ∷ span 15 3 ∷ span 0 0 ∷ span 0 0 ∷ [];
+      cells = span 8 1 ∷ span 10 2 ∷ span 13 1 ∷ span 15 3 ∷ span 0 0 ∷ span 0 0 ∷ span 0 0
+          ∷ span 0 0 ∷ span 0 0 ∷ span 0 0 ∷ [];
     } ∷ []
 table = refl

@@ -1,7 +1,7 @@
 //! The cells of a line.
 
 ghost use Rattle.std.specs.Prelude.{◌≡◌, ◌+◌, ◌≤◌, length, IfSome};
-ghost use Rattle.deb_rows.specs.Cells.{begins_with_number, begins_with_space, cell_of, ends_with_colon, fits, has_bytes, stops};
+ghost use Rattle.deb_rows.specs.Cells.{begins_with_by, begins_with_number, begins_with_space, cell_of, ends_with_colon, fits, has_bytes, stops};
 ghost use Rattle.deb_rows.specs.Reads.{read_cell};
 
 /// What a cell may be. No cell has a newline.
@@ -19,6 +19,8 @@ pub(crate) enum Class {
     Reason,
     /// Any text.
     Line,
+    /// A text without a space and `by`, a space and a digit after it.
+    Group,
 }
 
 /// The length of the cell at the start of a text, if there is one, with this text after it.
@@ -58,6 +60,7 @@ fn stops(class: Class, byte: u8, after: &[u8]) -> bool
         Class::Key => !byte.is_ascii_lowercase(),
         Class::Alternative => byte == b'\n' || byte == b':' && begins_with_space(after),
         Class::Reason | Class::Line => byte == b'\n',
+        Class::Group => byte == b'\n' || byte == b' ' && begins_with_by(after),
     }
 }
 
@@ -71,6 +74,18 @@ fn begins_with_space(text: &[u8]) -> bool
     }
 }
 
+/// Whether a text begins with `by`, a space and a digit.
+fn begins_with_by(text: &[u8]) -> bool
+    ensures { result ≡ begins_with_by text.now }
+{
+    match text {
+        [first, second, third, fourth, ..] => {
+            *first == b'b' && *second == b'y' && *third == b' ' && fourth.is_ascii_digit()
+        }
+        _ => false,
+    }
+}
+
 /// Whether a text is a cell, if no byte ends it.
 fn fits(class: Class, text: &[u8]) -> bool
     ensures { result ≡ fits class text.now }
@@ -79,7 +94,7 @@ fn fits(class: Class, text: &[u8]) -> bool
         Class::Number | Class::Key => has_bytes(text),
         Class::Word => !ends_with_colon(text),
         Class::Reason => !begins_with_number(text),
-        Class::Alternative | Class::Line => true,
+        Class::Alternative | Class::Line | Class::Group => true,
     }
 }
 

@@ -16,6 +16,8 @@ pub enum Form {
     DiffLines,
     /// Why a file, a relation or a version is refused.
     Explanation,
+    /// Why a set of packages isn't healthy.
+    HealthLines,
 }
 
 /// The kinds of the lines of a text.
@@ -47,6 +49,13 @@ pub(crate) fn kinds_of(form: Form) -> &'static [RowKind]
             RowKind::Count,
             RowKind::Summary,
             RowKind::Valid,
+        ],
+        Form::HealthLines => &[
+            RowKind::UnmetNeed,
+            RowKind::UnsureNeed,
+            RowKind::Conflict,
+            RowKind::UnsureConflict,
+            RowKind::Duplicate,
         ],
     }
 }

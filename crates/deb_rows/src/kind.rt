@@ -50,6 +50,18 @@ pub enum RowKind {
     /// A paragraph that was downgraded: number, package, old version, new version, architecture,
     /// fields.
     Downgraded = 19,
+    /// A group that nothing in a set meets: number, package, version, architecture, field, group.
+    UnmetNeed = 20,
+    /// A group of which that is unsure, likewise.
+    UnsureNeed = 21,
+    /// A group that excludes a package of the set: number, package, version, architecture, field,
+    /// group; number, name, version and architecture of the excluded package.
+    Conflict = 22,
+    /// A group of which that is unsure, likewise.
+    UnsureConflict = 23,
+    /// A package of the same name that can't be installed together with an earlier one: number,
+    /// package, version, architecture of the earlier one; number, version, architecture.
+    Duplicate = 24,
 }
 
 /// The text before the first cell of a line of this kind.
@@ -58,10 +70,12 @@ pub(crate) fn front_of(kind: RowKind) -> &'static [u8]
 {
     match kind {
         RowKind::Met => b"met ",
-        RowKind::Unmet | RowKind::UnmetGroup => b"unmet ",
+        RowKind::Unmet | RowKind::UnmetGroup | RowKind::UnmetNeed => b"unmet ",
         RowKind::Ignored => b"ignored ",
         RowKind::Package | RowKind::Reason | RowKind::PackageReason => b" ",
-        RowKind::UnsureGroup => b"unsure ",
+        RowKind::UnsureGroup | RowKind::UnsureNeed | RowKind::UnsureConflict => b"unsure ",
+        RowKind::Conflict => b"conflict ",
+        RowKind::Duplicate => b"duplicate ",
         RowKind::Removed => b"removed ",
         RowKind::Changed => b"changed ",
         RowKind::Upgraded => b"upgraded ",
@@ -79,7 +93,7 @@ pub(crate) fn front_of(kind: RowKind) -> &'static [u8]
 /// The cells of a line of this kind, each with the text after it.
 pub(crate) fn pieces_of(kind: RowKind) -> &'static [(Class, &'static [u8])]
     ensures pieces { map piece_in result.now ≡ pieces_of kind }
-    ensures few { length result.now ≤ 6 }
+    ensures few { length result.now ≤ 10 }
 {
     match kind {
         RowKind::Met | RowKind::Unmet | RowKind::Ignored | RowKind::OldLine | RowKind::NewLine => &[
@@ -114,6 +128,35 @@ pub(crate) fn pieces_of(kind: RowKind) -> &'static [(Class, &'static [u8])]
             (Class::Word, b" "),
             (Class::Word, b" "),
             (Class::Line, b"\n"),
+        ],
+        RowKind::UnmetNeed | RowKind::UnsureNeed => &[
+            (Class::Number, b" "),
+            (Class::Word, b" "),
+            (Class::Word, b" "),
+            (Class::Word, b" "),
+            (Class::Word, b" "),
+            (Class::Group, b"\n"),
+        ],
+        RowKind::Conflict | RowKind::UnsureConflict => &[
+            (Class::Number, b" "),
+            (Class::Word, b" "),
+            (Class::Word, b" "),
+            (Class::Word, b" "),
+            (Class::Word, b" "),
+            (Class::Group, b" by "),
+            (Class::Number, b" "),
+            (Class::Word, b" "),
+            (Class::Word, b" "),
+            (Class::Word, b"\n"),
+        ],
+        RowKind::Duplicate => &[
+            (Class::Number, b" "),
+            (Class::Word, b" "),
+            (Class::Word, b" "),
+            (Class::Word, b" with "),
+            (Class::Number, b" "),
+            (Class::Word, b" "),
+            (Class::Word, b"\n"),
         ],
         RowKind::Key => &[(Class::Key, b": "), (Class::Line, b"\n")],
         RowKind::Count => &[(Class::Number, b"\n")],

@@ -1,7 +1,7 @@
 //! A row of a table, and where its cells are.
 
 /// The most cells of a row.
-pub const CELLS: usize = 6;
+pub const CELLS: usize = 10;
 
 /// A part of a text.
 #[repr(C)]

@@ -37,7 +37,7 @@ pub record IsComparing (kind detail : ℕ) (of : Kind) (how : Detail) : Type 0 w
 abbrev pub ComparesNothing : ℕ → ℕ → Type 0
 ComparesNothing kind detail = IsNotCompared kind ⊎ (2 ≤ detail)
 
-nothing_compared : ComparesNothing 3 1 ≡ (((3 ≡ 4) ⊎ (6 ≤ 3)) ⊎ (2 ≤ 1))
+nothing_compared : ComparesNothing 3 1 ≡ ((◌≡◌ {A = ℕ} 3 4 ⊎ (6 ≤ 3)) ⊎ (2 ≤ 1))
 nothing_compared = refl
 
 -- ---- the lines

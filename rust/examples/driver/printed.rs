@@ -1,8 +1,8 @@
 //! The texts of answers, printed again from their values alone.
 
 use debctl::{
-    AllExplained, Alternative, Change, ChangeKind, Explanation, Package, Report, UnmetReport,
-    Verdict,
+    AllExplained, Alternative, Change, ChangeKind, Explanation, HealthFault, HealthReport, Package,
+    Report, UnmetReport, Verdict,
 };
 
 /// What has a text.
@@ -60,6 +60,43 @@ impl Printed for UnmetReport {
                 "{} {} {} {}\n",
                 it.version, it.architecture, it.field, it.group
             );
+        }
+        text
+    }
+}
+
+impl Printed for HealthReport {
+    fn printed(&self) -> String {
+        let mut text = String::new();
+        for it in &self.reasons {
+            let (word, more) = match &it.fault {
+                HealthFault::Unmet {
+                    field,
+                    group,
+                    unsure,
+                } => (
+                    ["unmet", "unsure"][usize::from(*unsure)],
+                    format!("{field} {group}"),
+                ),
+                HealthFault::Conflict {
+                    field,
+                    group,
+                    by,
+                    unsure,
+                } => (
+                    ["conflict", "unsure"][usize::from(*unsure)],
+                    format!("{field} {group} by {}", package(by)),
+                ),
+                HealthFault::Duplicate { with } => (
+                    "duplicate",
+                    format!(
+                        "with {} {} {}",
+                        with.number, with.version, with.architecture
+                    ),
+                ),
+                _ => ("", String::new()),
+            };
+            text += &format!("{word} {} {more}\n", package(&it.package));
         }
         text
     }

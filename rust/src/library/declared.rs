@@ -77,7 +77,7 @@ pub struct Part {
 pub struct Row {
     pub kind: u8,
     pub cell_count: u8,
-    pub cells: [Part; 6],
+    pub cells: [Part; 10],
 }
 
 /// A text among several.

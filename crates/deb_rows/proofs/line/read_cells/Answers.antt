@@ -18,7 +18,7 @@ loop-i-preserved c = record {
       let at = c.loop-i.at in
       let rest = ap length (take_rest text at) ∙ length-drop at text in
       omega (arith, c.in-Some.ensures.within, rest, c.loop-i.invariant.within);
-  six = length-set c.loop-i.cells c.loop-i.i _ ∙ c.loop-i.invariant.six;
+  ten = length-set c.loop-i.cells c.loop-i.i _ ∙ c.loop-i.invariant.ten;
   left =
       sym (cell_read c.pieces_of-pieces.result.now c.args.text.now c.loop-i.at c.loop-i.i c.loop-i.cells _ c.in-Some.length c.loop-i-test.true c.in-Some.ensures.reads)
       ∙ c.loop-i.invariant.left;

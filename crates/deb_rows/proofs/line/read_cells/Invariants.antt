@@ -8,6 +8,6 @@ use Rattle.deb_rows.proofs.line.read_cells.Given as goal
 abbrev pub invariant-loop-i : goal.invariant-loop-i
 invariant-loop-i l = record {
   within : l.at ≤ length l.text;
-  six : length l.cells ≡ 6;
+  ten : length l.cells ≡ 10;
   left : read_cells (drop l.i (map piece_in l.pieces)) l.text l.at l.i l.cells ≡ read_cells (pieces_of l.kind) l.text l.start 0 no_cells;
 }

@@ -1,5 +1,6 @@
 use Rattle.std.proofs.Common.{◌≡◌, ◌∙◌, refl, subst, sym}
 use Rattle.debctl_commands.proofs.JobReports.{reported_as, unmet_reported, unmet_unread_file, unmet_unread_index, unmet_unread_second}
+use Rattle.debctl_commands.specs.JobDevices.{reader_of}
 use Rattle.debctl_commands.specs.Running.{IfRefusedWords}
 use Rattle.debctl_args.specs.declared.jobs.Job.{Job}
 use Rattle.debctl_commands.proofs.command.run_job.Goals as goal
@@ -62,4 +63,5 @@ returns-in-Healthy-clause-first_untouched_if_refused g c =
 
 pub returns-in-Healthy-clause-reports_answer : goal.returns-in-Healthy-clause-reports_answer
 returns-in-Healthy-clause-reports_answer g c =
-    reported_as c.args.job.now _ c.in-Healthy.is _ _ _ _ c.run_healthy.result (rw (c.as_str-in-Healthy.ensures.value, c.index_members-in-Healthy.ensures) at (c.run_healthy.ensures.reports_answer _))
+    let second = reader_of (g.S.Source.left c.args.second.now) (g.S.Source.failures c.args.second.now) (g.S.Source.failures c.args.second.now) in
+    reported_as c.args.job.now _ c.in-Healthy.is _ _ _ _ c.run_healthy.result (rw (c.as_str-in-Healthy.ensures.value, c.index_members-in-Healthy.ensures) at (c.run_healthy.ensures.reports_answer second))
