@@ -13,6 +13,8 @@ use Rattle.deb_control.specs.Pairs.{Pairwise}
 use Rattle.deb_control.specs.ValueFiles.{ValueEntries}
 use Rattle.deb_index.specs.Listed.{Listed}
 use Rattle.deb_index.specs.Listing.{Lists}
+use Rattle.deb_index.specs.Members.{has_values}
+use Rattle.deb_index.specs.declared.members.Members.{Members}
 use Rattle.deb_index.specs.Named.{numbers_from, numbers_of, package_at}
 use Rattle.deb_index.specs.Reports.{Numbered}
 use Rattle.deb_index.proofs.Numbered.{at-front}
@@ -27,6 +29,7 @@ use Rattle.deb_unmet.specs.declared.applying.Applies.TheVariants.{Surely, Maybe,
 use Rattle.deb_unmet.specs.declared.asked.Asked.TheVariants.{Packages}
 use Rattle.deb_unmet.specs.declared.asked.Strength.{Strength}
 use Rattle.deb_unmet.proofs.Groups.{nothing-group}
+use Rattle.deb_unmet.proofs.SpelledVersions.{canonical_members}
 use Rattle.deb_health.specs.Excluding.{excludes}
 use Rattle.deb_health.specs.Health.{are_apart, asks_healthy, is_abundant, is_peaceful}
 use Rattle.deb_health.specs.Laws.{NoLineIfHealthy}
@@ -108,9 +111,9 @@ regroup true true false true rest = refl
 regroup true true false false rest = refl
 regroup true true true more rest = refl
 
-module _ (strength : Strength) (environment : Environment) (packages : List Listed) (text : List ℕ) where
+module _ (members : Members) (strength : Strength) (environment : Environment) (packages : List Listed) (text : List ℕ) where
   abbrev asks : Asks
-  asks = asks_over (asks_healthy strength environment) packages
+  asks = asks_over (asks_healthy members strength environment) packages
 
   nothing-needs : (number : ℕ) (version : List ℕ) (values : ValueEntries ValueMeaning) → is_nothing (paragraph_lines (Packages strength) environment packages number version values) ≡ is_abundant strength environment packages values
   nothing-needs number version values =
@@ -160,4 +163,6 @@ module _ (strength : Strength) (environment : Environment) (packages : List List
       ∙ regroup (is_abundant strength environment packages values) (is_peaceful strength environment packages values) (not (list_any (rules_out environment.target p) rest)) good (are_apart environment.target rest)
 
 pub no_line : NoLineIfHealthy
-no_line strength environment text meaning packages lists = nothing-rest strength environment packages text [] packages 0 meaning refl refl lists
+no_line members strength environment text meaning packages lists =
+    ap is_nothing (canonical_members (asks_over (asks_healthy members strength environment) packages) refl members text text 0 0 meaning)
+    ∙ nothing-rest members strength environment packages text [] packages 0 (filter (has_values members) meaning) refl refl lists

@@ -14,6 +14,8 @@ use Rattle.deb_control.specs.FieldWords.{groups_of, value_under, word_under}
 use Rattle.deb_control.specs.ValueFiles.{ValueEntries}
 use Rattle.deb_index.specs.Alternatives.{alone}
 use Rattle.deb_index.specs.Listed.{Listed}
+use Rattle.deb_index.specs.declared.members.Members.{Members}
+use Rattle.deb_index.specs.declared.members.Members.TheVariants.{Installed}
 use Rattle.deb_unmet.specs.Asked.{fields_with}
 use Rattle.deb_unmet.specs.Fields.{environment_for}
 use Rattle.deb_unmet.specs.Own.{OwnAsks}
@@ -27,9 +29,13 @@ use Rattle.deb_health.specs.Lines.{listed, member_lines, negative_fields, packag
 use Rattle.deb_health.specs.Together.{rules_out}
 
 -- what is written of each package of a set
-abbrev pub asks_healthy : Strength → Environment → OwnAsks
-asks_healthy strength environment =
-    record { versions = Canonical; lines = member_lines strength environment }
+abbrev pub asks_healthy : Members → Strength → Environment → OwnAsks
+asks_healthy members strength environment =
+    record {
+      members = members;
+      versions = Canonical;
+      lines = member_lines strength environment;
+    }
 
 -- Each group that the package needs is met by a package of the set, or ignored, however its
 -- architecture lists are read.
@@ -99,7 +105,7 @@ worked-healthy : (is_healthy Depends for_amd64 (ee ∷ []) (alone_in (codes "Dep
 worked-healthy = (refl, refl, refl, refl, refl)
 
 -- what is written of a package that has no name
-worked-asks : (asks_healthy Depends for_amd64).lines [] 3 (codes "1") (alone_in (codes "Depends"))
-    ≡ codes "unmet 3  1  Depends ee\n"
+worked-asks : (asks_healthy Installed Depends for_amd64).lines [] 3 (codes "1")
+    (alone_in (codes "Depends")) ≡ codes "unmet 3  1  Depends ee\n"
 unfolding group_text digits
 worked-asks = refl

@@ -3,7 +3,8 @@
 //!
 //! ```text
 //! let environment = Env::new(alloc, b"amd64", &[])?;
-//! let summary = healthy(alloc, &environment, Strength::Depends, &mut packages, &mut writer)?;
+//! let strength = Strength::Depends;
+//! let summary = healthy(alloc, &environment, Members::All, strength, &mut packages, &mut writer)?;
 //! summary.is_empty; // no line was written
 //! ```
 //!

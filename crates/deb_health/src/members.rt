@@ -10,6 +10,7 @@ ghost use Rattle.deb_control.specs.Documents.{refusal_of};
 ghost use Rattle.deb_control.specs.FieldTexts.{HasTexts};
 ghost use Rattle.deb_control.specs.ValueFiles.{ValueEntries};
 ghost use Rattle.deb_field.specs.Values.{ValueMeaning};
+ghost use Rattle.deb_index.specs.Members.{doc_of};
 ghost use Rattle.deb_relation.specs.Environments.{environment_of};
 ghost use Rattle.deb_unmet.specs.Own.{StopsOwn, WritesOwn};
 ghost use Rattle.deb_unmet.specs.Paragraphs.{fields_in};
@@ -20,14 +21,13 @@ use crate::kept::Kept;
 use crate::lines::{Set, append_member};
 use deb_base::{Fault, Sink, Source};
 use deb_control::{CheckedView, FieldTexts};
-use deb_field::Doc;
-use deb_index::Index;
+use deb_index::{Index, Members};
 use deb_relation::Env;
 use deb_unmet::{OwnLines, Strength, Summary, write_in_itself};
 use std::alloc::{AllocError, Global};
 
-/// Reads a set of packages once, and writes a line for each reason why it isn't healthy (Debian
-/// Policy 7.2 to 7.5).
+/// Reads a set of packages once, an index or the installed packages of a status file, and writes a
+/// line for each reason why it isn't healthy (Debian Policy 7.2 to 7.5).
 ///
 /// - `unmet` or `unsure`: a group of Pre-Depends or Depends, with `Strength::Recommends` also of
 ///   Recommends, that no package of the set meets, or may not meet, as [`deb_unmet::unmet`] writes
@@ -45,7 +45,7 @@ use std::alloc::{AllocError, Global};
 ///
 /// # Errors
 ///
-/// - `Fault::Refused`: the file isn't accepted as an index of packages. This is its first refusal,
+/// - `Fault::Refused`: the file isn't accepted. This is its first refusal,
 ///   with a code from 1 to 21 and a line of the file, counted from 1. Nothing was written.
 /// - `Fault::Read`: a read failed in this call. Nothing was written.
 /// - `Fault::Memory`: a growth of memory was refused. Nothing was written, or the lines of the
@@ -55,19 +55,20 @@ use std::alloc::{AllocError, Global};
 pub fn healthy<R: Source, W: Sink>(
     alloc: Global,
     environment: &Env,
+    members: Members,
     strength: Strength,
     reader: &mut R,
     writer: &mut W,
 ) -> Result<Summary, Fault>
     ensures ok { (text : List ℕ) → R.left reader.old ≡ Some text
         → IfOk result (λ summary. WritesOwn
-        (asks_healthy strength (environment_of environment.now)) text summary
+        (asks_healthy members strength (environment_of environment.now)) text summary
         (W.held writer.old) (W.held writer.new)) }
     ensures refused { (text : List ℕ) → R.left reader.old ≡ Some text
-        → IfRefused result (λ refusal. refusal_of Doc.Packages text ≡ Some refusal) }
+        → IfRefused result (λ refusal. refusal_of (doc_of members) text ≡ Some refusal) }
     ensures stopped { (text : List ℕ) → R.left reader.old ≡ Some text
         → IfErr result (λ fault. StopsOwn fault
-        (asks_healthy strength (environment_of environment.now)) text (W.held writer.old)
+        (asks_healthy members strength (environment_of environment.now)) text (W.held writer.old)
         (W.held writer.new)) }
     ensures reads_at_most { (text : List ℕ) → R.left reader.old ≡ Some text
         → TakesNoMore text file_limit (R.left reader.new) }
@@ -84,27 +85,33 @@ pub fn healthy<R: Source, W: Sink>(
     ensures fault_iff_write_failed { WriteFaultIffFailed (W.failures writer.old)
         (W.failures writer.new) result }
 {
-    let members = Members {
+    let lines = SetLines {
         environment,
+        members,
         strength,
     };
-    write_in_itself(alloc, &members, reader, writer)
+    write_in_itself(alloc, &lines, reader, writer)
 }
 
 /// What the packages of a set are asked.
 #[derive(Clone, Copy)]
-struct Members<'a> {
+struct SetLines<'a> {
     environment: &'a Env,
+    members: Members,
     strength: Strength,
 }
 
-impl OwnLines for Members<'_> {
+impl OwnLines for SetLines<'_> {
     type Kept = Kept;
 
     ghost Holds = { HoldsMember };
 
-    ghost asks = { λ members. asks_healthy members.strength
-        (environment_of members.environment.now) };
+    ghost asks = { λ lines. asks_healthy lines.members lines.strength
+        (environment_of lines.environment.now) };
+
+    fn members(&self) -> Members {
+        self.members
+    }
 
     fn keep(
         alloc: Global,

@@ -2,6 +2,8 @@ pub mod Parts
 pub mod Commas
 pub mod PackageBuilder
 pub mod ListedValues
+pub mod Filters
+pub mod Installed
 pub mod Indexed
 pub mod ReadLines
 pub mod ListedOnce

@@ -10,15 +10,21 @@ use Rattle.deb_relation.proofs.SpelledGroups.{one_relation}
 use Rattle.deb_field.specs.ValueLaws.{value_law}
 use Rattle.deb_field.specs.Values.{ValueMeaning, value_text, SpellsValue, MultiArchMeans, RelationMeans}
 use Rattle.deb_field.specs.declared.flag.MultiArch.{MultiArch}
-use Rattle.deb_base.specs.declared.doc.Doc.TheVariants.{Packages}
+use Rattle.deb_base.specs.declared.doc.Doc.{Doc}
+use Rattle.deb_base.specs.declared.doc.Doc.TheVariants.{Packages, Status}
 use Rattle.deb_control.specs.Documents.{Meaning, Accepted, canonical_text, rules_of}
 use Rattle.deb_control.specs.Pairs.{Pairwise}
 use Rattle.deb_control.specs.ValueFiles.{ValueEntries}
 use Rattle.deb_control.proofs.Accepting.{accepted_means_one_thing, canonical_text_is_accepted}
+use Rattle.std.specs.List.{filter}
+use Rattle.deb_index.specs.Installed.{is_member}
 use Rattle.deb_index.specs.Listed.{Listed, provisions_in}
 use Rattle.deb_index.specs.Listing.{Lists, ListsAll}
+use Rattle.deb_index.specs.Members.{ListsMembers, doc_of}
+use Rattle.deb_index.specs.declared.members.Members.{Members}
+use Rattle.deb_index.specs.declared.members.Members.TheVariants.{All, Installed}
 use Rattle.deb_index.specs.Reports.{report}
-use Rattle.deb_index.specs.Laws.{ListsOnce, CanonicalTextLists, ReportAlike, CanonicalTextChangesNoAnswer}
+use Rattle.deb_index.specs.Laws.{ListsOnce, CanonicalTextLists, InstalledPackagesAreMeant, ReportAlike, CanonicalTextChangesNoAnswer}
 
 same_word : (a b : Option MultiArch) → option_map MultiArchMeans a ≡ option_map MultiArchMeans b → a ≡ b
 same_word None None e = refl
@@ -54,19 +60,41 @@ all-same (fields ∷ meaning) (p ∷ packages) [] one other = absurd other
 all-same (fields ∷ meaning) (p ∷ packages) (q ∷ others) one other =
     ap (λ x. x ∷ packages) (lists-same fields p q one.0 other.0) ∙ ap (λ rest. q ∷ rest) (all-same meaning packages others one.1 other.1)
 
-one_meaning : (text : List ℕ) (meaning other : Meaning) → Accepted Packages text meaning → Accepted Packages text other → meaning ≡ other
-one_meaning = accepted_means_one_thing ValueMeaning (SpellsValue Packages) value_text (value_law Packages) (rules_of Packages)
+one_meaning : (doc : Doc) (text : List ℕ) (meaning other : Meaning) → Accepted doc text meaning → Accepted doc text other → meaning ≡ other
+one_meaning doc = accepted_means_one_thing ValueMeaning (SpellsValue doc) value_text (value_law doc) (rules_of doc)
+
+accepted_again : (doc : Doc) (text : List ℕ) (meaning : Meaning) → Accepted doc text meaning → Accepted doc (canonical_text meaning) meaning
+accepted_again doc = canonical_text_is_accepted ValueMeaning (SpellsValue doc) value_text (value_law doc) (rules_of doc)
 
 pub lists_once : ListsOnce
 lists_once text packages others one other =
-    all-same other.meaning packages others (subst (λ m. Pairwise Lists m packages) (one_meaning text one.meaning other.meaning one.accepted other.accepted) one.listed) other.listed
+    all-same other.meaning packages others (subst (λ m. Pairwise Lists m packages) (one_meaning Packages text one.meaning other.meaning one.accepted other.accepted) one.listed) other.listed
 
 pub canonical_text_lists : CanonicalTextLists
 canonical_text_lists text meaning packages accepted lists = record {
   meaning = meaning;
-  accepted = canonical_text_is_accepted ValueMeaning (SpellsValue Packages) value_text (value_law Packages) (rules_of Packages) text meaning accepted;
-  listed = subst (λ m. Pairwise Lists m packages) (one_meaning text lists.meaning meaning lists.accepted accepted) lists.listed;
+  accepted = accepted_again Packages text meaning accepted;
+  listed = subst (λ m. Pairwise Lists m packages) (one_meaning Packages text lists.meaning meaning lists.accepted accepted) lists.listed;
 }
+
+pub installed_are_meant : InstalledPackagesAreMeant
+installed_are_meant = record {
+  once = λ text packages others one other.
+      all-same (filter is_member other.meaning) packages others (subst (λ m. Pairwise Lists (filter is_member m) packages) (one_meaning Status text one.meaning other.meaning one.accepted other.accepted) one.listed) other.listed;
+  canonical = λ text meaning packages accepted lists. record {
+    meaning = meaning;
+    accepted = accepted_again Status text meaning accepted;
+    listed = subst (λ m. Pairwise Lists (filter is_member m) packages) (one_meaning Status text lists.meaning meaning lists.accepted accepted) lists.listed;
+  };
+}
+
+pub members_once : (members : Members) (text : List ℕ) (packages others : List Listed) → ListsMembers members text packages → ListsMembers members text others → packages ≡ others
+members_once All = lists_once
+members_once Installed = installed_are_meant.once
+
+pub canonical_members_listed : (members : Members) (text : List ℕ) (meaning : Meaning) (packages : List Listed) → Accepted (doc_of members) text meaning → ListsMembers members text packages → ListsMembers members (canonical_text meaning) packages
+canonical_members_listed All = canonical_text_lists
+canonical_members_listed Installed = installed_are_meant.canonical
 
 -- equal packages and relations have equal reports
 alike : (packages others : List Listed) (m n : Relation) → packages ≡ others → m ≡ n → ReportAlike packages others m n

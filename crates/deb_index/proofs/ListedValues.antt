@@ -53,7 +53,7 @@ IsSpelled m = (text : List ℕ) × SpellsRelation text m
 pub one_list_of_values : (seen : Seen) (values others : ValueEntries ValueMeaning) → AreValuesOf Packages seen values → AreValuesOf Packages seen others → values ≡ others
 one_list_of_values seen values others are also = one_paragraph ValueMeaning (SpellsValue Packages) value_text (value_law Packages) (entries_of seen.fields) values others are.spelled also.spelled
 
-and-parts : (a b : Bool) → (a && b) ≡ true → (a ≡ true) × (b ≡ true)
+pub and-parts : (a b : Bool) → (a && b) ≡ true → (a ≡ true) × (b ≡ true)
 and-parts true b h = (refl, h)
 and-parts false b h = absurd (false≢true h)
 

@@ -4,6 +4,7 @@ use Rattle.deb_base.specs.Bodies.{paragraph_limit, file_limit}
 use Rattle.deb_base.specs.declared.code.Code.TheVariants.{FileTooLong, TooManyParagraphs}
 use Rattle.std.proofs.lemmas.List.{length-map}
 use Rattle.deb_base.specs.declared.doc.Doc.{Doc}
+use Rattle.deb_base.specs.declared.doc.Doc.TheVariants.{Packages, Status}
 use Rattle.deb_base.specs.declared.refusal.Refusal.{Refusal}
 use Rattle.deb_syntax.specs.Answers.{Seen, answer_of_first, is_line, line_beyond, line_too_long, paragraph_answer, paragraphs_within, seen_from}
 use Rattle.deb_syntax.specs.Fields.{Field}
@@ -18,8 +19,14 @@ use Rattle.deb_control.proofs.Limits.{length-within, part_within-whole}
 use Rattle.deb_control.specs.Documents.{rules_of}
 use Rattle.deb_control.specs.GivenParagraphs.{AreNext, bodies_seen}
 use Rattle.deb_control.proofs.ShownSoFar.{ShownAll}
-use Rattle.deb_index.specs.FirstLines.{first_line, first_lines}
-use Rattle.deb_index.specs.VersionSpellings.{body_judged, version_body, version_spelling, version_spellings}
+use Rattle.std.specs.List.{filter}
+use Rattle.deb_index.specs.FirstLines.{first_line}
+use Rattle.deb_index.specs.Installed.{is_judged_member, is_member_in, is_seen_member}
+use Rattle.deb_index.specs.Members.{doc_of, has_seen, member_lines, member_spellings, seen_in}
+use Rattle.deb_index.specs.VersionSpellings.{body_judged, version_body, version_spelling}
+use Rattle.deb_index.specs.declared.members.Members.{Members}
+use Rattle.deb_index.specs.declared.members.Members.TheVariants.{All, Installed}
+use Rattle.deb_index.proofs.Filters.{filter-all, picked, picks}
 
 -- where a paragraph is left there is a further one, or the file is refused
 module _ (rules : Rules) (n : ℕ) (before : List Entries) where
@@ -85,7 +92,7 @@ module _ {X : Type 0} (of : Paragraph → X) (shown : Seen → X) (same : (p : P
       ∙ ap (λ l. shown seen ∷ l) (next_read text (n + 1) more next.1 ∙ ap (λ k. map shown more ++ map of (drop k (paragraphs_within text))) (omega arith))
 
   -- if no further one follows it is read of all
-  pub all_read : (doc : Doc) (text : List ℕ) (given : List Seen) → ShownAll doc text given → map shown given ≡ map of (paragraphs_of text)
+  all_read : (doc : Doc) (text : List ℕ) (given : List Seen) → ShownAll doc text given → map shown given ≡ map of (paragraphs_of text)
   all_read doc text given all =
       let count = length-map given (bodies_seen doc) in
       let end : answer_behind (rules_of doc) (line_beyond 1 file_limit text) (line_behind text) (map (bodies_seen doc) given) (drop (length given) (paragraphs_within text)) ≡ Ok None = subst (λ k. answer_behind (rules_of doc) (line_beyond 1 file_limit text) (line_behind text) (map (bodies_seen doc) given) (drop k (paragraphs_within text)) ≡ Ok None) count all.none in
@@ -94,8 +101,19 @@ module _ {X : Type 0} (of : Paragraph → X) (shown : Seen → X) (same : (p : P
       let from_start : length given ≡ 0 + length given = omega arith in
       sym (append-nil (map shown given)) ∙ ap (λ l. map shown given ++ map of l) (sym none.1 ∙ ap (λ k. drop k (paragraphs_within text)) from_start) ∙ sym (next_read text 0 given all.next) ∙ ap (map of) whole
 
-pub all_lines : (doc : Doc) (text : List ℕ) (given : List Seen) → ShownAll doc text given → map (λ seen. seen.first) given ≡ first_lines text
-all_lines = all_read first_line (λ seen. seen.first) (λ p fields is. refl)
+-- of the members alone
+module _ {X : Type 0} (of : Paragraph → X) (shown : Seen → X) (same : (p : Paragraph) (fields : List Field) → judged p.first p.lines ≡ Ok fields → of p ≡ shown (record { first = p.first; fields = fields })) where
+  members_read : (text : List ℕ) (given : List Seen) → ShownAll Status text given → map shown (filter is_seen_member given) ≡ map of (filter is_member_in (paragraphs_of text))
+  members_read text given all =
+      picked is_seen_member shown given
+      ∙ ap picks (all_read (λ p. (is_member_in p, of p)) (λ seen. (is_seen_member seen, shown seen))
+      (λ p fields is. rw (ap is_judged_member is, same p fields is) refl) Status text given all)
+      ∙ sym (picked is_member_in of (paragraphs_of text))
 
-pub all_spellings : (doc : Doc) (text : List ℕ) (given : List Seen) → ShownAll doc text given → map (λ seen. version_body seen.fields) given ≡ version_spellings text
-all_spellings = all_read version_spelling (λ seen. version_body seen.fields) (λ p fields is. ap body_judged is)
+pub all_lines : (members : Members) (text : List ℕ) (given : List Seen) → ShownAll (doc_of members) text given → map (λ seen. seen.first) (seen_in members given) ≡ member_lines members text
+all_lines All text given all = ap (map (λ seen. seen.first)) (filter-all (has_seen All) (λ seen. refl) given) ∙ all_read first_line (λ seen. seen.first) (λ p fields is. refl) Packages text given all
+all_lines Installed text given all = members_read first_line (λ seen. seen.first) (λ p fields is. refl) text given all
+
+pub all_spellings : (members : Members) (text : List ℕ) (given : List Seen) → ShownAll (doc_of members) text given → map (λ seen. version_body seen.fields) (seen_in members given) ≡ member_spellings members text
+all_spellings All text given all = ap (map (λ seen. version_body seen.fields)) (filter-all (has_seen All) (λ seen. refl) given) ∙ all_read version_spelling (λ seen. version_body seen.fields) (λ p fields is. ap body_judged is) Packages text given all
+all_spellings Installed text given all = members_read version_spelling (λ seen. version_body seen.fields) (λ p fields is. ap body_judged is) text given all

@@ -8,8 +8,9 @@ use Rattle.deb_relation.specs.Grammar.{SpellsRelation}
 use Rattle.deb_relation.specs.Meaning.{Alternative, Relation}
 use Rattle.deb_relation.specs.Tests.{some_wildcard}
 use Rattle.deb_relation.specs.Texts.{relation_text}
-use Rattle.deb_base.specs.declared.doc.Doc.TheVariants.{Packages}
+use Rattle.deb_base.specs.declared.doc.Doc.TheVariants.{Packages, Status}
 use Rattle.deb_control.specs.Documents.{Meaning, Accepted, canonical_text}
+use Rattle.deb_index.specs.Installed.{ListsInstalled}
 use Rattle.deb_index.specs.Listed.{Listed}
 use Rattle.deb_index.specs.Listing.{ListsAll}
 use Rattle.deb_index.specs.Meeting.{meets}
@@ -28,6 +29,14 @@ abbrev pub CanonicalTextLists : Type 0
 CanonicalTextLists =
     (text : List ℕ) (meaning : Meaning) (packages : List Listed) → Accepted Packages text meaning
     → ListsAll text packages → ListsAll (canonical_text meaning) packages
+
+-- A status file lists one list of installed packages at most, and its canonical text lists the same.
+pub record InstalledPackagesAreMeant : Type 0 where
+  pub once : (text : List ℕ) (packages others : List Listed) → ListsInstalled text packages
+      → ListsInstalled text others → packages ≡ others
+  pub canonical : (text : List ℕ) (meaning : Meaning) (packages : List Listed)
+      → Accepted Status text meaning → ListsInstalled text packages
+      → ListsInstalled (canonical_text meaning) packages
 
 -- two relations over two lists have the same report, for every environment
 pub record ReportAlike (packages others : List Listed) (m n : Relation) : Type 0 where

@@ -22,6 +22,8 @@ pub mod Offers
 pub mod Crowds
 pub mod Listing
 pub mod Keeping
+pub mod Installed
+pub mod Members
 pub mod Indexes
 pub mod AnswerStores
 pub mod Reported

@@ -6,7 +6,6 @@ use Rattle.std.specs.Prelude.{IsTrue, IsFalse, codes, refl}
 use Rattle.deb_base.specs.Codes.{number_of}
 use Rattle.deb_base.specs.Faults.{RefusedOrMemory}
 use Rattle.deb_base.specs.declared.code.Code.TheVariants.{BadRelation, BadEnvironment, Wildcard}
-use Rattle.deb_base.specs.declared.doc.Doc.TheVariants.{Packages}
 use Rattle.deb_base.specs.declared.fault.Fault.{Fault}
 use Rattle.deb_base.specs.declared.refusal.Refusal.{Refusal}
 use Rattle.deb_relation.specs.Applying.{Environment}
@@ -20,9 +19,10 @@ use Rattle.deb_relation.specs.declared.environment.Env.{Env}
 use Rattle.deb_relation.specs.declared.relation_text.RelationText.{RelationText}
 use Rattle.deb_control.specs.Documents.{refusal_of}
 use Rattle.deb_index.specs.Listed.{Listed}
-use Rattle.deb_index.specs.Listing.{ListsAll}
+use Rattle.deb_index.specs.Members.{ListsMembers, doc_of}
 use Rattle.deb_index.specs.Reported.{report_of}
 use Rattle.deb_index.specs.Reports.{Answer, report}
+use Rattle.deb_index.specs.declared.members.Members.{Members}
 use Rattle.deb_index.specs.declared.report.Report.{Report}
 
 -- ---- the words
@@ -74,31 +74,36 @@ pub record RefusesEnvironment (q : Question) (refusal : Refusal) : Type 0 where
 abbrev pub RefusesWords : Question → Refusal → Type 0
 RefusesWords q refusal = RefusesRelation q.relation refusal ⊎ RefusesEnvironment q refusal
 
--- Where the words are good, the index is refused; or it is accepted, and an architecture list of
--- the relation contains a wildcard.
-pub record RefusesIndex (q : Question) (text : List ℕ) (refusal : Refusal) : Type 0 where
+-- Where the words are good, the index is refused, which is of these members of its file; or it is
+-- accepted, and an architecture list of the relation contains a wildcard.
+pub record RefusesIndex (members : Members) (q : Question) (text : List ℕ) (refusal : Refusal) :
+    Type 0 where
   pub good : IsGood q
-  pub refused : refusal_of Packages text ≡ Some refusal
+  pub refused : refusal_of (doc_of members) text ≡ Some refusal
 
-pub record RefusesWildcard (q : Question) (text : List ℕ) (refusal : Refusal) : Type 0 where
+pub record RefusesWildcard (members : Members) (q : Question) (text : List ℕ) (refusal : Refusal) :
+    Type 0 where
   pub good : IsGood q
   pub packages : List Listed
-  pub lists : ListsAll text packages
+  pub lists : ListsMembers members text packages
   pub holds : IsTrue (some_wildcard good.relation)
   pub is : refusal ≡ wildcard
 
-abbrev pub RefusesQuery : Question → List ℕ → Refusal → Type 0
-RefusesQuery q text refusal =
-    RefusesWords q refusal ⊎ RefusesIndex q text refusal ⊎ RefusesWildcard q text refusal
+abbrev pub RefusesQuery : Members → Question → List ℕ → Refusal → Type 0
+RefusesQuery members q text refusal =
+    RefusesWords q refusal
+    ⊎ RefusesIndex members q text refusal
+    ⊎ RefusesWildcard members q text refusal
 
 -- ---- the answer
 
 -- The words are good, the index is accepted, no architecture list contains a wildcard, and these
 -- are the answers for the relation's groups.
-pub record IsReported (q : Question) (text : List ℕ) (answers : List Answer) : Type 0 where
+pub record IsReported (members : Members) (q : Question) (text : List ℕ) (answers : List Answer) :
+    Type 0 where
   pub good : IsGood q
   pub packages : List Listed
-  pub lists : ListsAll text packages
+  pub lists : ListsMembers members text packages
   pub plain : IsFalse (some_wildcard good.relation)
   pub is : answers ≡ report packages good.relation (environment_in q)
 

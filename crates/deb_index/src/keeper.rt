@@ -29,7 +29,7 @@ pub trait Keeper {
 
 /// Keeps nothing, and takes no memory.
 #[derive(Clone, Copy)]
-pub(crate) struct NoKeeper;
+pub struct NoKeeper;
 
 impl Keeper for NoKeeper {
     ghost Keeps = { λ keeper given. Unit {0} };

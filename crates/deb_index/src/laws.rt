@@ -1,6 +1,6 @@
 //! Laws of indexes. Each function does nothing; its contract is the law.
 
-ghost use Rattle.deb_index.specs.Laws.{ListsOnce, CanonicalTextLists, CanonicalTextChangesNoAnswer, ReasonUnlessMet, ReasonsChangeNoAnswer};
+ghost use Rattle.deb_index.specs.Laws.{ListsOnce, CanonicalTextLists, CanonicalTextChangesNoAnswer, InstalledPackagesAreMeant, ReasonUnlessMet, ReasonsChangeNoAnswer};
 
 /// A file lists at most one list of packages.
 pub fn a_file_lists_one_list()
@@ -10,6 +10,12 @@ pub fn a_file_lists_one_list()
 /// The canonical text of a file lists the same packages as the file.
 pub fn canonical_text_lists_the_same()
     ensures { CanonicalTextLists }
+{}
+
+/// A status file lists at most one list of installed packages, and its canonical text lists the
+/// same.
+pub fn canonical_text_lists_the_same_installed()
+    ensures { InstalledPackagesAreMeant }
 {}
 
 /// The report on a relation, and whether the relation contains a wildcard, don't change if the

@@ -3,9 +3,9 @@
 
 use deb_base::{Code, Fault, Input, Output, Refusal, VersionText};
 use deb_devices::{Pieces, SIZES};
-use deb_index::Index;
+use deb_index::{Index, Members};
 use deb_relation::Env;
-use deb_unmet::{Asked, Request, Strength, Summary, unmet, unmet_in_itself};
+use deb_unmet::{Asked, OwnRequest, Request, Strength, Summary, unmet, unmet_in_itself};
 use std::io::Write;
 use std::test::Fail;
 
@@ -196,8 +196,11 @@ fn lines_of_an_index_in_itself(rt: HostRuntime) -> Result<(), Fail> {
             let summary = unmet_in_itself(
                 rt.alloc(),
                 &environment,
-                strength,
-                versions,
+                OwnRequest {
+                    members: Members::All,
+                    strength,
+                    versions,
+                },
                 &mut Input::new(Pieces::new(OWN, size, 0)),
                 &mut Output::new(&mut held),
             )?;

@@ -2,6 +2,7 @@
 -- their end.
 use Rattle.std.proofs.Common.{inl, inr, ◌≡◌, ℕ, ◌+◌, ◌<◌, ◌≤◌, Bool, true, ◌&&◌, List, [], ◌∷◌, ◌++◌, drop, get_or, length, Option, Result, Ok, Err, refl, sym, ap, ◌∙◌, subst, append_assoc, append-nil, length-append, arith, drop_of_length-le}
 use Rattle.std.proofs.lemmas.List.{drop_more}
+use Rattle.std.specs.List.{filter}
 use Rattle.std.specs.Io.KnownBytes.{Appends}
 use Rattle.deb_base.specs.Devices.{AppendsFront, WriteFaultIffFailed, read_failures_after, write_failures_after}
 use Rattle.deb_base.specs.Faults.{IsReadersFault}
@@ -28,24 +29,13 @@ use Rattle.deb_control.proofs.GivenValues.{pairwise-length}
 use Rattle.deb_control.proofs.KeptTexts.{has-texts}
 use Rattle.deb_control.proofs.PassingParagraphs.{values-passing}
 use Rattle.deb_index.specs.Listed.{Listed}
-use Rattle.deb_index.specs.Listing.{ListsAll}
+use Rattle.deb_index.specs.Members.{ListsMembers, doc_of, has_values}
 use Rattle.deb_unmet.specs.Asking.{IsWritersFault, PutsLines}
-use Rattle.deb_unmet.specs.Files.{Asks, file_lines, lines_of}
+use Rattle.deb_unmet.specs.Files.{Asks, is_nothing, lines_of}
 use Rattle.deb_unmet.specs.Paragraphs.{fields_in}
-use Rattle.deb_unmet.specs.Own.{AreKept, IsKept, OwnAsks, StopsOwn, WritesOwn, asks_over}
-use Rattle.deb_unmet.proofs.AskedFiles.{HasAsked, all_given, given-lines, lines_given, lines_given-append, none_asked, one_asked}
-
-abbrev Packaged : List Seen → Meaning → Type 0
-Packaged = Pairwise (AreValuesOf docs.Packages)
-
--- values of paragraphs of which something is kept
-kept_values : {Kept : Type 0} (Holds : List Field → ValueEntries ValueMeaning → Kept → Type 0) (given : List Seen) (kept : List Kept) → AreKept Holds kept given → (values : Meaning) × Packaged given values
-kept_values Holds [] [] are = ([], tt)
-kept_values Holds [] (k ∷ kept) are = absurd are
-kept_values Holds (seen ∷ given) [] are = absurd are
-kept_values Holds (seen ∷ given) (k ∷ kept) are =
-    let more = kept_values Holds given kept are.1 in
-    (are.0.values ∷ more.0, (are.0.are, more.1))
+use Rattle.deb_unmet.specs.Own.{AreKept, IsKept, OwnAsks, StopsOwn, WritesOwn, asks_over, own_lines}
+use Rattle.deb_unmet.proofs.AskedFiles.{HasAsked, lines_given, lines_given-append, none_asked, one_asked}
+use Rattle.deb_unmet.proofs.OwnMembers.{AreMembers, Packaged, kept_values, members-lines, one_packaged, up-to}
 
 -- what is kept of a paragraph that was given
 pub is_kept : {Kept : Type 0} (Holds : List Field → ValueEntries ValueMeaning → Kept → Type 0) (texts : FieldTexts) (view : CheckedView) (seen : Seen) (kept : Kept) → ((values : ValueEntries ValueMeaning) → HasTexts texts values → Holds (fields_in view) values kept) → VisitsValues KeepsTexts texts docs.Packages seen → (passing_judged view).seen ≡ seen → IsKept Holds seen kept
@@ -97,6 +87,12 @@ unstarted Write P own text held is = absurd is
 module _ (own : OwnAsks) (packages : List Listed) {Kept : Type 0} (Holds : List Field → ValueEntries ValueMeaning → Kept → Type 0) (kept : List Kept) (given : List Seen) (old : Option (List ℕ)) where
   abbrev asks : Asks
   asks = asks_over own packages
+
+  -- the lines of the members are those of what was given
+  own_lines_given : (text : List ℕ) (are : AreMembers own.members text given) → own_lines own packages text are.meaning ≡ lines_given asks 0 given (filter (has_values own.members) are.meaning)
+  own_lines_given text are =
+      members-lines own.members asks text 0 0 are.given are.meaning are.next are.same
+      ∙ ap (λ g. lines_given asks 0 g (filter (has_values own.members) are.meaning)) are.are_own
 
   -- The lines of so many paragraphs were written, and these are left.
   pub record HasOwn (held : Option (List ℕ)) (empty : Bool) (i : ℕ) : Type 0 where
@@ -157,44 +153,57 @@ module _ (own : OwnAsks) (packages : List Listed) {Kept : Type 0} (Holds : List 
           ∙ lines_given-append asks 0 next.done next.asked.values (next.seen ∷ next.more) (next.is.values ∷ others) (pairwise-length (AreValuesOf docs.Packages) next.done next.asked.values next.asked.are)
           ∙ ap (λ n. lines_given asks 0 next.done next.asked.values ++ lines_given asks n (next.seen ∷ next.more) (next.is.values ∷ others)) (omega (arith, next.numbered))
 
-      front_of : (text : List ℕ) (writes : Option (List ℕ)) → AppendsFront held writes line → AreNext text 0 given → AppendsFront old writes (file_lines asks text meaning)
-      front_of text writes put are_next =
-          subst (AppendsFront old writes) (sym lines_all ∙ given-lines asks text 0 given meaning (pairwise-length (AreValuesOf docs.Packages) given meaning are_all) are_next)
+      front_of : (writes : Option (List ℕ)) → AppendsFront held writes line → AppendsFront old writes (lines_given asks 0 given meaning)
+      front_of writes put =
+          subst (AppendsFront old writes) (sym lines_all)
           (AppendsFront-then old held writes _ _ next.asked.written (AppendsFront-more held writes line (lines_given asks (i + 1) next.more others) put))
 
-    pub stopped_own : (text : List ℕ) (writes : Option (List ℕ)) (fault : Fault) → PutsLines line (Err fault) held writes → ListsAll text packages → AreNext text 0 given → ((meaning : Meaning) → Packaged given meaning → Accepted docs.Packages text meaning) → StopsOwn fault own text old writes
-    stopped_own text writes (Refused refusal) puts lists are_next accepted = absurd puts
-    stopped_own text writes Read puts lists are_next accepted = absurd puts
-    stopped_own text writes Memory puts lists are_next accepted =
+    pub stopped_own : (text : List ℕ) (writes : Option (List ℕ)) (fault : Fault) → PutsLines line (Err fault) held writes → ListsMembers own.members text packages → AreMembers own.members text given → StopsOwn fault own text old writes
+    stopped_own text writes (Refused refusal) puts lists are = absurd puts
+    stopped_own text writes Read puts lists are = absurd puts
+    stopped_own text writes Memory puts lists are =
         let rest = kept_values Holds next.more (drop (i + 1) kept) next.left in
-        let done_next : AreNext text 0 next.done = next-front text 0 next.done (next.seen ∷ next.more) (subst (AreNext text 0) next.all are_next) in
+        let long = pairwise-length (AreValuesOf docs.Packages) next.done next.asked.values next.asked.are in
+        let meant = one_packaged given (filter (has_values own.members) are.meaning) (meaning rest.0 rest.1) are.passing (are_all rest.0 rest.1) in
+        let up = up-to own.members are.given are.meaning are.same next.done (next.seen ∷ next.more) next.asked.values (next.is.values ∷ rest.0) (are.are_own ∙ next.all) meant long in
+        let first_next : AreNext text 0 up.first = next-front text 0 up.first up.behind (subst (AreNext text 0) up.all are.next) in
+        let lines : own_lines own packages text up.meant ≡ lines_given asks 0 next.done next.asked.values =
+        members-lines own.members asks text 0 0 up.first up.meant first_next up.same ∙ ap (λ g. lines_given asks 0 g (filter (has_values own.members) up.meant)) up.are_done ∙ ap (lines_given asks 0 next.done) up.are_values in
         inr (record {
           packages = packages;
           lists = lists;
-          first = next.asked.values;
-          more = next.is.values ∷ rest.0;
-          accepted = accepted (meaning rest.0 rest.1) (are_all rest.0 rest.1);
-          written = subst (λ lines. Appends old writes lines) (given-lines asks text 0 next.done next.asked.values (pairwise-length (AreValuesOf docs.Packages) next.done next.asked.values next.asked.are) done_next)
-              (subst (λ now. Appends old now (lines_given asks 0 next.done next.asked.values)) puts next.asked.written);
+          first = up.meant;
+          more = up.more;
+          accepted = subst (Accepted (doc_of own.members) text) up.all_meant are.accepted;
+          written = subst (λ lines. Appends old writes lines) (sym lines) (subst (λ now. Appends old now (lines_given asks 0 next.done next.asked.values)) puts next.asked.written);
         })
-    stopped_own text writes Write puts lists are_next accepted =
+    stopped_own text writes Write puts lists are =
         let rest = kept_values Holds next.more (drop (i + 1) kept) next.left in
+        let meant = one_packaged given (filter (has_values own.members) are.meaning) (meaning rest.0 rest.1) are.passing (are_all rest.0 rest.1) in
         record {
           packages = packages;
           lists = lists;
-          meaning = meaning rest.0 rest.1;
-          accepted = accepted (meaning rest.0 rest.1) (are_all rest.0 rest.1);
-          written = front_of rest.0 rest.1 text writes puts are_next;
+          meaning = are.meaning;
+          accepted = are.accepted;
+          written = subst (AppendsFront old writes) (sym (own_lines_given text are ∙ ap (lines_given asks 0 given) meant)) (front_of rest.0 rest.1 writes puts);
         }
 
   -- there is no further paragraph
-  pub end_own : {held : Option (List ℕ)} {empty : Bool} {i : ℕ} → HasOwn held empty i → length kept ≤ i → AreKept Holds kept given → (text : List ℕ) → ListsAll text packages → AreNext text 0 given → ((meaning : Meaning) → Packaged given meaning → Accepted docs.Packages text meaning) → WritesOwn own text (record { paragraphs = length kept; is_empty = empty }) old held
-  end_own {held} {empty} {i} has past are text lists are_next accepted = record {
-    packages = packages;
-    lists = lists;
-    written = all_given (subst (HasAsked asks old held empty) (sym (given_done has.more (subst (λ l. AreKept Holds l has.more) (drop_of_length-le kept past) has.left) has.all)) has.asked)
-        text (length kept) (sym (pairwise-length (IsKept Holds) given kept are)) are_next accepted;
-  }
+  pub end_own : {held : Option (List ℕ)} {empty : Bool} {i : ℕ} → HasOwn held empty i → length kept ≤ i → AreKept Holds kept given → (text : List ℕ) → ListsMembers own.members text packages → AreMembers own.members text given → WritesOwn own text (record { paragraphs = length kept; is_empty = empty }) old held
+  end_own {held} {empty} {i} has past are_kept text lists are =
+      let done = given_done has.more (subst (λ l. AreKept Holds l has.more) (drop_of_length-le kept past) has.left) has.all in
+      let asked = subst (HasAsked asks old held empty) (sym done) has.asked in
+      let meant = one_packaged given (filter (has_values own.members) are.meaning) asked.values are.passing asked.are in
+      let lines = own_lines_given text are ∙ ap (lines_given asks 0 given) meant in
+      record {
+        packages = packages;
+        lists = lists;
+        meaning = are.meaning;
+        accepted = are.accepted;
+        count = ap length meant ∙ pairwise-length (AreValuesOf docs.Packages) given asked.values asked.are ∙ sym (pairwise-length (IsKept Holds) given kept are_kept);
+        written = subst (Appends old held) (sym lines) asked.written;
+        is_empty = asked.is_empty ∙ ap is_nothing (sym lines);
+      }
     where
       given_done : (more : List Seen) → AreKept Holds [] more → given ≡ has.done ++ more → given ≡ has.done
       given_done [] none all = all ∙ append-nil has.done

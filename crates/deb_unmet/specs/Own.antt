@@ -1,7 +1,8 @@
 -- What is written of an index over its own packages, and what is kept of its paragraphs until they
 -- are known. Debian Policy 5.1, 7.1 and 7.2.
-use Rattle.std.specs.Prelude.{◌≡◌, ◌⊎◌, ℕ, List, [], ◌∷◌, ◌++◌, Option, None, codes, refl}
+use Rattle.std.specs.Prelude.{◌≡◌, ◌⊎◌, ℕ, ◌+◌, cond, List, [], ◌∷◌, ◌++◌, length, Option, None, codes, refl}
 use Rattle.std.specs.Fmt.{digits}
+use Rattle.std.specs.List.{filter}
 use Rattle.std.specs.Str.{is_utf8, chars}
 use lib.Utf8.{encode}
 use Rattle.std.specs.Io.KnownBytes.{Appends}
@@ -18,26 +19,32 @@ use Rattle.deb_version.specs.Places.{version_in}
 use Rattle.deb_relation.specs.Applying.{Environment}
 use Rattle.deb_relation.specs.Environments.{environment_with}
 use Rattle.deb_relation.specs.Texts.{group_text}
-use Rattle.deb_field.specs.Values.{ValueMeaning, NameMeans, VersionMeans, ArchitectureMeans, RelationMeans}
+use Rattle.deb_field.specs.Values.{ValueMeaning, NameMeans, VersionMeans, ArchitectureMeans, RelationMeans, TextMeans}
 use Rattle.deb_control.specs.Documents.{Meaning, Accepted}
 use Rattle.deb_control.specs.Pairs.{Pairwise}
 use Rattle.deb_control.specs.Paragraphs.{AreValuesOf}
 use Rattle.deb_control.specs.ValueFiles.{ValueEntries}
 use Rattle.deb_index.specs.Alternatives.{alone}
 use Rattle.deb_index.specs.Listed.{Listed}
-use Rattle.deb_index.specs.Listing.{ListsAll}
+use Rattle.deb_index.specs.Members.{ListsMembers, doc_of, has_values}
+use Rattle.deb_index.specs.declared.members.Members.{Members}
+use Rattle.deb_index.specs.declared.members.Members.TheVariants.{All, Installed}
 use Rattle.deb_unmet.specs.Asked.{request_for}
 use Rattle.deb_unmet.specs.Asking.{asks_of}
 use Rattle.deb_unmet.specs.Fields.{paragraph_lines}
-use Rattle.deb_unmet.specs.Files.{Asks, WritesFile, file_lines}
+use Rattle.deb_unmet.specs.Files.{Asks, is_nothing, lines_of}
+use Rattle.deb_unmet.specs.Spelled.{fields_after}
 use Rattle.deb_unmet.specs.declared.asked.Asked.TheVariants.{Packages}
 use Rattle.deb_unmet.specs.declared.asked.Strength.{Strength}
 use Rattle.deb_unmet.specs.declared.asked.Strength.TheVariants.{Depends, Recommends}
 use Rattle.deb_unmet.specs.declared.asking.Summary.{Summary}
+use Rattle.deb_unmet.specs.declared.own.OwnRequest.{OwnRequest}
 
--- what is asked of an index over its own packages: which text of a version the lines have, and the
--- lines of a paragraph over the packages that the index lists
+-- what is asked of an index over its own packages: which paragraphs of its file are these, which
+-- text of a version the lines have, and the lines of a paragraph over the packages that the index
+-- lists
 pub record OwnAsks : Type 0 where
+  pub members : Members
   pub versions : VersionText
   pub lines : List Listed → ℕ → List ℕ → ValueEntries ValueMeaning → List ℕ
 
@@ -46,37 +53,69 @@ asks_over own packages =
     record { doc = docs.Packages; versions = own.versions; lines = own.lines packages }
 
 -- the lines of its groups, as `unmet` writes them
-abbrev pub asks_own : Strength → VersionText → Environment → OwnAsks
-asks_own strength versions environment =
-    record { versions = versions; lines = paragraph_lines (Packages strength) environment }
+abbrev pub asks_own : Members → Strength → VersionText → Environment → OwnAsks
+asks_own members strength versions environment =
+    record {
+      members = members;
+      versions = versions;
+      lines = paragraph_lines (Packages strength) environment;
+    }
 
--- The file is accepted as an index, exactly the lines of its paragraphs over the packages that it
--- lists were written, and the summary says how many paragraphs it has and whether there is no line.
+-- the same, as the code holds what is asked
+abbrev pub own_request : Members → Strength → VersionText → OwnRequest
+own_request members strength versions =
+    record { members = members; strength = strength; versions = versions }
+
+abbrev pub own_asked : OwnRequest → Environment → OwnAsks
+own_asked request environment =
+    asks_own request.members request.strength request.versions environment
+
+-- the lines of the members among a file's paragraphs that come after so many, of which so many are
+-- members: numbers count these alone
+abbrev pub members_from : Members → Asks → List ℕ → (n k : ℕ) → Meaning → List ℕ
+members_from members asks text n k [] = []
+members_from members asks text n k (values ∷ more) =
+    cond (has_values members values)
+    (lines_of asks (k + 1) (fields_after text n) values
+    ++ members_from members asks text (n + 1) (k + 1) more)
+    (members_from members asks text (n + 1) k more)
+
+-- The lines of a file's members over the packages that it lists.
+abbrev pub own_lines : OwnAsks → List Listed → List ℕ → Meaning → List ℕ
+own_lines own packages text meaning =
+    members_from own.members (asks_over own packages) text 0 0 meaning
+
+-- The file is accepted, exactly the lines of its members over the packages that it lists were
+-- written, and the summary says how many members it has and whether there is no line.
 pub record WritesOwn (own : OwnAsks) (text : List ℕ) (summary : Summary)
     (old new : Option (List ℕ)) : Type 0 where
   pub packages : List Listed
-  pub lists : ListsAll text packages
-  pub written : WritesFile (asks_over own packages) text summary old new
+  pub lists : ListsMembers own.members text packages
+  pub meaning : Meaning
+  pub accepted : Accepted (doc_of own.members) text meaning
+  pub count : length (filter (has_values own.members) meaning) ≡ summary.paragraphs
+  pub written : Appends old new (own_lines own packages text meaning)
+  pub is_empty : summary.is_empty ≡ is_nothing (own_lines own packages text meaning)
 
 -- The same, where a front of these lines was written.
 pub record BeginsOwn (own : OwnAsks) (text : List ℕ) (old new : Option (List ℕ)) : Type 0 where
   pub packages : List Listed
-  pub lists : ListsAll text packages
+  pub lists : ListsMembers own.members text packages
   pub meaning : Meaning
-  pub accepted : Accepted docs.Packages text meaning
-  pub written : AppendsFront old new (file_lines (asks_over own packages) text meaning)
+  pub accepted : Accepted (doc_of own.members) text meaning
+  pub written : AppendsFront old new (own_lines own packages text meaning)
 
--- The same, where exactly the lines of the first paragraphs were written.
+-- The same, where exactly the lines of the members among the first paragraphs were written.
 pub record WritesFirst (own : OwnAsks) (text : List ℕ) (old new : Option (List ℕ)) : Type 0 where
   pub packages : List Listed
-  pub lists : ListsAll text packages
+  pub lists : ListsMembers own.members text packages
   pub first : Meaning
   pub more : Meaning
-  pub accepted : Accepted docs.Packages text (first ++ more)
-  pub written : Appends old new (file_lines (asks_over own packages) text first)
+  pub accepted : Accepted (doc_of own.members) text (first ++ more)
+  pub written : Appends old new (own_lines own packages text first)
 
 -- Refused, or a read failed: nothing was written. Out of memory: nothing, or exactly the lines of
--- the first paragraphs of an accepted index. A write failed: a front of its lines.
+-- the first paragraphs of an accepted file. A write failed: a front of its lines.
 abbrev pub StopsOwn : Fault → OwnAsks → List ℕ → Option (List ℕ) → Option (List ℕ) → Type 0
 StopsOwn (faults.Refused refusal) own text old new = old ≡ new
 StopsOwn faults.Memory own text old new = (old ≡ new) ⊎ WritesFirst own text old new
@@ -138,24 +177,64 @@ second =
 abbrev for_amd64 : Environment
 for_amd64 = environment_with (codes "amd64") []
 
-worked-own : (file_lines (asks_over (asks_own Depends Canonical for_amd64) packages) file
+worked-own : (own_lines (asks_own All Depends Canonical for_amd64) packages file
     (first ∷ second ∷ []) ≡ codes "unmet 1 xx 1.0 amd64 Depends bb\n")
-    × (file_lines (asks_over (asks_own Depends Canonical for_amd64) []) file (first ∷ second ∷ [])
+    × (own_lines (asks_own All Depends Canonical for_amd64) [] file (first ∷ second ∷ [])
     ≡ codes "unmet 1 xx 1.0 amd64 Depends aa\nunmet 1 xx 1.0 amd64 Depends bb\n"
     ++ codes "unmet 2 aa 2 all Depends xx\n")
 unfolding group_text digits
 worked-own = (refl, refl)
 
-worked-spelled : file_lines (asks_over (asks_own Recommends Spelled for_amd64) packages) file
+worked-spelled : own_lines (asks_own All Recommends Spelled for_amd64) packages file
     (first ∷ second ∷ [])
     ≡ codes "unmet 1 xx 01.0-0 amd64 Depends bb\nunmet 1 xx 01.0-0 amd64 Recommends cc\n"
 unfolding group_text digits file_limit paragraph_limit is_utf8 chars encode
 worked-spelled = refl
 
+worked-request : own_asked (own_request Installed Recommends Spelled) for_amd64
+    ≡ asks_own Installed Recommends Spelled for_amd64
+worked-request = refl
+
 -- they are the lines that `unmet` writes of the index as a file
-worked-same : asks_over (asks_own Depends Spelled for_amd64) packages
+worked-same : asks_over (asks_own All Depends Spelled for_amd64) packages
     ≡ asks_of (request_for (Packages Depends) Spelled) for_amd64 packages
 worked-same = refl
+
+-- A status file of a package that was removed, and of two that are installed and don't meet what
+-- they depend on: the numbers are 1 and 2, and versions are spelled as in their own paragraphs.
+abbrev status_file : List ℕ
+status_file =
+    codes "Package: rr\nStatus: deinstall ok config-files\nVersion: 9\nArchitecture: all\n"
+    ++ (codes "Depends: ss\n\n"
+    ++ (codes "Package: xx\nStatus: install ok installed\nVersion: 01.0-0\nArchitecture: amd64\n"
+    ++ (codes "Depends: bb, aa\nRecommends: cc\n\n"
+    ++ codes "Package: aa\nStatus: a b installed\nVersion: 02\nArchitecture: all\nDepends: rr\n")))
+
+abbrev with_status : List ℕ → List ℕ → List ℕ → List ℕ → List ℕ → ValueEntries ValueMeaning
+with_status name architecture depends status version =
+    (codes "Architecture", ArchitectureMeans architecture)
+    ∷ (codes "Depends", RelationMeans ((alone depends ∷ []) ∷ []))
+    ∷ (codes "Package", NameMeans name) ∷ (codes "Status", TextMeans status)
+    ∷ (codes "Version", VersionMeans (version_in version)) ∷ []
+
+abbrev installed : Meaning
+installed =
+    with_status (codes "rr") (codes "all") (codes "ss") (codes "deinstall ok config-files")
+    (codes "9")
+    ∷ with_status (codes "xx") (codes "amd64") (codes "bb") (codes "install ok installed")
+    (codes "1.0")
+    ∷ with_status (codes "aa") (codes "all") (codes "rr") (codes "a b installed") (codes "2") ∷ []
+
+worked-installed : (own_lines (asks_own Installed Depends Canonical for_amd64) packages status_file
+    installed
+    ≡ codes "unmet 1 xx 1.0 amd64 Depends bb\nunmet 2 aa 2 all Depends rr\n")
+    × (own_lines (asks_own Installed Depends Spelled for_amd64) packages status_file installed
+    ≡ codes "unmet 1 xx 01.0-0 amd64 Depends bb\nunmet 2 aa 02 all Depends rr\n")
+    × (own_lines (asks_own All Depends Canonical for_amd64) packages status_file installed
+    ≡ codes "unmet 1 rr 9 all Depends ss\nunmet 2 xx 1.0 amd64 Depends bb\n"
+    ++ codes "unmet 3 aa 2 all Depends rr\n")
+unfolding group_text digits file_limit paragraph_limit is_utf8 chars encode
+worked-installed = (refl, refl, refl)
 
 -- nothing is kept of no paragraph, and no paragraph is left out
 worked-kept : {Kept : Type 0} (Holds : List Field → ValueEntries ValueMeaning → Kept → Type 0)

@@ -10,8 +10,7 @@ ghost use Rattle.deb_control.specs.Documents.{refusal_of};
 ghost use Rattle.deb_control.specs.ValueFiles.{ValueEntries};
 ghost use Rattle.deb_field.specs.Values.{ValueMeaning};
 ghost use Rattle.deb_index.specs.Indexes.{packages_of};
-ghost use Rattle.deb_index.specs.Keeping.{KeepsAll};
-ghost use Rattle.deb_index.specs.Listing.{ListsAll};
+ghost use Rattle.deb_index.specs.Members.{KeepsMembers, ListsMembers, doc_of};
 ghost use Rattle.deb_syntax.specs.Fields.{Field};
 ghost use Rattle.deb_unmet.specs.Asking.{IsWritersFault, PutsLines};
 ghost use Rattle.deb_unmet.specs.Files.{lines_of};
@@ -20,15 +19,13 @@ ghost use Rattle.deb_unmet.specs.Own.{AreKept, StopsOwn, WritesOwn, asks_over};
 use crate::asking::Summary;
 use crate::own_lines::{KeptLines, OwnLines};
 use deb_base::{Fault, Sink, Source, put_all};
-use deb_field::Doc;
 use deb_index::Index;
 use std::alloc::Global;
 
-/// Reads an index of packages once, and writes lines of each of its paragraphs, over all of its
-/// packages.
+/// Reads a file once, and writes lines of each of its members, over the packages of all of them.
 ///
-/// No line is written before the whole file has been read and has no refusal: of each paragraph
-/// `L::Kept` is kept until then. The lines are in the order of the paragraphs.
+/// No line is written before the whole file has been read and has no refusal: of each member
+/// `L::Kept` is kept until then. The lines are in the order of the members.
 ///
 /// At most 4,295,032,831 bytes are read: a file of the most bytes, and one piece. Promises about
 /// the text of the file hold for a reader whose bytes are known.
@@ -52,7 +49,7 @@ pub fn write_in_itself<L: OwnLines, R: Source, W: Sink>(
         → IfOk result (λ summary. WritesOwn (L.asks lines.now) text summary (W.held writer.old)
         (W.held writer.new)) }
     ensures refused { (text : List ℕ) → R.left reader.old ≡ Some text
-        → IfRefused result (λ refusal. refusal_of Doc.Packages text ≡ Some refusal) }
+        → IfRefused result (λ refusal. refusal_of (doc_of (L.asks lines.now).members) text ≡ Some refusal) }
     ensures stopped { (text : List ℕ) → R.left reader.old ≡ Some text
         → IfErr result (λ fault. StopsOwn fault (L.asks lines.now) text (W.held writer.old)
         (W.held writer.new)) }
@@ -72,7 +69,7 @@ pub fn write_in_itself<L: OwnLines, R: Source, W: Sink>(
         (W.failures writer.new) result }
 {
     let mut kept = KeptLines::<L>::new(alloc);
-    let index = Index::read_with(alloc, reader, &mut kept)?;
+    let index = Index::read_members(alloc, reader, lines.members(), &mut kept)?;
     write_kept(alloc, lines, &index, &kept.paragraphs, writer)
 }
 
@@ -88,11 +85,13 @@ fn write_kept<L: OwnLines, W: Sink>(
     kept: &[L::Kept],
     writer: &mut W,
 ) -> Result<Summary, Fault>
-    ensures ok { (text : List ℕ) → ListsAll text (packages_of index.now)
-        → KeepsAll (AreKept L.Holds kept.now) text → IfOk result (λ summary. WritesOwn
+    ensures ok { (text : List ℕ) → ListsMembers (L.asks lines.now).members text
+        (packages_of index.now) → KeepsMembers (L.asks lines.now).members
+        (AreKept L.Holds kept.now) text → IfOk result (λ summary. WritesOwn
         (L.asks lines.now) text summary (W.held writer.old) (W.held writer.new)) }
-    ensures stopped { (text : List ℕ) → ListsAll text (packages_of index.now)
-        → KeepsAll (AreKept L.Holds kept.now) text → IfErr result (λ fault. StopsOwn fault
+    ensures stopped { (text : List ℕ) → ListsMembers (L.asks lines.now).members text
+        (packages_of index.now) → KeepsMembers (L.asks lines.now).members
+        (AreKept L.Holds kept.now) text → IfErr result (λ fault. StopsOwn fault
         (L.asks lines.now) text (W.held writer.old) (W.held writer.new)) }
     ensures counts_failure { W.failures writer.new ≡ write_failures_after
         (W.failures writer.old) result }

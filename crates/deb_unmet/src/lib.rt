@@ -35,6 +35,6 @@ pub use in_itself::write_in_itself;
 pub use kept::KeptParagraph;
 pub use line_texts::LineTexts;
 pub use lines::{append_lines, own_environment, own_or};
-pub use own::unmet_in_itself;
+pub use own::{OwnRequest, unmet_in_itself};
 pub use own_lines::OwnLines;
 pub use paragraph::{Paragraph, append_spaced};

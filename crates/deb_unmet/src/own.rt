@@ -10,9 +10,10 @@ ghost use Rattle.deb_control.specs.Documents.{refusal_of};
 ghost use Rattle.deb_control.specs.FieldTexts.{HasTexts};
 ghost use Rattle.deb_control.specs.ValueFiles.{ValueEntries};
 ghost use Rattle.deb_field.specs.Values.{ValueMeaning};
+ghost use Rattle.deb_index.specs.Members.{doc_of};
 ghost use Rattle.deb_relation.specs.Environments.{environment_of};
 ghost use Rattle.deb_unmet.specs.KeptParagraphs.{HoldsTexts};
-ghost use Rattle.deb_unmet.specs.Own.{StopsOwn, WritesOwn, asks_own};
+ghost use Rattle.deb_unmet.specs.Own.{StopsOwn, WritesOwn, own_asked};
 ghost use Rattle.deb_unmet.specs.Paragraphs.{fields_in};
 
 use crate::asked::{Asked, Strength};
@@ -25,15 +26,26 @@ use crate::own_lines::OwnLines;
 use crate::paragraph::Paragraph;
 use deb_base::{Fault, Sink, Source, VersionText};
 use deb_control::{CheckedView, FieldTexts};
-use deb_field::Doc;
-use deb_index::Index;
+use deb_index::{Index, Members};
 use deb_relation::Env;
 use std::alloc::{AllocError, Global};
 
-/// Reads an index of packages once, and writes a line for each group of its own relations that none
-/// of its packages meets, or may not meet (Debian Policy 7.1 and 7.2).
+/// What an index in itself is asked.
+#[derive(Clone, Copy, Debug, PartialEq, Eq)]
+pub struct OwnRequest {
+    /// Which paragraphs of the file are its packages.
+    pub members: Members,
+    /// Which relations are asked.
+    pub strength: Strength,
+    /// Which text of its version the lines of a package have.
+    pub versions: VersionText,
+}
+
+/// Reads an index of packages once, or a status file as one of its installed packages, and writes a
+/// line for each group of its own relations that none of its packages meets, or may not meet
+/// (Debian Policy 7.1 and 7.2).
 ///
-/// The lines are those of [`crate::unmet`] for the same file. None is written before the whole file
+/// For an index the lines are those of [`crate::unmet`] for the same file. None is written before the whole file
 /// has been read and has no refusal: of each package its name, its version, its architecture and
 /// the relations that are asked are kept until then.
 ///
@@ -52,20 +64,19 @@ use std::alloc::{AllocError, Global};
 pub fn unmet_in_itself<R: Source, W: Sink>(
     alloc: Global,
     environment: &Env,
-    strength: Strength,
-    versions: VersionText,
+    request: OwnRequest,
     reader: &mut R,
     writer: &mut W,
 ) -> Result<Summary, Fault>
     ensures ok { (text : List ℕ) → R.left reader.old ≡ Some text
         → IfOk result (λ summary. WritesOwn
-        (asks_own strength versions (environment_of environment.now)) text summary
+        (own_asked request (environment_of environment.now)) text summary
         (W.held writer.old) (W.held writer.new)) }
     ensures refused { (text : List ℕ) → R.left reader.old ≡ Some text
-        → IfRefused result (λ refusal. refusal_of Doc.Packages text ≡ Some refusal) }
+        → IfRefused result (λ refusal. refusal_of (doc_of request.members) text ≡ Some refusal) }
     ensures stopped { (text : List ℕ) → R.left reader.old ≡ Some text
         → IfErr result (λ fault. StopsOwn fault
-        (asks_own strength versions (environment_of environment.now)) text (W.held writer.old)
+        (own_asked request (environment_of environment.now)) text (W.held writer.old)
         (W.held writer.new)) }
     ensures reads_at_most { (text : List ℕ) → R.left reader.old ≡ Some text
         → TakesNoMore text file_limit (R.left reader.new) }
@@ -84,8 +95,7 @@ pub fn unmet_in_itself<R: Source, W: Sink>(
 {
     let lines = UnmetLines {
         environment,
-        strength,
-        versions,
+        request,
     };
     write_in_itself(alloc, &lines, reader, writer)
 }
@@ -94,8 +104,7 @@ pub fn unmet_in_itself<R: Source, W: Sink>(
 #[derive(Clone, Copy)]
 struct UnmetLines<'a> {
     environment: &'a Env,
-    strength: Strength,
-    versions: VersionText,
+    request: OwnRequest,
 }
 
 impl OwnLines for UnmetLines<'_> {
@@ -103,8 +112,11 @@ impl OwnLines for UnmetLines<'_> {
 
     ghost Holds = { HoldsTexts };
 
-    ghost asks = { λ lines. asks_own lines.strength lines.versions
-        (environment_of lines.environment.now) };
+    ghost asks = { λ lines. own_asked lines.request (environment_of lines.environment.now) };
+
+    fn members(&self) -> Members {
+        self.request.members
+    }
 
     fn keep(
         alloc: Global,
@@ -130,9 +142,9 @@ impl OwnLines for UnmetLines<'_> {
             environment: self.environment,
         };
         let paragraph = Paragraph {
-            asked: Asked::Packages(self.strength),
+            asked: Asked::Packages(self.request.strength),
             number,
-            texts: &kept.line_texts(self.versions),
+            texts: &kept.line_texts(self.request.versions),
         };
         append_lines(alloc, out, &question, &paragraph)
     }

@@ -11,7 +11,7 @@ ghost use Rattle.deb_unmet.specs.Own.{AreKept, OwnAsks, asks_over};
 ghost use Rattle.deb_unmet.specs.Paragraphs.{fields_in};
 
 use deb_control::{CheckedView, FieldTexts};
-use deb_index::{Index, Keeper};
+use deb_index::{Index, Keeper, Members};
 use std::alloc::{AllocError, Global};
 
 /// Lines of each package of an index over all of its packages, for [`crate::write_in_itself`].
@@ -22,8 +22,13 @@ pub trait OwnLines {
     /// This is kept of fields that have these values.
     ghost Holds: { List Field → ValueEntries ValueMeaning → Self.Kept → Type 0 };
 
-    /// Which text of a version the lines have, and the lines of a paragraph.
+    /// Which paragraphs of a file have lines, which text of a version these have, and the lines of a
+    /// paragraph.
     ghost asks: { Self → OwnAsks };
+
+    /// Returns which paragraphs of a file have lines.
+    fn members(&self) -> Members
+        ensures { result ≡ (asks self.now).members };
 
     /// Returns what is kept of a paragraph that passes. `texts` has its words and relations.
     ///
@@ -39,7 +44,7 @@ pub trait OwnLines {
             → IfOk result (Holds (fields_in paragraph.now) values) };
 
     /// Appends the lines of a paragraph of which this is kept. `index` has all packages, and
-    /// `number` counts the paragraphs from 1.
+    /// `number` counts the members from 1.
     ///
     /// # Errors
     ///

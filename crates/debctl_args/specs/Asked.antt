@@ -7,7 +7,7 @@ use Rattle.std.specs.List.{slice_split}
 use Rattle.std.specs.Option.{option_map_or}
 use Rattle.clap.specs.Simple.{App, subcommand_of}
 use Rattle.clap.specs.Walk.{Row, Rule, Text, all_of, first_of}
-use Rattle.debctl_args.specs.Commands.{CommandRow, all_rule, arch_rule, code_rule, complete_rule, has_row, kind_rule, least_rule, list_rule, null_rule, optional_rule, paths_rule, profiles_rule, program_of, recommends_rule, relation_file_rule, relation_rule, required_rule, reverse_rule, spelled_rule, values_rule, version_rule, versions_rule, why_rule}
+use Rattle.debctl_args.specs.Commands.{CommandRow, all_rule, arch_rule, code_rule, complete_rule, has_row, installed_rule, kind_rule, least_rule, list_rule, null_rule, optional_rule, paths_rule, profiles_rule, program_of, recommends_rule, relation_file_rule, relation_rule, required_rule, reverse_rule, spelled_rule, values_rule, version_rule, versions_rule, why_rule}
 use Rattle.deb_base.specs.Codes.{name_of, number_of}
 use Rattle.deb_base.specs.declared.code.Code.{Code}
 use Rattle.deb_base.specs.declared.code.Code.TheVariants as code
@@ -36,6 +36,8 @@ use Rattle.debctl_args.specs.declared.jobs.Job.{Job}
 use Rattle.debctl_args.specs.declared.jobs.Job.TheVariants as job
 use Rattle.debctl_args.specs.declared.jobs.LineEnd.{LineEnd}
 use Rattle.debctl_args.specs.declared.jobs.LineEnd.TheVariants.{Newline, Nul}
+use Rattle.debctl_args.specs.declared.jobs.Members.{Members}
+use Rattle.debctl_args.specs.declared.jobs.Members.TheVariants as members
 use Rattle.debctl_args.specs.declared.jobs.Reads.{Reads}
 use Rattle.debctl_args.specs.declared.jobs.Reads.TheVariants.{Nothing, OneFile, Paths}
 use Rattle.debctl_args.specs.declared.jobs.Strength.{Strength}
@@ -79,15 +81,18 @@ commands =
     ∷ row (codes "version-key") (versions_rule ∷ [])
     -- `sort [--reverse] [PATH]`
     ∷ row (codes "sort") (reverse_rule ∷ optional_rule (codes "path") ∷ [])
-    -- `query --arch A [--profiles P,P] [--why] [--spelled] RELATION [PATH]` and
-    -- `query --arch A [--profiles P,P] [--why] [--spelled] --relation-from PATH [PATH]`
+    -- `query --arch A [--profiles P,P] [--why] [--spelled] [--installed] RELATION [PATH]`, or with
+    -- `--relation-from PATH` and without RELATION
     ∷ row (codes "query") (arch_rule ∷ profiles_rule ∷ why_rule ∷ spelled_rule
-    ∷ relation_file_rule ∷ optional_rule (codes "relation") ∷ optional_rule (codes "path") ∷ [])
-    -- `unmet --arch A [--profiles P,P] [--kind K] [--recommends] [--spelled] INDEX [PATH]`
+    ∷ installed_rule ∷ relation_file_rule ∷ optional_rule (codes "relation") ∷ optional_rule (codes "path") ∷ [])
+    -- `unmet --arch A [--profiles P,P] [--kind K] [--recommends] [--spelled] [--installed] INDEX
+    -- [PATH]`
     ∷ row (codes "unmet") (arch_rule ∷ profiles_rule ∷ kind_rule ∷ recommends_rule
-    ∷ spelled_rule ∷ required_rule (codes "index") ∷ optional_rule (codes "path") ∷ [])
-    -- `healthy --arch A [--recommends] [PATH]`
-    ∷ row (codes "healthy") (arch_rule ∷ recommends_rule ∷ optional_rule (codes "path") ∷ [])
+    ∷ spelled_rule ∷ installed_rule ∷ required_rule (codes "index")
+    ∷ optional_rule (codes "path") ∷ [])
+    -- `healthy --arch A [--recommends] [--installed] [PATH]`
+    ∷ row (codes "healthy") (arch_rule ∷ recommends_rule ∷ installed_rule
+    ∷ optional_rule (codes "path") ∷ [])
     -- `help [COMMAND]`
     ∷ row (codes "help") (optional_rule (codes "command") ∷ []) ∷ []
 
@@ -182,6 +187,11 @@ abbrev pub detail_asked : Bool → Detail
 detail_asked false = Verdicts
 detail_asked true = Reasons
 
+-- which packages an index has: the installed ones of a status file where that is asked for
+abbrev pub members_asked : Bool → Members
+members_asked false = members.All
+members_asked true = members.Installed
+
 -- which text of each version is printed: the one of its file where that is asked for
 abbrev pub versions_asked : Bool → VersionText
 versions_asked false = Canonical
@@ -220,10 +230,10 @@ pub data Wanted : Type 0 where
   canonicalises : Text → Wanted
   keys : List Text → Wanted
   sorts : Bool → Wanted
-  queries : Text → List Text → Text → Detail → VersionText → Wanted
-  queries_from : Text → List Text → Detail → VersionText → Wanted
-  finds_unmet : Text → List Text → Dependents → VersionText → Wanted
-  checks_health : Text → Strength → Wanted
+  queries : Text → List Text → Text → Members → Detail → VersionText → Wanted
+  queries_from : Text → List Text → Members → Detail → VersionText → Wanted
+  finds_unmet : Text → List Text → Members → Dependents → VersionText → Wanted
+  checks_health : Text → Members → Strength → Wanted
   explains : Doc → Wanted
   explains_all : Doc → Wanted
   explains_rule : Code → Wanted
@@ -249,14 +259,14 @@ wanted_of (job.Compare left operator right) =
 wanted_of (job.CanonVersion version) = canonicalises (string_bytes version)
 wanted_of (job.VersionKey versions) = keys (map string_bytes versions.items)
 wanted_of (job.Sort reverse) = sorts reverse
-wanted_of (job.Query arch profiles relation detail versions) =
-    queries (string_bytes arch) (map string_bytes profiles.items) (string_bytes relation) detail
-    versions
-wanted_of (job.QueryFrom arch profiles detail versions) =
-    queries_from (string_bytes arch) (map string_bytes profiles.items) detail versions
-wanted_of (job.Unmet arch profiles dependents versions) =
-    finds_unmet (string_bytes arch) (map string_bytes profiles.items) dependents versions
-wanted_of (job.Healthy arch strength) = checks_health (string_bytes arch) strength
+wanted_of (job.Query arch profiles relation members detail versions) =
+    queries (string_bytes arch) (map string_bytes profiles.items) (string_bytes relation) members
+    detail versions
+wanted_of (job.QueryFrom arch profiles members detail versions) =
+    queries_from (string_bytes arch) (map string_bytes profiles.items) members detail versions
+wanted_of (job.Unmet arch profiles members dependents versions) =
+    finds_unmet (string_bytes arch) (map string_bytes profiles.items) members dependents versions
+wanted_of (job.Healthy arch members strength) = checks_health (string_bytes arch) members strength
 
 -- the files that a job reads
 abbrev pub reads_of : Job → Reads
@@ -270,10 +280,10 @@ reads_of (job.Compare left operator right) = Nothing
 reads_of (job.CanonVersion version) = Nothing
 reads_of (job.VersionKey versions) = Nothing
 reads_of (job.Sort reverse) = OneFile
-reads_of (job.Query arch profiles relation detail versions) = OneFile
-reads_of (job.QueryFrom arch profiles detail versions) = Paths
-reads_of (job.Unmet arch profiles dependents versions) = Paths
-reads_of (job.Healthy arch strength) = OneFile
+reads_of (job.Query arch profiles relation members detail versions) = OneFile
+reads_of (job.QueryFrom arch profiles members detail versions) = Paths
+reads_of (job.Unmet arch profiles members dependents versions) = Paths
+reads_of (job.Healthy arch members strength) = OneFile
 
 -- the kind that is named for the files of a job whose refusals are lines on standard error
 abbrev pub document_of : Job → Option Doc
@@ -337,6 +347,10 @@ pub data Asked : Type 0 where
 -- a word that a command has to have; `clap` refuses words without it
 abbrev pub word_in : Text → List Row → Text
 word_in id rows = unwrap_or (first_of id rows) []
+
+-- which packages the index of `query` and `unmet` has, or the set of `healthy`
+abbrev pub members_in : List Row → Members
+members_in rows = members_asked (flag_asked (first_of (codes "installed") rows))
 
 -- `check`, `normalise`, and `explain` of a file
 abbrev pub document_asked : (Doc → Wanted) → List Row → Asked
@@ -548,7 +562,7 @@ abbrev pub query_of_word : List Row → Text → Asked
 query_of_word rows relation =
     asks (record {
       wanted = queries (word_in (codes "arch") rows)
-          (profiles_asked (first_of (codes "profiles") rows)) relation
+          (profiles_asked (first_of (codes "profiles") rows)) relation (members_in rows)
           (detail_asked (flag_asked (first_of (codes "why") rows)))
           (versions_asked (flag_asked (first_of (codes "spelled") rows)));
       first = first_of (codes "path") rows;
@@ -568,7 +582,7 @@ query_of_file rows path =
     then standard_input_twice
     else asks (record {
       wanted = queries_from (word_in (codes "arch") rows)
-          (profiles_asked (first_of (codes "profiles") rows))
+          (profiles_asked (first_of (codes "profiles") rows)) (members_in rows)
           (detail_asked (flag_asked (first_of (codes "why") rows)))
           (versions_asked (flag_asked (first_of (codes "spelled") rows)));
       first = Some path;
@@ -592,7 +606,7 @@ unmet_of_files rows dependents =
     then standard_input_twice
     else asks (record {
       wanted = finds_unmet (word_in (codes "arch") rows)
-          (profiles_asked (first_of (codes "profiles") rows)) dependents
+          (profiles_asked (first_of (codes "profiles") rows)) (members_in rows) dependents
           (versions_asked (flag_asked (first_of (codes "spelled") rows)));
       first = Some (word_in (codes "index") rows);
       second = first_of (codes "path") rows;
@@ -638,7 +652,7 @@ unmet_asked rows =
 abbrev pub healthy_asked : List Row → Asked
 healthy_asked rows =
     asks (record {
-      wanted = checks_health (word_in (codes "arch") rows) (strength_in rows);
+      wanted = checks_health (word_in (codes "arch") rows) (members_in rows) (strength_in rows);
       first = first_of (codes "path") rows;
       second = None;
     })

@@ -17,6 +17,7 @@ use Rattle.debctl_args.specs.declared.jobs.DiffDetail.{DiffDetail}
 use Rattle.debctl_args.specs.declared.jobs.DiffDetail.TheVariants.{Fields, Values}
 use Rattle.debctl_args.specs.declared.jobs.DiffKind.{DiffKind}
 use Rattle.debctl_args.specs.declared.jobs.DiffKind.TheVariants as diffed
+use Rattle.debctl_args.specs.declared.jobs.Members.TheVariants as members
 use Rattle.debctl_args.specs.declared.jobs.Strength.TheVariants.{Depends, Recommends}
 
 -- the program's name, and the arguments after it
@@ -319,7 +320,7 @@ query_line words = line (codes "query" ∷ codes "--arch" ∷ codes "amd64" ∷ 
 abbrev asks_of_aa : List Text → Option Text → Option Asked
 asks_of_aa profiles path =
     Some (asks (record {
-      wanted = queries (codes "amd64") profiles (codes "aa") Verdicts Canonical;
+      wanted = queries (codes "amd64") profiles (codes "aa") members.All Verdicts Canonical;
       first = path;
       second = None;
     }))
@@ -352,7 +353,7 @@ query_without_path = refl
 abbrev asks_of_file : List Text → Text → Text → Option Asked
 asks_of_file profiles path index =
     Some (asks (record {
-      wanted = queries_from (codes "amd64") profiles Verdicts Canonical;
+      wanted = queries_from (codes "amd64") profiles members.All Verdicts Canonical;
       first = Some path;
       second = Some index;
     }))
@@ -393,7 +394,7 @@ query_of_nothing = refl
 
 query_with_reasons : asked_of (query_line (codes "aa" ∷ codes "--why" ∷ []))
     ≡ Some (asks (record {
-      wanted = queries (codes "amd64") [] (codes "aa") Reasons Canonical;
+      wanted = queries (codes "amd64") [] (codes "aa") members.All Reasons Canonical;
       first = None;
       second = None;
     }))
@@ -403,7 +404,7 @@ query_with_reasons = refl
 query_of_a_file_with_reasons : asked_of
     (query_line (codes "--why" ∷ codes "--relation-from" ∷ codes "f" ∷ codes "x" ∷ []))
     ≡ Some (asks (record {
-      wanted = queries_from (codes "amd64") [] Reasons Canonical;
+      wanted = queries_from (codes "amd64") [] members.All Reasons Canonical;
       first = Some (codes "f");
       second = Some (codes "x");
     }))
@@ -412,7 +413,7 @@ query_of_a_file_with_reasons = refl
 
 query_with_spelled_versions : asked_of (query_line (codes "--spelled" ∷ codes "aa" ∷ []))
     ≡ Some (asks (record {
-      wanted = queries (codes "amd64") [] (codes "aa") Verdicts Spelled;
+      wanted = queries (codes "amd64") [] (codes "aa") members.All Verdicts Spelled;
       first = None;
       second = None;
     }))
@@ -422,12 +423,28 @@ query_with_spelled_versions = refl
 query_of_a_file_with_spelled_versions : asked_of (query_line
     (codes "--relation-from" ∷ codes "f" ∷ codes "--why" ∷ codes "x" ∷ codes "--spelled" ∷ []))
     ≡ Some (asks (record {
-      wanted = queries_from (codes "amd64") [] Reasons Spelled;
+      wanted = queries_from (codes "amd64") [] members.All Reasons Spelled;
       first = Some (codes "f");
       second = Some (codes "x");
     }))
 unfolding clap_on_literals
 query_of_a_file_with_spelled_versions = refl
+
+query_of_installed_packages : map (λ words. asked_of (query_line words))
+    ((codes "--installed" ∷ codes "aa" ∷ [])
+    ∷ (codes "--relation-from=f" ∷ codes "x" ∷ codes "--installed" ∷ []) ∷ [])
+    ≡ Some (asks (record {
+      wanted = queries (codes "amd64") [] (codes "aa") members.Installed Verdicts Canonical;
+      first = None;
+      second = None;
+    }))
+    ∷ Some (asks (record {
+      wanted = queries_from (codes "amd64") [] members.Installed Verdicts Canonical;
+      first = Some (codes "f");
+      second = Some (codes "x");
+    })) ∷ []
+unfolding clap_on_literals
+query_of_installed_packages = refl
 
 -- ---- `unmet`
 
@@ -439,7 +456,7 @@ unmet_line words = line (codes "unmet" ∷ codes "--arch" ∷ codes "amd64" ∷ 
 abbrev asks_unmet : Dependents → Option Text → Option Asked
 asks_unmet dependents path =
     Some (asks (record {
-      wanted = finds_unmet (codes "amd64") [] dependents Canonical;
+      wanted = finds_unmet (codes "amd64") [] members.All dependents Canonical;
       first = Some (codes "x");
       second = path;
     }))
@@ -474,7 +491,7 @@ unmet_of_a_source = refl
 unmet_with_profiles : asked_of
     (unmet_line (codes "--profiles" ∷ codes "a,b" ∷ codes "-" ∷ codes "y" ∷ []))
     ≡ Some (asks (record {
-      wanted = finds_unmet (codes "amd64") (codes "a" ∷ codes "b" ∷ [])
+      wanted = finds_unmet (codes "amd64") (codes "a" ∷ codes "b" ∷ []) members.All
           (dependents.Packages Depends) Canonical;
       first = Some (codes "-");
       second = Some (codes "y");
@@ -484,17 +501,35 @@ unmet_with_profiles = refl
 
 unmet_with_spelled_versions : asked_of (unmet_line (codes "--spelled" ∷ codes "x" ∷ []))
     ≡ Some (asks (record {
-      wanted = finds_unmet (codes "amd64") [] (dependents.Index Depends) Spelled;
+      wanted = finds_unmet (codes "amd64") [] members.All (dependents.Index Depends) Spelled;
       first = Some (codes "x");
       second = None;
     }))
 unfolding clap_on_literals kind_asked
 unmet_with_spelled_versions = refl
 
+-- the index is a status file, and the file beside it is of its own kind
+unmet_of_installed_packages : map (λ words. asked_of (unmet_line words))
+    ((codes "--installed" ∷ codes "x" ∷ [])
+    ∷ (codes "x" ∷ codes "y" ∷ codes "--installed" ∷ codes "-ksources" ∷ []) ∷ [])
+    ≡ Some (asks (record {
+      wanted = finds_unmet (codes "amd64") [] members.Installed (dependents.Index Depends)
+          Canonical;
+      first = Some (codes "x");
+      second = None;
+    }))
+    ∷ Some (asks (record {
+      wanted = finds_unmet (codes "amd64") [] members.Installed dependents.Sources Canonical;
+      first = Some (codes "x");
+      second = Some (codes "y");
+    })) ∷ []
+unfolding clap_on_literals kind_asked
+unmet_of_installed_packages = refl
+
 -- an index in itself that is standard input
 unmet_of_an_index_in_input : asked_of (unmet_line (codes "-" ∷ []))
     ≡ Some (asks (record {
-      wanted = finds_unmet (codes "amd64") [] (dependents.Index Depends) Canonical;
+      wanted = finds_unmet (codes "amd64") [] members.All (dependents.Index Depends) Canonical;
       first = Some (codes "-");
       second = None;
     }))

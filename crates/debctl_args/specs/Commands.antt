@@ -67,6 +67,12 @@ recommends_rule =
     record (new_rule (codes "recommends"))
     { long = Some (codes "recommends"); action = Some SetTrue }
 
+-- `--installed`, which takes no value
+abbrev pub installed_rule : Rule
+installed_rule =
+    record (new_rule (codes "installed"))
+    { long = Some (codes "installed"); action = Some SetTrue }
+
 -- `--relation-from PATH`
 abbrev pub relation_file_rule : Rule
 relation_file_rule =

@@ -6,6 +6,7 @@ use Rattle.clap.specs.Takes.{takes}
 use Rattle.clap.specs.Walk.{Text}
 use Rattle.clap.specs.declared.error.kind.ErrorKind.TheVariants as kind
 use Rattle.debctl_args.specs.Asked.{asked_of, asks, asks_help, checks_health, debctl_app, Asked}
+use Rattle.debctl_args.specs.declared.jobs.Members.TheVariants as members
 use Rattle.debctl_args.specs.declared.jobs.Strength.{Strength}
 use Rattle.debctl_args.specs.declared.jobs.Strength.TheVariants.{Depends, Recommends}
 
@@ -17,7 +18,7 @@ healthy_line words = codes "debctl" ∷ codes "healthy" ∷ words
 abbrev asks_healthy : Strength → Option Text → Option Asked
 asks_healthy strength path =
     Some (asks (record {
-      wanted = checks_health (codes "amd64") strength;
+      wanted = checks_health (codes "amd64") members.All strength;
       first = path;
       second = None;
     }))
@@ -38,11 +39,21 @@ healthy_with_recommends : map (λ words. asked_of (healthy_line words))
 unfolding clap_on_literals
 healthy_with_recommends = refl
 
+healthy_of_installed_packages : asked_of
+    (healthy_line (codes "--arch=amd64" ∷ codes "--installed" ∷ codes "x" ∷ []))
+    ≡ Some (asks (record {
+      wanted = checks_health (codes "amd64") members.Installed Depends;
+      first = Some (codes "x");
+      second = None;
+    }))
+unfolding clap_on_literals
+healthy_of_installed_packages = refl
+
 -- any text may be the architecture, and after `--` any may be the path
 unusual_words : asked_of
     (healthy_line (codes "--arch" ∷ [] ∷ codes "--" ∷ codes "--recommends" ∷ []))
     ≡ Some (asks (record {
-      wanted = checks_health [] Depends;
+      wanted = checks_health [] members.All Depends;
       first = Some (codes "--recommends");
       second = None;
     }))

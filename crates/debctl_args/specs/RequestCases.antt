@@ -12,6 +12,7 @@ use Rattle.debctl_args.specs.declared.jobs.Files.{Files}
 use Rattle.debctl_args.specs.declared.jobs.Files.TheVariants as files
 use Rattle.debctl_args.specs.declared.jobs.Job.{Job}
 use Rattle.debctl_args.specs.declared.jobs.Job.TheVariants as job
+use Rattle.debctl_args.specs.declared.jobs.Members.TheVariants as members
 use Rattle.debctl_args.specs.declared.jobs.Reads.TheVariants.{Nothing, OneFile, Paths}
 use Rattle.debctl_args.specs.declared.jobs.Task.{Task}
 use Rattle.debctl_args.specs.declared.jobs.Task.TheVariants as task
@@ -56,16 +57,18 @@ jobs_on_files = refl
 jobs_on_words : map wanted_of
     (job.Compare one cmps.Less other ∷ job.CanonVersion other
     ∷ job.VersionKey (vector (one ∷ other ∷ []) refl)
-    ∷ job.Query one (vector (one ∷ other ∷ []) refl) other Reasons Canonical
-    ∷ job.QueryFrom other (vector (other ∷ one ∷ []) refl) Verdicts Spelled
-    ∷ job.Unmet one (vector (other ∷ []) refl) dependents.Sources Spelled
-    ∷ job.Healthy one Recommends ∷ job.Healthy other Depends ∷ [])
+    ∷ job.Query one (vector (one ∷ other ∷ []) refl) other members.Installed Reasons Canonical
+    ∷ job.QueryFrom other (vector (other ∷ one ∷ []) refl) members.All Verdicts Spelled
+    ∷ job.Unmet one (vector (other ∷ []) refl) members.Installed dependents.Sources Spelled
+    ∷ job.Healthy one members.All Recommends ∷ job.Healthy other members.Installed Depends ∷ [])
     ≡ compares (codes "amd64") cmps.Less (codes "b-") ∷ canonicalises (codes "b-")
     ∷ keys (codes "amd64" ∷ codes "b-" ∷ [])
-    ∷ queries (codes "amd64") (codes "amd64" ∷ codes "b-" ∷ []) (codes "b-") Reasons Canonical
-    ∷ queries_from (codes "b-") (codes "b-" ∷ codes "amd64" ∷ []) Verdicts Spelled
-    ∷ finds_unmet (codes "amd64") (codes "b-" ∷ []) dependents.Sources Spelled
-    ∷ checks_health (codes "amd64") Recommends ∷ checks_health (codes "b-") Depends ∷ []
+    ∷ queries (codes "amd64") (codes "amd64" ∷ codes "b-" ∷ []) (codes "b-") members.Installed
+    Reasons Canonical
+    ∷ queries_from (codes "b-") (codes "b-" ∷ codes "amd64" ∷ []) members.All Verdicts Spelled
+    ∷ finds_unmet (codes "amd64") (codes "b-" ∷ []) members.Installed dependents.Sources Spelled
+    ∷ checks_health (codes "amd64") members.All Recommends
+    ∷ checks_health (codes "b-") members.Installed Depends ∷ []
 unfolding one other
 jobs_on_words = refl
 
@@ -78,9 +81,10 @@ jobs =
     ∷ job.Same docs.Sources ∷ job.CheckAll docs.Packages
     ∷ job.Diff diff_kinds.Sources diff_details.Values Spelled ∷ job.Compare one cmps.Less other
     ∷ job.CanonVersion one ∷ job.VersionKey (vector (one ∷ []) refl) ∷ job.Sort true
-    ∷ job.Query one (vector [] refl) other Reasons Canonical
-    ∷ job.QueryFrom one (vector [] refl) Verdicts Spelled
-    ∷ job.Unmet one (vector [] refl) dependents.Sources Spelled ∷ job.Healthy one Depends ∷ []
+    ∷ job.Query one (vector [] refl) other members.All Reasons Canonical
+    ∷ job.QueryFrom one (vector [] refl) members.All Verdicts Spelled
+    ∷ job.Unmet one (vector [] refl) members.All dependents.Sources Spelled
+    ∷ job.Healthy one members.Installed Depends ∷ []
 
 files_of_jobs : map reads_of jobs
     ≡ OneFile ∷ OneFile ∷ OneFile ∷ Paths ∷ OneFile ∷ Paths ∷ Nothing ∷ Nothing ∷ Nothing

@@ -9,8 +9,8 @@ use crate::code_argument::code_named;
 use crate::commands::{command_of, debctl_command, kinds_help, row_named};
 use crate::found_arguments::{
     all_given, detail_in, diff_detail_in, end_in, extent_in, flag_in, given, has_input_beside,
-    index_in, is_standard_input_twice, kind_in, least_in, names_file, owned_texts, packages_in,
-    path_in, profiles_in, strength_in, version_text_in, versions_in, word_in,
+    index_in, is_standard_input_twice, kind_in, least_in, members_in, names_file, owned_texts,
+    packages_in, path_in, profiles_in, strength_in, version_text_in, versions_in, word_in,
 };
 use crate::jobs::{Audit, Call, Demands, Dependents, DiffKind, Explain, Extent, Files, Job, Task};
 use crate::operator_argument::operator_named;
@@ -424,6 +424,7 @@ fn query_of_word(alloc: Global, found: &ArgMatches<'_>, relation: &str) -> Resul
             arch,
             profiles,
             relation,
+            members: members_in(found),
             detail: detail_in(found),
             versions: version_text_in(found),
         },
@@ -451,6 +452,7 @@ fn query_of_file(alloc: Global, found: &ArgMatches<'_>, path: &str) -> Result<Ta
         job: Job::QueryFrom {
             arch,
             profiles,
+            members: members_in(found),
             detail: detail_in(found),
             versions: version_text_in(found),
         },
@@ -520,6 +522,7 @@ fn unmet_of_files(
         job: Job::Unmet {
             arch,
             profiles,
+            members: members_in(found),
             dependents,
             versions: version_text_in(found),
         },
@@ -536,6 +539,7 @@ pub(crate) fn healthy_task(alloc: Global, found: &ArgMatches<'_>) -> Result<Task
     Ok(Task::Run(Call {
         job: Job::Healthy {
             arch,
+            members: members_in(found),
             strength: strength_in(found),
         },
         first,

@@ -2,11 +2,11 @@
 
 ghost use Rattle.std.specs.Prelude.{◌≡◌, nat_lt, count_by, map, codes, string_bytes, option_map, IfOk, option_copied};
 ghost use Rattle.clap.specs.Words.{all_of, first_of, found_of, rows_of};
-ghost use Rattle.debctl_args.specs.Asked.{comma_pieces, detail_asked, diff_detail_asked, end_asked, extent_asked, flag_asked, has_input_beside, index_asked, is_standard_input, kind_asked, least_asked, names_file, packages_in, profiles_asked, strength_in, texts_asked, versions_asked, word_in};
+ghost use Rattle.debctl_args.specs.Asked.{comma_pieces, detail_asked, diff_detail_asked, end_asked, extent_asked, flag_asked, has_input_beside, index_asked, is_standard_input, kind_asked, least_asked, members_in, names_file, packages_in, profiles_asked, strength_in, texts_asked, versions_asked, word_in};
 ghost use Rattle.debctl_args.specs.Fitting.{MeansKind, MeansLeast};
 
 use crate::arguments::{UsageFault, usage};
-use crate::jobs::{Dependents, Detail, DiffDetail, Extent, LineEnd, Strength};
+use crate::jobs::{Dependents, Detail, DiffDetail, Extent, LineEnd, Members, Strength};
 use crate::number_argument::number_named;
 use clap::ArgMatches;
 use deb_base::{Doc, VersionText};
@@ -96,6 +96,17 @@ pub(crate) fn version_text_in(found: &ArgMatches<'_>) -> VersionText
         VersionText::Spelled
     } else {
         VersionText::Canonical
+    }
+}
+
+/// The packages of an index: the installed ones of a status file if `--installed` is given.
+pub(crate) fn members_in(found: &ArgMatches<'_>) -> Members
+    ensures { result ≡ members_in (rows_of (found_of found.now)) }
+{
+    if flag_in(found, "installed") {
+        Members::Installed
+    } else {
+        Members::All
     }
 }
 

@@ -72,6 +72,7 @@ pub enum Job {
         arch: String,
         profiles: Vec<String>,
         relation: String,
+        members: Members,
         detail: Detail,
         versions: VersionText,
     },
@@ -80,6 +81,7 @@ pub enum Job {
     QueryFrom {
         arch: String,
         profiles: Vec<String>,
+        members: Members,
         detail: Detail,
         versions: VersionText,
     },
@@ -88,6 +90,7 @@ pub enum Job {
     Unmet {
         arch: String,
         profiles: Vec<String>,
+        members: Members,
         dependents: Dependents,
         versions: VersionText,
     },
@@ -95,6 +98,7 @@ pub enum Job {
     /// architecture.
     Healthy {
         arch: String,
+        members: Members,
         strength: Strength,
     },
 }
@@ -169,6 +173,15 @@ pub enum DiffDetail {
     Fields,
     /// `--values`: also the lines of these fields in both files.
     Values,
+}
+
+/// The packages of the index of `query` and `unmet`, and of the set of `healthy`.
+#[derive(Clone, Copy, Debug, PartialEq, Eq)]
+pub enum Members {
+    /// The paragraphs of an index of packages.
+    All,
+    /// `--installed`: the installed packages of the status file of dpkg.
+    Installed,
 }
 
 /// What `query` prints of each group.

@@ -193,6 +193,15 @@ pub(crate) const RECOMMENDS: Argument = Argument {
     help: Some("Try the groups of Recommends too"),
 };
 
+/// `--installed`
+pub(crate) const INSTALLED: Argument = Argument {
+    id: "installed",
+    short: None,
+    form: Form::Flag,
+    shown: "",
+    help: Some("Read a status file such as /var/lib/dpkg/status: its installed packages"),
+};
+
 /// `--relation-from PATH`
 pub(crate) const RELATION_FILE: Argument = Argument {
     id: "relation-from",

@@ -13,10 +13,10 @@ use crate::arguments::{
 use crate::found_arguments::{given, kind_in, path_in};
 use crate::jobs::{Call, Job, Task};
 use crate::options::{
-    ALL, ARCH, Argument, CODE, COMMAND, COMPLETE, DEPENDENTS, DIFF_KIND, FIRST, INDEX, KIND, LEAST,
-    LEFT, LIST, NEW, NULL, OLD, OPERATOR, PATH, PATHS, PROFILES, QUERIED, RECOMMENDS, RELATION,
-    RELATION_FILE, RELATION_TEXT, REVERSE, RIGHT, SECOND, SPELLED, UNMET_KIND, VALUES, VERSION,
-    VERSION_TEXT, VERSIONS, WHY,
+    ALL, ARCH, Argument, CODE, COMMAND, COMPLETE, DEPENDENTS, DIFF_KIND, FIRST, INDEX, INSTALLED,
+    KIND, LEAST, LEFT, LIST, NEW, NULL, OLD, OPERATOR, PATH, PATHS, PROFILES, QUERIED, RECOMMENDS,
+    RELATION, RELATION_FILE, RELATION_TEXT, REVERSE, RIGHT, SECOND, SPELLED, UNMET_KIND, VALUES,
+    VERSION, VERSION_TEXT, VERSIONS, WHY,
 };
 use clap::ArgMatches;
 use std::alloc::Global;
@@ -90,6 +90,7 @@ static COMMANDS: [Row; 14] = [
             PROFILES,
             WHY,
             SPELLED,
+            INSTALLED,
             RELATION_FILE,
             RELATION,
             QUERIED,
@@ -99,13 +100,13 @@ static COMMANDS: [Row; 14] = [
         name: "unmet",
         about: "Finds the dependencies of a whole file that no package of an index meets",
         takes: &[
-            ARCH, PROFILES, UNMET_KIND, RECOMMENDS, SPELLED, INDEX, DEPENDENTS,
+            ARCH, PROFILES, UNMET_KIND, RECOMMENDS, SPELLED, INSTALLED, INDEX, DEPENDENTS,
         ],
     },
     Row {
         name: "healthy",
         about: "Checks whether a set of packages is consistent",
-        takes: &[ARCH, RECOMMENDS, PATH],
+        takes: &[ARCH, RECOMMENDS, INSTALLED, PATH],
     },
     Row {
         name: "help",
@@ -484,10 +485,10 @@ Exit statuses:
      printed. Line 0 means an argument
   3  wrong arguments, out of memory, or a failed read or write
 
-The status file of dpkg also lists removed packages whose configuration files are
-left, and `query` counts them. To query installed packages only, use grep-status
-from the package dctrl-tools:
-  grep-status -F Status 'ok installed' | debctl query --arch amd64 bash
+With `--installed` the index is a status file of dpkg, of which only the installed
+packages are read: those whose Status has `installed` as the last of three words,
+and that have a version and an architecture. NUMBER counts these packages alone.
+  debctl query --arch amd64 --installed bash /var/lib/dpkg/status
 
 Example: is this build dependency met by this index?
   $ printf 'Package: gcc\\nVersion: 12.2\\nArchitecture: amd64\\n' > index
@@ -535,6 +536,9 @@ because of what its dependencies depend on or conflict with.
 
 Without PATH the file is INDEX, and nothing is printed before all of it has been read.
 
+With `--installed` INDEX is a status file of dpkg, of which only the installed packages
+are read; without PATH the lines are theirs, and NUMBER counts them alone.
+
 Exit statuses:
   0  nothing is printed: each group is met or ignored
   1  a group is unmet or unsure
@@ -574,6 +578,9 @@ architectures and of equal versions. A package for `all` counts as one for A.
 
 `unsure` is printed in place of `unmet` or `conflict` if the answer depends on how an
 architecture list with a wildcard is read: see `debctl help unmet`.
+
+With `--installed` the file is a status file of dpkg, and the set is its installed
+packages. Their numbers count them alone.
 
 Nothing is printed before the whole file has been read.
 

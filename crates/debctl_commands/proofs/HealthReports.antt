@@ -5,6 +5,7 @@ use Rattle.deb_base.specs.Lines.{fault_line}
 use Rattle.deb_base.specs.declared.fault.Fault.{Fault}
 use Rattle.deb_base.specs.declared.fault.Fault.TheVariants.{Refused, Memory, Read, Write}
 use Rattle.deb_unmet.specs.declared.asking.Summary.{Summary}
+use Rattle.deb_index.specs.declared.members.Members.{Members}
 use Rattle.debctl_args.specs.declared.jobs.Strength.{Strength}
 use Rattle.debctl_commands.specs.HealthJob.{health_promise, health_report}
 use Rattle.debctl_commands.specs.JobDevices.{ReaderOfJob, WriterOfJob}
@@ -33,18 +34,18 @@ module _ {E : Type 0} (err : WriterOfJob E) (status n n_after : ℕ) (rose : n <
   write_is_three (Err Memory) counted told = absurd (omega (arith, counted, rose))
   write_is_three (Err Read) counted told = absurd (omega (arith, counted, rose))
 
-module _ {W E : Type 0} (target : List ℕ) (strength : Strength) (first : ReaderOfJob) (out : WriterOfJob W) (err : WriterOfJob E) (status : ℕ) where
+module _ {W E : Type 0} (target : List ℕ) (members : Members) (strength : Strength) (first : ReaderOfJob) (out : WriterOfJob W) (err : WriterOfJob E) (status : ℕ) where
   -- whatever the second reader is, which isn't used
-  pub three_if_first : ((second : ReaderOfJob) → Ends (health_promise target strength) first second out err status) → first.failures < first.failures_after → status ≡ 3
+  pub three_if_first : ((second : ReaderOfJob) → Ends (health_promise target members strength) first second out err status) → first.failures < first.failures_after → status ≡ 3
   three_if_first ends rose = go (ends first)
     where
-      go : Ends (health_promise target strength) first first out err status → status ≡ 3
+      go : Ends (health_promise target members strength) first first out err status → status ≡ 3
       go (answer, inl e, told) = let same = e.untouched in absurd (omega (arith, same, rose))
       go (answer, inr (good, own), told) = read_is_three err status first.failures first.failures_after rose answer own.reads told
 
-  pub three_if_out : ((second : ReaderOfJob) → Ends (health_promise target strength) first second out err status) → out.failures out.old < out.failures out.new → status ≡ 3
+  pub three_if_out : ((second : ReaderOfJob) → Ends (health_promise target members strength) first second out err status) → out.failures out.old < out.failures out.new → status ≡ 3
   three_if_out ends rose = go (ends first)
     where
-      go : Ends (health_promise target strength) first first out err status → status ≡ 3
+      go : Ends (health_promise target members strength) first first out err status → status ≡ 3
       go (answer, inl e, told) = let same = ap out.failures e.unwritten in absurd (omega (arith, same, rose))
       go (answer, inr (good, own), told) = write_is_three err status (out.failures out.old) (out.failures out.new) rose answer own.writes told

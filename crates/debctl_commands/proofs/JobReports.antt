@@ -8,7 +8,9 @@ use Rattle.debctl_commands.specs.JobDevices.{ReaderOfJob, WriterOfJob}
 use Rattle.debctl_commands.specs.DiffJob.{FindsChanges, form_asked}
 use Rattle.debctl_commands.specs.Promises.{Ends, plain, sided, yes_or_no}
 use Rattle.debctl_commands.specs.QueryFrom.{AreRefusedFrom, from_promise}
-use Rattle.debctl_commands.specs.QueryJob.{AreRefused, QueriesFile, query_options}
+use Rattle.deb_index.specs.declared.members.Members.{Members as IndexMembers}
+use Rattle.debctl_args.specs.declared.jobs.Members.{Members}
+use Rattle.debctl_commands.specs.QueryJob.{AreRefused, QueriesFile, index_members, query_options}
 use Rattle.debctl_commands.specs.Running.{IfRefusedRelation, IfRefusedWords, IfSecondUnread, Reported, asked, asked_of_file, of_file, words_of_unmet}
 use Rattle.debctl_commands.specs.UnmetJob.{AreRefusedBefore, Words, has_environment, is_index, unmet_promise, words}
 use Rattle.debctl_commands.specs.declared.diff_job.DiffOptions.{DiffOptions}
@@ -31,19 +33,20 @@ reported_diff job kind detail versions is options options_are first second out e
     reported_as job (Diff kind detail versions) is first second out err status (subst (λ (given : DiffOptions). Ends (sided yes_or_no (FindsChanges given.kind given.form)) first second out err status) options_are reports)
 
 -- the words of a query are those of its job
-pub reported_query : {W E : Type 0} (job : Job) (arch : String Global) (profiles : Vec (String Global) Global) (relation : String Global) (detail : Detail) (versions : VersionText) → job ≡ Query arch profiles relation detail versions
-    → (target : List ℕ) (items : List (String Global)) (word : List ℕ) → target ≡ string_bytes arch → items ≡ profiles.items → word ≡ string_bytes relation → (wanted : QueryOptions) → wanted ≡ query_options detail versions
-    → (first second : ReaderOfJob) (out : WriterOfJob W) (err : WriterOfJob E) (status : ℕ) → Ends (plain yes_or_no (of_file (QueriesFile wanted (question target (map string_bytes items) word)))) first second out err status → Reported job first second out err status
-reported_query job arch profiles relation detail versions is target items word target_is items_is word_is wanted wanted_is first second out err status reports =
+pub reported_query : {W E : Type 0} (job : Job) (arch : String Global) (profiles : Vec (String Global) Global) (relation : String Global) (members : Members) (detail : Detail) (versions : VersionText) → job ≡ Query arch profiles relation members detail versions
+    → (target : List ℕ) (items : List (String Global)) (word : List ℕ) → target ≡ string_bytes arch → items ≡ profiles.items → word ≡ string_bytes relation → (chosen : IndexMembers) → chosen ≡ index_members members → (wanted : QueryOptions) → wanted ≡ query_options detail versions
+    → (first second : ReaderOfJob) (out : WriterOfJob W) (err : WriterOfJob E) (status : ℕ) → Ends (plain yes_or_no (of_file (QueriesFile chosen wanted (question target (map string_bytes items) word)))) first second out err status → Reported job first second out err status
+reported_query job arch profiles relation members detail versions is target items word target_is items_is word_is chosen chosen_is wanted wanted_is first second out err status reports =
     let question_is : question target (map string_bytes items) word ≡ asked arch profiles relation = rw (target_is, items_is, word_is) refl in
-    reported_as job (Query arch profiles relation detail versions) is first second out err status
-    (subst (λ (q : Question). Ends (plain yes_or_no (of_file (QueriesFile (query_options detail versions) q))) first second out err status) question_is
-    (subst (λ (options : QueryOptions). Ends (plain yes_or_no (of_file (QueriesFile options (question target (map string_bytes items) word)))) first second out err status) wanted_is reports))
+    reported_as job (Query arch profiles relation members detail versions) is first second out err status
+    (subst (λ (q : Question). Ends (plain yes_or_no (of_file (QueriesFile (index_members members) (query_options detail versions) q))) first second out err status) question_is
+    (subst (λ (options : QueryOptions). Ends (plain yes_or_no (of_file (QueriesFile (index_members members) options (question target (map string_bytes items) word)))) first second out err status) wanted_is
+    (subst (λ (m : IndexMembers). Ends (plain yes_or_no (of_file (QueriesFile m wanted (question target (map string_bytes items) word)))) first second out err status) chosen_is reports)))
 
-pub refused_words : (job : Job) (arch : String Global) (profiles : Vec (String Global) Global) (relation : String Global) (detail : Detail) (versions : VersionText) → job ≡ Query arch profiles relation detail versions
+pub refused_words : (job : Job) (arch : String Global) (profiles : Vec (String Global) Global) (relation : String Global) (members : Members) (detail : Detail) (versions : VersionText) → job ≡ Query arch profiles relation members detail versions
     → (target : List ℕ) (items : List (String Global)) (word : List ℕ) → target ≡ string_bytes arch → items ≡ profiles.items → word ≡ string_bytes relation
     → (P : Type 0) → (AreRefused (question target (map string_bytes items) word) → P) → IfRefusedWords job P
-refused_words job arch profiles relation detail versions is target items word target_is items_is word_is P words =
+refused_words job arch profiles relation members detail versions is target items word target_is items_is word_is P words =
     subst (λ (asked : Job). IfRefusedWords asked P) (sym is) (λ bad. words (rw (target_is, items_is, word_is) bad))
 
 -- what is said of the question that words ask about the relation of a file is said of that of the job
@@ -52,38 +55,40 @@ of_words : (P : (List ℕ → Question) → Type 0) (arch : String Global) (prof
 of_words P arch profiles target items target_is items_is p =
     subst (λ w. P (λ relation. question w (map string_bytes profiles.items) relation)) target_is (subst (λ l. P (λ relation. question target (map string_bytes l) relation)) items_is p)
 
-module _ (job : Job) (arch : String Global) (profiles : Vec (String Global) Global) (detail : Detail) (versions : VersionText) (is : job ≡ QueryFrom arch profiles detail versions) (target : List ℕ) (items : List (String Global)) (target_is : target ≡ string_bytes arch) (items_is : items ≡ profiles.items) where
+module _ (job : Job) (arch : String Global) (profiles : Vec (String Global) Global) (members : Members) (detail : Detail) (versions : VersionText) (is : job ≡ QueryFrom arch profiles members detail versions) (target : List ℕ) (items : List (String Global)) (target_is : target ≡ string_bytes arch) (items_is : items ≡ profiles.items) where
   -- what a refused relation leaves
   pub unread_index : (left : Option (List ℕ)) (P : Type 0) → (AreRefusedFrom (λ relation. question target (map string_bytes items) relation) left → P) → IfRefusedRelation job left P
   unread_index left P then =
       subst (λ (asked : Job). IfRefusedRelation asked left P) (sym is) (of_words (λ ask. AreRefusedFrom ask left → P) arch profiles target items target_is items_is then)
 
   -- the answer, and its report
-  pub reported_from : {W E : Type 0} (first second : ReaderOfJob) (out : WriterOfJob W) (err : WriterOfJob E) (status : ℕ) (wanted : QueryOptions) → wanted ≡ query_options detail versions
-      → Ends (from_promise wanted (λ relation. question target (map string_bytes items) relation)) first second out err status → Reported job first second out err status
-  reported_from first second out err status wanted wanted_is reports =
+  pub reported_from : {W E : Type 0} (first second : ReaderOfJob) (out : WriterOfJob W) (err : WriterOfJob E) (status : ℕ) (chosen : IndexMembers) → chosen ≡ index_members members → (wanted : QueryOptions) → wanted ≡ query_options detail versions
+      → Ends (from_promise chosen wanted (λ relation. question target (map string_bytes items) relation)) first second out err status → Reported job first second out err status
+  reported_from first second out err status chosen chosen_is wanted wanted_is reports =
       subst (λ (asked : Job). Reported asked first second out err status) (sym is)
-      (of_words (λ ask. Ends (from_promise (query_options detail versions) ask) first second out err status) arch profiles target items target_is items_is
-      (subst (λ d. Ends (from_promise d (λ relation. question target (map string_bytes items) relation)) first second out err status) wanted_is reports))
+      (of_words (λ ask. Ends (from_promise (index_members members) (query_options detail versions) ask) first second out err status) arch profiles target items target_is items_is
+      (subst (λ d. Ends (from_promise (index_members members) d (λ relation. question target (map string_bytes items) relation)) first second out err status) wanted_is
+      (subst (λ m. Ends (from_promise m wanted (λ relation. question target (map string_bytes items) relation)) first second out err status) chosen_is reports)))
 
 -- what is said of the words of `unmet` is said of those of the job
-of_unmet : (P : Words → Type 0) (arch : String Global) (profiles : Vec (String Global) Global) (dependents : Dependents) (versions : VersionText) (target : List ℕ) (items : List (String Global)) (tried : Dependents) (chosen : VersionText)
-    → target ≡ string_bytes arch → items ≡ profiles.items → tried ≡ dependents → chosen ≡ versions
-    → P (words target (map string_bytes items) tried chosen) → P (words_of_unmet arch profiles dependents versions)
-of_unmet P arch profiles dependents versions target items tried chosen target_is items_is tried_is chosen_is p =
-    subst (λ t. P (words t (map string_bytes profiles.items) dependents versions)) target_is (subst (λ l. P (words target (map string_bytes l) dependents versions)) items_is
-    (subst (λ d. P (words target (map string_bytes items) d versions)) tried_is (subst (λ v. P (words target (map string_bytes items) tried v)) chosen_is p)))
+of_unmet : (P : Words → Type 0) (arch : String Global) (profiles : Vec (String Global) Global) (members : Members) (dependents : Dependents) (versions : VersionText) (target : List ℕ) (items : List (String Global)) (packages : IndexMembers) (tried : Dependents) (chosen : VersionText)
+    → target ≡ string_bytes arch → items ≡ profiles.items → packages ≡ index_members members → tried ≡ dependents → chosen ≡ versions
+    → P (words target (map string_bytes items) packages tried chosen) → P (words_of_unmet arch profiles members dependents versions)
+of_unmet P arch profiles members dependents versions target items packages tried chosen target_is items_is packages_are tried_is chosen_is p =
+    subst (λ t. P (words t (map string_bytes profiles.items) (index_members members) dependents versions)) target_is (subst (λ l. P (words target (map string_bytes l) (index_members members) dependents versions)) items_is
+    (subst (λ m. P (words target (map string_bytes items) m dependents versions)) packages_are
+    (subst (λ d. P (words target (map string_bytes items) packages d versions)) tried_is (subst (λ v. P (words target (map string_bytes items) packages tried v)) chosen_is p))))
 
-module _ (job : Job) (arch : String Global) (profiles : Vec (String Global) Global) (dependents : Dependents) (versions : VersionText) (is : job ≡ Unmet arch profiles dependents versions) (target : List ℕ) (items : List (String Global)) (tried : Dependents) (chosen : VersionText)
-    (target_is : target ≡ string_bytes arch) (items_is : items ≡ profiles.items) (tried_is : tried ≡ dependents) (chosen_is : chosen ≡ versions) where
+module _ (job : Job) (arch : String Global) (profiles : Vec (String Global) Global) (members : Members) (dependents : Dependents) (versions : VersionText) (is : job ≡ Unmet arch profiles members dependents versions) (target : List ℕ) (items : List (String Global)) (packages : IndexMembers) (tried : Dependents) (chosen : VersionText)
+    (target_is : target ≡ string_bytes arch) (items_is : items ≡ profiles.items) (packages_are : packages ≡ index_members members) (tried_is : tried ≡ dependents) (chosen_is : chosen ≡ versions) where
   -- what refused words leave, and what a refused index does
-  pub unmet_unread_index : (P : Type 0) → (IsFalse (has_environment (words target (map string_bytes items) tried chosen)) → P) → IfRefusedWords job P
+  pub unmet_unread_index : (P : Type 0) → (IsFalse (has_environment (words target (map string_bytes items) packages tried chosen)) → P) → IfRefusedWords job P
   unmet_unread_index P then =
-      subst (λ (asked : Job). IfRefusedWords asked P) (sym is) (of_unmet (λ w. IsFalse (has_environment w) → P) arch profiles dependents versions target items tried chosen target_is items_is tried_is chosen_is then)
+      subst (λ (asked : Job). IfRefusedWords asked P) (sym is) (of_unmet (λ w. IsFalse (has_environment w) → P) arch profiles members dependents versions target items packages tried chosen target_is items_is packages_are tried_is chosen_is then)
 
-  pub unmet_unread_file : (left : Option (List ℕ)) (P : Type 0) → (AreRefusedBefore (words target (map string_bytes items) tried chosen) left → P) → IfRefusedRelation job left P
+  pub unmet_unread_file : (left : Option (List ℕ)) (P : Type 0) → (AreRefusedBefore (words target (map string_bytes items) packages tried chosen) left → P) → IfRefusedRelation job left P
   unmet_unread_file left P then =
-      subst (λ (asked : Job). IfRefusedRelation asked left P) (sym is) (of_unmet (λ w. AreRefusedBefore w left → P) arch profiles dependents versions target items tried chosen target_is items_is tried_is chosen_is then)
+      subst (λ (asked : Job). IfRefusedRelation asked left P) (sym is) (of_unmet (λ w. AreRefusedBefore w left → P) arch profiles members dependents versions target items packages tried chosen target_is items_is packages_are tried_is chosen_is then)
 
   -- the index in itself leaves the second file
   pub unmet_unread_second : (P : Type 0) → (IsTrue (is_index tried) → P) → IfSecondUnread job P
@@ -91,7 +96,7 @@ module _ (job : Job) (arch : String Global) (profiles : Vec (String Global) Glob
 
   -- the answer, and its report
   pub unmet_reported : {W E : Type 0} (first second : ReaderOfJob) (out : WriterOfJob W) (err : WriterOfJob E) (status : ℕ)
-      → Ends (unmet_promise (words target (map string_bytes items) tried chosen)) first second out err status → Reported job first second out err status
+      → Ends (unmet_promise (words target (map string_bytes items) packages tried chosen)) first second out err status → Reported job first second out err status
   unmet_reported first second out err status reports =
       subst (λ (asked : Job). Reported asked first second out err status) (sym is)
-      (of_unmet (λ w. Ends (unmet_promise w) first second out err status) arch profiles dependents versions target items tried chosen target_is items_is tried_is chosen_is reports)
+      (of_unmet (λ w. Ends (unmet_promise w) first second out err status) arch profiles members dependents versions target items packages tried chosen target_is items_is packages_are tried_is chosen_is reports)

@@ -5,6 +5,7 @@ use Rattle.deb_base.specs.Bodies.{paragraph_limit, file_limit}
 use Rattle.deb_base.specs.Lines.{fault_line}
 use Rattle.deb_base.specs.Reading.{ReadsEnough, TakesNoMore}
 use Rattle.deb_base.specs.declared.fault.Fault.{Fault}
+use Rattle.deb_index.specs.declared.members.Members.{Members}
 use Rattle.deb_index.specs.Questions.{Question}
 use Rattle.debctl_commands.specs.JobDevices.{ReaderOfJob, WriterOfJob}
 use Rattle.debctl_commands.specs.Promises.{Ends, plain, yes_or_no}
@@ -51,14 +52,14 @@ words_of_read ask left relation word read is bad = go bad.2
     go (inr refused) = subst (λ t. AreRefused (ask t)) (same ∙ sym is) refused
 
 -- the query of the relation that was read has an answer, which is that of the job
-pub read_ends : {W E : Type 0} (options : QueryOptions) (ask : List ℕ → Question) (first second : ReaderOfJob) (out : WriterOfJob W) (err : WriterOfJob E) (relation word : List ℕ) → IsRead first.text relation → word ≡ relation → first.failures_after ≡ first.failures
-    → (status : ℕ) → Ends (plain yes_or_no (λ none second out. QueriesFile options (ask word) second.text second.failures second.failures_after out.held out.failures out.old out.new)) first second out err status → Ends (from_promise options ask) first second out err status
-read_ends {W} options ask first second out err relation word read is unfailed status (answer, says, reported) = go answer (subst (λ r. QueriesFile options (ask r) second.text second.failures second.failures_after out.held out.failures out.old out.new answer) is says) reported
+pub read_ends : {W E : Type 0} (members : Members) (options : QueryOptions) (ask : List ℕ → Question) (first second : ReaderOfJob) (out : WriterOfJob W) (err : WriterOfJob E) (relation word : List ℕ) → IsRead first.text relation → word ≡ relation → first.failures_after ≡ first.failures
+    → (status : ℕ) → Ends (plain yes_or_no (λ none second out. QueriesFile members options (ask word) second.text second.failures second.failures_after out.held out.failures out.old out.new)) first second out err status → Ends (from_promise members options ask) first second out err status
+read_ends {W} members options ask first second out err relation word read is unfailed status (answer, says, reported) = go answer (subst (λ r. QueriesFile members options (ask r) second.text second.failures second.failures_after out.held out.failures out.old out.new answer) is says) reported
   where
-    queried : (answer : Result Bool Fault) → QueriesFile options (ask relation) second.text second.failures second.failures_after out.held out.failures out.old out.new answer → QueriesRead options ask first second out (at_second answer)
+    queried : (answer : Result Bool Fault) → QueriesFile members options (ask relation) second.text second.failures second.failures_after out.held out.failures out.old out.new answer → QueriesRead members options ask first second out (at_second answer)
     queried answer says = record { relation = relation; read = read; unfailed = unfailed; queried = answer; is = refl; queries = says }
 
-    go : (answer : Result Bool Fault) → QueriesFile options (ask relation) second.text second.failures second.failures_after out.held out.failures out.old out.new answer
-        → ReportsBy yes_or_no (λ (fault : Fault). fault) fault_line err.held err.failures err.old err.new answer status → Ends (from_promise {W = W} options ask) first second out err status
+    go : (answer : Result Bool Fault) → QueriesFile members options (ask relation) second.text second.failures second.failures_after out.held out.failures out.old out.new answer
+        → ReportsBy yes_or_no (λ (fault : Fault). fault) fault_line err.held err.failures err.old err.new answer status → Ends (from_promise {W = W} members options ask) first second out err status
     go (Ok met) says reported = (Ok met, inl (queried (Ok met) says), reported)
     go (Err fault) says reported = (at_second (Err fault), inl (queried (Err fault) says), reported)

@@ -11,16 +11,21 @@ use Rattle.deb_control.specs.declared.side.Side.{Side}
 use Rattle.deb_control.specs.declared.side.Side.TheVariants.{First, Second}
 use Rattle.deb_control.proofs.ComparedSoFar.{none_refused}
 use Rattle.deb_index.specs.Listed.{Listed}
-use Rattle.deb_index.specs.Listing.{ListsAll}
+use Rattle.deb_index.specs.Members.{ListsMembers, doc_of}
+use Rattle.deb_index.specs.declared.members.Members.{Members}
+use Rattle.deb_index.specs.declared.members.Members.TheVariants.{All, Installed}
 use Rattle.deb_unmet.specs.declared.asking.Summary.{Summary}
 use Rattle.debctl_commands.specs.JobDevices.{ReaderOfJob, WriterOfJob}
 use Rattle.debctl_commands.specs.Promises.{Ends}
 use Rattle.debctl_commands.specs.UnmetJob.{ReportsTried, Words, at_side, unmet_promise}
 
 -- an index that was read isn't refused
-pub no_index : (text : List ℕ) (packages : List Listed) (refusal : Refusal) → ListsAll text packages → refusal_of docs.Packages text ≡ Some refusal → ⊥
-no_index text packages refusal lists refused =
+pub no_index : (members : Members) (text : List ℕ) (packages : List Listed) (refusal : Refusal) → ListsMembers members text packages → refusal_of (doc_of members) text ≡ Some refusal → ⊥
+no_index All text packages refusal lists refused =
     let none = none_refused docs.Packages text (length lists.meaning) (record { meaning = lists.meaning; accepted = lists.accepted; count = refl }) in
+    let bad : ⊥ = cc in bad
+no_index Installed text packages refusal lists refused =
+    let none = none_refused docs.Status text (length lists.meaning) (record { meaning = lists.meaning; accepted = lists.accepted; count = refl }) in
     let bad : ⊥ = cc in bad
 
 module _ {E : Type 0} (err : WriterOfJob E) (side : Side) (status n n_after : ℕ) (rose : n < n_after) where

@@ -6,6 +6,7 @@ use Rattle.deb_base.specs.declared.fault.Fault.{Fault}
 use Rattle.deb_relation.specs.Environments.{environment_with}
 use Rattle.deb_relation.specs.Targets.{is_environment}
 use Rattle.deb_index.specs.Questions.{bad_environment}
+use Rattle.deb_index.specs.declared.members.Members.{Members}
 use Rattle.deb_unmet.specs.declared.asking.Summary.{Summary}
 use Rattle.deb_health.specs.Health.{asks_healthy}
 use Rattle.debctl_args.specs.declared.jobs.Strength.{Strength}
@@ -30,21 +31,22 @@ pub record FailsAtTarget {W : Type 0} (target : List ℕ) (first : ReaderOfJob)
   pub unwritten : out.new ≡ out.old
 
 -- What the job answers about the set of a file.
-abbrev pub AsksSet : {W : Type 0} → List ℕ → Strength → ReaderOfJob → WriterOfJob W
+abbrev pub AsksSet : {W : Type 0} → List ℕ → Members → Strength → ReaderOfJob → WriterOfJob W
     → Result Summary Fault → Type 0
-AsksSet target strength first out answer =
+AsksSet target members strength first out answer =
     FailsAtTarget target first out answer
     ⊎ (IsTrue (is_architecture target)
-    × AsksOwn (asks_healthy (fields_tried strength) (environment_with target [])) first.text
-    first.failures first.failures_after out.held out.failures out.old out.new answer)
+    × AsksOwn (asks_healthy members (fields_tried strength) (environment_with target []))
+    first.text first.failures first.failures_after out.held out.failures out.old out.new answer)
 
 abbrev pub health_report : Summary → Report
 health_report summary = yes_or_no summary.is_empty
 
 -- What the job promises of these words.
-abbrev pub health_promise : {W : Type 0} → List ℕ → Strength → Promise W
-health_promise target strength =
-    plain health_report (λ first second out answer. AsksSet target strength first out answer)
+abbrev pub health_promise : {W : Type 0} → List ℕ → Members → Strength → Promise W
+health_promise target members strength =
+    plain health_report
+    (λ first second out answer. AsksSet target members strength first out answer)
 
 -- no line is status 0, and a line is 1
 reports_of_sets : (health_report (record { paragraphs = 2; is_empty = true }) ≡ by_status 0)

@@ -32,6 +32,8 @@ use Rattle.debctl_commands.specs.QueryJob.{AreRefused}
 use Rattle.debctl_commands.specs.Reporting.{by_line, by_status}
 use Rattle.debctl_commands.specs.Running.{IfCompare, IfRefusedRelation, IfRefusedWords, IfSecondUnread}
 use Rattle.debctl_commands.specs.Running.{IfUnread, promise_of}
+use Rattle.deb_index.specs.declared.members.Members.TheVariants.{Installed}
+use Rattle.debctl_args.specs.declared.jobs.Members.TheVariants as members
 use Rattle.debctl_commands.specs.UnmetJob.{AreRefusedBefore, of_words, words}
 use Rattle.debctl_commands.specs.Verdicts.{demand, verdict_line}
 use Rattle.debctl_commands.specs.declared.verdict.Verdict.TheVariants.{NoNewline, Whole}
@@ -51,16 +53,16 @@ abbrev compare : Job
 compare = job.Compare one cmps.Less other
 
 abbrev query : Job
-query = job.Query one names other Verdicts Spelled
+query = job.Query one names other members.Installed Verdicts Spelled
 
 abbrev query_from : Job
-query_from = job.QueryFrom one names Reasons Canonical
+query_from = job.QueryFrom one names members.All Reasons Canonical
 
 abbrev diff : Job
 diff = job.Diff diff_kinds.Source diff_details.Fields Spelled
 
 abbrev unmet : Dependents → Job
-unmet given = job.Unmet one names given Spelled
+unmet given = job.Unmet one names members.Installed given Spelled
 
 -- ---- promises
 
@@ -131,8 +133,8 @@ unread_by_words : (IfRefusedWords query ℕ
     ≡ (AreRefusedFrom (question (codes "amd64") (codes "b-" ∷ codes "amd64" ∷ [])) None → ℕ))
     × (IfRefusedRelation diff None ℕ ≡ (IsRefusedOld diff_kinds.Source None → ℕ))
     × (IfRefusedRelation (unmet dependents.Source) None ℕ
-    ≡ (AreRefusedBefore (words (codes "amd64") (codes "b-" ∷ codes "amd64" ∷ []) dependents.Source
-    Spelled) None → ℕ))
+    ≡ (AreRefusedBefore (words (codes "amd64") (codes "b-" ∷ codes "amd64" ∷ []) Installed
+    dependents.Source Spelled) None → ℕ))
 unfolding one other
 unread_by_words = (refl, refl, refl, refl, refl)
 

@@ -15,6 +15,7 @@ use Rattle.deb_base.specs.declared.refusal.Refusal.{Refusal}
 use Rattle.deb_control.specs.declared.side.Side.TheVariants.{First, Second}
 use Rattle.deb_control.specs.declared.side.SideFault.{SideFault}
 use Rattle.deb_index.specs.Questions.{Question}
+use Rattle.deb_index.specs.declared.members.Members.{Members}
 use Rattle.debctl_commands.specs.JobDevices.{ReaderOfJob, WriterOfJob}
 use Rattle.debctl_commands.specs.Promises.{Promise, yes_or_no}
 use Rattle.debctl_commands.specs.QueryJob.{AreRefused, QueriesFile}
@@ -55,15 +56,15 @@ at_second (Ok answer) = Ok answer
 at_second (Err fault) = Err (record { side = Second; fault = fault })
 
 -- A relation was read, and the query of it has this answer.
-pub record QueriesRead {W : Type 0} (options : QueryOptions) (ask : List ℕ → Question)
-    (first second : ReaderOfJob) (out : WriterOfJob W) (answer : Result Bool SideFault)
+pub record QueriesRead {W : Type 0} (members : Members) (options : QueryOptions)
+    (ask : List ℕ → Question) (first second : ReaderOfJob) (out : WriterOfJob W) (answer : Result Bool SideFault)
     : Type 0 where
   pub relation : List ℕ
   pub read : IsRead first.text relation
   pub unfailed : first.failures_after ≡ first.failures
   pub queried : Result Bool Fault
   pub is : answer ≡ at_second queried
-  pub queries : QueriesFile options (ask relation) second.text second.failures
+  pub queries : QueriesFile members options (ask relation) second.text second.failures
       second.failures_after out.held out.failures out.old out.new queried
 
 -- No relation was read, since the file is too long, memory was refused or a read failed. The index
@@ -78,8 +79,8 @@ pub record LeavesUnread {W : Type 0} (first second : ReaderOfJob) (out : WriterO
   pub unwritten : out.new ≡ out.old
 
 -- What the job promises: its faults are reported without a side.
-abbrev pub from_promise : {W : Type 0} → QueryOptions → (List ℕ → Question) → Promise W
-from_promise {W} options ask =
+abbrev pub from_promise : {W : Type 0} → Members → QueryOptions → (List ℕ → Question) → Promise W
+from_promise {W} members options ask =
     record {
       Answer = Bool;
       Failure = SideFault;
@@ -87,7 +88,8 @@ from_promise {W} options ask =
       fault = λ told. told.fault;
       line = λ told. fault_line told.fault;
       Says = λ first second out answer.
-          QueriesRead options ask first second out answer ⊎ LeavesUnread first second out answer;
+          QueriesRead members options ask first second out answer
+          ⊎ LeavesUnread first second out answer;
     }
 
 line_of_long_relation : refusal_line long_relation ≡ codes "line 0: 8 ParagraphTooLong\n"

@@ -28,9 +28,13 @@ use Rattle.deb_index.specs.Questions.{bad_environment, bad_relation, environment
 use Rattle.deb_index.specs.Questions.{has_environment, question, wildcard}
 use Rattle.deb_index.specs.Reports.{Answer, all_met, report}
 use Rattle.deb_index.specs.ReportText.{VersionShown, report_text_by, version_shown}
-use Rattle.deb_index.specs.VersionSpellings.{version_spellings}
+use Rattle.deb_index.specs.Members.{member_spellings}
+use Rattle.deb_index.specs.declared.members.Members.{Members}
+use Rattle.deb_index.specs.declared.members.Members.TheVariants.{All, Installed}
 use Rattle.deb_index.specs.Why.{detailed_report_by, detailed_text_by}
 use Rattle.debctl_args.specs.declared.jobs.Detail.{Detail}
+use Rattle.debctl_args.specs.declared.jobs.Members.{Members as Asked}
+use Rattle.debctl_args.specs.declared.jobs.Members.TheVariants as asked
 use Rattle.debctl_args.specs.declared.jobs.Detail.TheVariants.{Reasons, Verdicts}
 use Rattle.debctl_commands.specs.DocumentJobs.{IfNotWritten}
 use Rattle.debctl_commands.specs.declared.query_job.QueryOptions.{QueryOptions}
@@ -56,6 +60,11 @@ IsQueryRefusal q refusal =
 
 -- ---- the answer
 
+-- which packages of its file an index has
+abbrev pub index_members : Asked → Members
+index_members asked.All = All
+index_members asked.Installed = Installed
+
 abbrev pub query_options : Detail → VersionText → QueryOptions
 query_options detail versions = record { detail = detail; versions = versions }
 
@@ -76,31 +85,31 @@ options_text options spellings packages relation environment =
 
 -- Exactly the report was written, and the answer is whether no group is unmet; or a prefix of it
 -- was, before a write failed.
-pub record WritesReport (options : QueryOptions) (q : Question) (text : List ℕ)
+pub record WritesReport (members : Members) (options : QueryOptions) (q : Question) (text : List ℕ)
     (old new : Option (List ℕ)) (met : Bool) : Type 0 where
   pub answers : List Answer
-  pub reported : IsReported q text answers
+  pub reported : IsReported members q text answers
   pub met_is : met ≡ all_met answers
-  pub written : Appends old new (options_text options (version_spellings text)
+  pub written : Appends old new (options_text options (member_spellings members text)
       reported.packages reported.good.relation (environment_in q))
 
-pub record WritesFrontOfReport (options : QueryOptions) (q : Question) (text : List ℕ)
-    (old new : Option (List ℕ)) : Type 0 where
+pub record WritesFrontOfReport (members : Members) (options : QueryOptions) (q : Question)
+    (text : List ℕ) (old new : Option (List ℕ)) : Type 0 where
   pub answers : List Answer
-  pub reported : IsReported q text answers
-  pub written : AppendsFront old new (options_text options (version_spellings text)
+  pub reported : IsReported members q text answers
+  pub written : AppendsFront old new (options_text options (member_spellings members text)
       reported.packages reported.good.relation (environment_in q))
 
 -- The answer to `query`, and what it wrote: by the reader's text, its count of failed calls before
 -- and after, and the writer before and after.
-pub record QueriesFile {W : Type 0} (options : QueryOptions) (q : Question) (left : Option (List ℕ))
-    (count count_after : ℕ) (held : W → Option (List ℕ)) (failures : W → ℕ) (old new : W)
-    (answer : Result Bool Fault) : Type 0 where
+pub record QueriesFile {W : Type 0} (members : Members) (options : QueryOptions) (q : Question)
+    (left : Option (List ℕ)) (count count_after : ℕ) (held : W → Option (List ℕ))
+    (failures : W → ℕ) (old new : W) (answer : Result Bool Fault) : Type 0 where
   pub ok : (text : List ℕ) → left ≡ Some text →
-      IfOk answer (WritesReport options q text (held old) (held new))
-  pub refused : (text : List ℕ) → left ≡ Some text → IfRefused answer (RefusesQuery q text)
+      IfOk answer (WritesReport members options q text (held old) (held new))
+  pub refused : (text : List ℕ) → left ≡ Some text → IfRefused answer (RefusesQuery members q text)
   pub write : (text : List ℕ) → left ≡ Some text →
-      IfWriteFailed answer (WritesFrontOfReport options q text (held old) (held new))
+      IfWriteFailed answer (WritesFrontOfReport members options q text (held old) (held new))
   pub refusal : IfRefused answer (IsQueryRefusal q)
   pub unwritten : IfNotWritten answer (new ≡ old)
   pub reads : count_after ≡ read_failures_after count answer
@@ -162,6 +171,9 @@ texts_of_queries : (written Verdicts Canonical ≡ codes "unmet aa\nmet ww\n 1 w
     ≡ codes "unmet aa\n aa: no package has this name\nmet ww\n 1 ww 0:1.0 all\n")
 unfolding digits group_text
 texts_of_queries = (refl, refl, refl)
+
+members_of_indexes : map index_members (asked.All ∷ asked.Installed ∷ []) ≡ All ∷ Installed ∷ []
+members_of_indexes = refl
 
 -- the arguments that the code holds are those of the question
 question_of_arguments : (given : QueryWords) (relation : List ℕ) (one other : String Global)

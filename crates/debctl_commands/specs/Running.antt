@@ -17,7 +17,7 @@ use Rattle.debctl_commands.specs.KeyJob.{Keys}
 use Rattle.debctl_commands.specs.Promises.{Answers, Ends, HasStatus, Promise, Refuses, Saying}
 use Rattle.debctl_commands.specs.Promises.{done, plain, sided, yes_or_no}
 use Rattle.debctl_commands.specs.QueryFrom.{AreRefusedFrom, from_promise}
-use Rattle.debctl_commands.specs.QueryJob.{AreRefused, QueriesFile, query_options}
+use Rattle.debctl_commands.specs.QueryJob.{AreRefused, QueriesFile, index_members, query_options}
 use Rattle.debctl_commands.specs.Reporting.{by_status}
 use Rattle.debctl_commands.specs.SameJob.{ComparesFiles}
 use Rattle.debctl_commands.specs.UnmetJob.{AreRefusedBefore, Words, has_environment, is_index}
@@ -25,6 +25,7 @@ use Rattle.debctl_commands.specs.UnmetJob.{unmet_promise, words}
 use Rattle.debctl_commands.specs.VersionJobs.{Canonicalises, Compares}
 use Rattle.debctl_commands.specs.WholeJob.{ChecksWhole, verdict_report}
 use Rattle.debctl_args.specs.declared.jobs.Dependents.{Dependents}
+use Rattle.debctl_args.specs.declared.jobs.Members.{Members}
 use Rattle.debctl_args.specs.declared.jobs.Job.{Job}
 use Rattle.debctl_args.specs.declared.jobs.Job.TheVariants.{Check, CheckAll, CheckWhole, Normalise, Same, Diff}
 use Rattle.debctl_args.specs.declared.jobs.Job.TheVariants.{Compare, CanonVersion, Sort, Query, QueryFrom}
@@ -41,10 +42,11 @@ asked_of_file arch profiles relation =
     question (string_bytes arch) (map string_bytes profiles.items) relation
 
 -- the words of `unmet`
-abbrev pub words_of_unmet : String Global → Vec (String Global) Global → Dependents → VersionText
-    → Words
-words_of_unmet arch profiles dependents versions =
-    words (string_bytes arch) (map string_bytes profiles.items) dependents versions
+abbrev pub words_of_unmet : String Global → Vec (String Global) Global → Members → Dependents
+    → VersionText → Words
+words_of_unmet arch profiles members dependents versions =
+    words (string_bytes arch) (map string_bytes profiles.items) (index_members members) dependents
+    versions
 
 -- ---- promises
 
@@ -76,13 +78,16 @@ promise_of (CanonVersion version) =
 promise_of (VersionKey versions) =
     plain {T = ⊤} done (of_words (Keys (map string_bytes versions.items)))
 promise_of (Sort reverse) = plain {T = ⊤} done (of_file (SortsFile reverse))
-promise_of (Query arch profiles relation detail versions) = plain yes_or_no
-    (of_file (QueriesFile (query_options detail versions) (asked arch profiles relation)))
-promise_of (QueryFrom arch profiles detail versions) =
-    from_promise (query_options detail versions) (asked_of_file arch profiles)
-promise_of (Unmet arch profiles dependents versions) =
-    unmet_promise (words_of_unmet arch profiles dependents versions)
-promise_of (Healthy arch strength) = health_promise (string_bytes arch) strength
+promise_of (Query arch profiles relation members detail versions) = plain yes_or_no
+    (of_file (QueriesFile (index_members members) (query_options detail versions)
+    (asked arch profiles relation)))
+promise_of (QueryFrom arch profiles members detail versions) =
+    from_promise (index_members members) (query_options detail versions)
+    (asked_of_file arch profiles)
+promise_of (Unmet arch profiles members dependents versions) =
+    unmet_promise (words_of_unmet arch profiles members dependents versions)
+promise_of (Healthy arch members strength) =
+    health_promise (string_bytes arch) (index_members members) strength
 
 -- ---- what each status says
 
@@ -122,8 +127,8 @@ IfUnread _ P = Unit {0}
 -- The lines of the job are asked in some detail.
 abbrev pub HasDetail : Job → Type 0
 HasDetail (Diff kind detail versions) = Unit {0}
-HasDetail (Query arch profiles relation detail versions) = Unit {0}
-HasDetail (QueryFrom arch profiles detail versions) = Unit {0}
+HasDetail (Query arch profiles relation members detail versions) = Unit {0}
+HasDetail (QueryFrom arch profiles members detail versions) = Unit {0}
 HasDetail _ = ⊥
 
 -- Comparing two versions takes no memory.
@@ -136,26 +141,28 @@ IfCompare _ P = Unit {0}
 abbrev pub IfSecondUnread : Job → Type 0 → Type 0
 IfSecondUnread (Same doc) P = Unit {0}
 IfSecondUnread (Diff kind detail versions) P = Unit {0}
-IfSecondUnread (QueryFrom arch profiles detail versions) P = Unit {0}
-IfSecondUnread (Unmet arch profiles dependents versions) P = IsTrue (is_index dependents) → P
+IfSecondUnread (QueryFrom arch profiles members detail versions) P = Unit {0}
+IfSecondUnread (Unmet arch profiles members dependents versions) P =
+    IsTrue (is_index dependents) → P
 IfSecondUnread _ P = P
 
 -- A query, `unmet` or `healthy` whose words are refused leaves the first reader as it was.
 abbrev pub IfRefusedWords : Job → Type 0 → Type 0
-IfRefusedWords (Query arch profiles relation detail versions) P =
+IfRefusedWords (Query arch profiles relation members detail versions) P =
     AreRefused (asked arch profiles relation) → P
-IfRefusedWords (Unmet arch profiles dependents versions) P =
-    IsFalse (has_environment (words_of_unmet arch profiles dependents versions)) → P
-IfRefusedWords (Healthy arch strength) P = IsFalse (is_architecture (string_bytes arch)) → P
+IfRefusedWords (Unmet arch profiles members dependents versions) P =
+    IsFalse (has_environment (words_of_unmet arch profiles members dependents versions)) → P
+IfRefusedWords (Healthy arch members strength) P =
+    IsFalse (is_architecture (string_bytes arch)) → P
 IfRefusedWords _ P = Unit {0}
 
 -- A query whose relation is that of a file leaves the second reader, which is that of the index, as
 -- it was, if the words with that relation are refused; `unmet`, if its words or the index are; and
 -- `diff`, if the old file is.
 abbrev pub IfRefusedRelation : Job → Option (List ℕ) → Type 0 → Type 0
-IfRefusedRelation (QueryFrom arch profiles detail versions) left P =
+IfRefusedRelation (QueryFrom arch profiles members detail versions) left P =
     AreRefusedFrom (asked_of_file arch profiles) left → P
-IfRefusedRelation (Unmet arch profiles dependents versions) left P =
-    AreRefusedBefore (words_of_unmet arch profiles dependents versions) left → P
+IfRefusedRelation (Unmet arch profiles members dependents versions) left P =
+    AreRefusedBefore (words_of_unmet arch profiles members dependents versions) left → P
 IfRefusedRelation (Diff kind detail versions) left P = IsRefusedOld kind left → P
 IfRefusedRelation _ left P = Unit {0}

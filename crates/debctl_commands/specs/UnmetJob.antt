@@ -10,7 +10,6 @@ use Rattle.std.specs.Prelude.{codes, refl}
 use Rattle.deb_base.specs.Devices.{read_failures_after, write_failures_after}
 use Rattle.deb_base.specs.Faults.{IsReadersFault, RefusedOrMemory}
 use Rattle.deb_base.specs.Lines.{fault_line}
-use Rattle.deb_base.specs.declared.doc.Doc.TheVariants as docs
 use Rattle.deb_base.specs.declared.fault.Fault.{Fault}
 use Rattle.deb_base.specs.declared.fault.Fault.TheVariants.{Refused, Read, Write}
 use Rattle.deb_base.specs.declared.refusal.Refusal.{Refusal}
@@ -26,7 +25,9 @@ use Rattle.deb_control.specs.declared.side.Side.{Side}
 use Rattle.deb_control.specs.declared.side.Side.TheVariants.{First, Second}
 use Rattle.deb_control.specs.declared.side.SideFault.{SideFault}
 use Rattle.deb_index.specs.Listed.{Listed}
-use Rattle.deb_index.specs.Listing.{ListsAll}
+use Rattle.deb_index.specs.Members.{ListsMembers, doc_of}
+use Rattle.deb_index.specs.declared.members.Members.{Members}
+use Rattle.deb_index.specs.declared.members.Members.TheVariants.{Installed}
 use Rattle.deb_index.specs.Questions.{bad_environment}
 use Rattle.deb_unmet.specs.Asked.{request_for}
 use Rattle.deb_unmet.specs.Asking.{asks_of}
@@ -51,19 +52,21 @@ use Rattle.debctl_commands.specs.SameJob.{side_line}
 
 -- ---- the arguments
 
--- a target architecture, the profiles that are active, the file whose groups are tried, and which
--- text of versions its lines have
+-- a target architecture, the profiles that are active, which packages of its file the index has,
+-- the file whose groups are tried, and which text of versions its lines have
 pub record Words : Type 0 where
   pub target : List ℕ
   pub profiles : List (List ℕ)
+  pub members : Members
   pub dependents : Dependents
   pub versions : VersionText
 
-abbrev pub words : List ℕ → List (List ℕ) → Dependents → VersionText → Words
-words target profiles dependents versions =
+abbrev pub words : List ℕ → List (List ℕ) → Members → Dependents → VersionText → Words
+words target profiles members dependents versions =
     record {
       target = target;
       profiles = profiles;
+      members = members;
       dependents = dependents;
       versions = versions;
     }
@@ -102,7 +105,8 @@ environment_in w = environment_with w.target w.profiles
 -- the arguments that the code holds
 abbrev pub words_of : UnmetWords → Words
 words_of given =
-    words given.target.now (map string_bytes given.profiles.now) given.dependents given.versions
+    words given.target.now (map string_bytes given.profiles.now) given.members given.dependents
+    given.versions
 
 -- ---- the answer
 
@@ -130,7 +134,7 @@ pub record AsksOwn {W : Type 0} (own : OwnAsks) (left : Option (List ℕ)) (coun
   pub ok : (text : List ℕ) → left ≡ Some text →
       IfOk answer (λ summary. WritesOwn own text summary (held old) (held new))
   pub refused : (text : List ℕ) → left ≡ Some text →
-      IfRefused answer (λ refusal. refusal_of docs.Packages text ≡ Some refusal)
+      IfRefused answer (λ refusal. refusal_of (doc_of own.members) text ≡ Some refusal)
   pub stopped : (text : List ℕ) → left ≡ Some text →
       IfErr answer (λ fault. StopsOwn fault own text (held old) (held new))
   pub unwritten : IfRefused answer (λ _. new ≡ old)
@@ -141,13 +145,13 @@ pub record AsksOwn {W : Type 0} (own : OwnAsks) (left : Option (List ℕ)) (coun
 -- ---- refusals
 
 -- The index is refused, and the environment or the index is.
-abbrev pub IsRefusedIndex : Option (List ℕ) → Type 0
-IsRefusedIndex left =
+abbrev pub IsRefusedIndex : Members → Option (List ℕ) → Type 0
+IsRefusedIndex members left =
     (index : List ℕ) × (refusal : Refusal) × (left ≡ Some index)
-    × (refusal_of docs.Packages index ≡ Some refusal)
+    × (refusal_of (doc_of members) index ≡ Some refusal)
 
 abbrev pub AreRefusedBefore : Words → Option (List ℕ) → Type 0
-AreRefusedBefore w left = IsFalse (has_environment w) ⊎ IsRefusedIndex left
+AreRefusedBefore w left = IsFalse (has_environment w) ⊎ IsRefusedIndex w.members left
 
 -- ---- reporting
 
@@ -191,24 +195,25 @@ pub record FailsAtWords {W : Type 0} (w : Words) (first second : ReaderOfJob)
 
 -- The index is refused, can't be read or takes too much memory: the second file wasn't read, and
 -- nothing was written to `out`.
-pub record FailsAtIndex {W : Type 0} (first second : ReaderOfJob) (out : WriterOfJob W)
-    (answer : Result Summary Failure) : Type 0 where
+pub record FailsAtIndex {W : Type 0} (members : Members) (first second : ReaderOfJob)
+    (out : WriterOfJob W) (answer : Result Summary Failure) : Type 0 where
   pub fault : Fault
   pub is : answer ≡ at_side First (Err fault)
   pub fault_is : IsReadersFault fault IsRefusalOfDocument
   pub refused : (text : List ℕ) → first.text ≡ Some text →
-      IfRefused {T = ⊤} (Err fault) (λ refusal. refusal_of docs.Packages text ≡ Some refusal)
+      IfRefused {T = ⊤} (Err fault) (λ refusal. refusal_of (doc_of members) text ≡ Some refusal)
   pub counted : first.failures_after ≡ read_failures_after {T = ⊤} first.failures (Err fault)
   pub second_untouched : second.failures_after ≡ second.failures
   pub unwritten : out.new ≡ out.old
 
 -- The index was read, and the second file has an answer over its packages.
-pub record AsksOver {W : Type 0} (dependents : Dependents) (versions : VersionText)
-    (environment : Environment) (first second : ReaderOfJob) (out : WriterOfJob W)
-    (answer : Result Summary Failure) : Type 0
+pub record AsksOver {W : Type 0} (members : Members) (dependents : Dependents)
+    (versions : VersionText) (environment : Environment) (first second : ReaderOfJob)
+    (out : WriterOfJob W) (answer : Result Summary Failure) : Type 0
   where
     pub packages : List Listed
-    pub lists : (text : List ℕ) → first.text ≡ Some text → ListsAll text packages
+    pub lists : (text : List ℕ) → first.text ≡ Some text
+        → ListsMembers members text packages
     pub unfailed : first.failures_after ≡ first.failures
     pub tried : Result Summary Fault
     pub is : answer ≡ at_side Second tried
@@ -217,30 +222,30 @@ pub record AsksOver {W : Type 0} (dependents : Dependents) (versions : VersionTe
         tried
 
 -- The file is the index, which in itself has an answer: no second file was read.
-pub record AsksInItself {W : Type 0} (dependents : Dependents) (versions : VersionText)
-    (environment : Environment) (first second : ReaderOfJob) (out : WriterOfJob W)
-    (answer : Result Summary Failure) : Type 0
+pub record AsksInItself {W : Type 0} (members : Members) (dependents : Dependents)
+    (versions : VersionText) (environment : Environment) (first second : ReaderOfJob)
+    (out : WriterOfJob W) (answer : Result Summary Failure) : Type 0
   where
     pub strength : Strength
     pub is_index : dependents ≡ Index strength
     pub second_untouched : second.failures_after ≡ second.failures
     pub tried : Result Summary Fault
     pub is : answer ≡ at_side First tried
-    pub in_itself : AsksOwn (asks_own (fields_tried strength) versions environment) first.text
-        first.failures first.failures_after out.held out.failures out.old out.new tried
+    pub in_itself : AsksOwn (asks_own members (fields_tried strength) versions environment)
+        first.text first.failures first.failures_after out.held out.failures out.old out.new tried
 
-abbrev pub AsksBeside : {W : Type 0} → Dependents → VersionText → Environment
+abbrev pub AsksBeside : {W : Type 0} → Members → Dependents → VersionText → Environment
     → Saying W Summary Failure
-AsksBeside dependents versions environment first second out answer =
-    FailsAtIndex first second out answer
-    ⊎ AsksOver dependents versions environment first second out answer
+AsksBeside members dependents versions environment first second out answer =
+    FailsAtIndex members first second out answer
+    ⊎ AsksOver members dependents versions environment first second out answer
 
-abbrev pub AsksIn : {W : Type 0} → Dependents → VersionText → Environment
+abbrev pub AsksIn : {W : Type 0} → Members → Dependents → VersionText → Environment
     → Saying W Summary Failure
-AsksIn dependents versions environment first second out answer =
-    AsksInItself dependents versions environment first second out answer
+AsksIn members dependents versions environment first second out answer =
+    AsksInItself members dependents versions environment first second out answer
     ⊎ (IsFalse (is_index dependents)
-    × AsksBeside dependents versions environment first second out answer)
+    × AsksBeside members dependents versions environment first second out answer)
 
 -- What the job promises of these words.
 abbrev pub unmet_promise : {W : Type 0} → Words → Promise W
@@ -253,7 +258,8 @@ unmet_promise {W} w =
       line = line_of;
       Says = λ first second out answer. FailsAtWords w first second out answer
           ⊎ (IsTrue (has_environment w)
-          × AsksIn w.dependents w.versions (environment_in w) first second out answer);
+          × AsksIn w.members w.dependents w.versions (environment_in w) first second out
+          answer);
     }
 
 -- ---- worked cases
@@ -269,21 +275,23 @@ kinds_tried : (asked_of (Index Recommends) ≡ fields.Packages fields_of.Recomme
 kinds_tried = (refl, refl, refl, refl, refl, refl, refl)
 
 -- the environment has the target and the profiles, if that is one
-words_in_order : (environment_in (words (codes "amd64") (codes "nocheck" ∷ []) Source Spelled)
+words_in_order : (environment_in
+    (words (codes "amd64") (codes "nocheck" ∷ []) Installed Source Spelled)
     ≡ record { target = codes "amd64"; profiles = codes "nocheck" ∷ [] })
-    × (has_environment (words (codes "amd64") (codes "nocheck" ∷ []) Source Spelled) ≡ true)
-    × (has_environment (words (codes "any") [] Source Spelled) ≡ false)
+    × (has_environment (words (codes "amd64") (codes "nocheck" ∷ []) Installed Source Spelled)
+    ≡ true)
+    × (has_environment (words (codes "any") [] Installed Source Spelled) ≡ false)
 words_in_order = (refl, refl, refl)
 
 -- the arguments that the code holds are those words
 words_of_arguments : (given : UnmetWords) (one other : String Global)
     → given.profiles.now ≡ one ∷ other ∷ []
     → words_of given
-    ≡ words given.target.now (string_bytes one ∷ string_bytes other ∷ []) given.dependents
-    given.versions
+    ≡ words given.target.now (string_bytes one ∷ string_bytes other ∷ []) given.members
+    given.dependents given.versions
 words_of_arguments given one other are =
-    ap (λ named. words given.target.now (map string_bytes named) given.dependents given.versions)
-    are
+    ap (λ named. words given.target.now (map string_bytes named) given.members given.dependents
+    given.versions) are
 
 -- a fault of the words, or of a file
 faults_of_failures :

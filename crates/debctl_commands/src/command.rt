@@ -7,22 +7,22 @@ ghost use Rattle.debctl_commands.specs.Running.{IfRefusedWords, IfSecondUnread, 
 ghost use Rattle.debctl_commands.specs.Running.{IsRefused, Reported, SaysNo};
 ghost use Rattle.debctl_commands.specs.DiffJob.{form_asked};
 ghost use Rattle.debctl_commands.specs.JobDevices.{reader_of, writer_of};
-ghost use Rattle.debctl_commands.specs.QueryJob.{query_options};
+ghost use Rattle.debctl_commands.specs.QueryJob.{index_members, query_options};
 ghost use Rattle.debctl_commands.specs.Taking.{TakesFile};
 
 use crate::all_jobs::run_check_all;
 use crate::diff_job::{DiffOptions, form_asked, run_diff};
 use crate::document_jobs::{run_check, run_normalise};
-use crate::health_job::run_healthy;
+use crate::health_job::{SetAsked, run_healthy};
 use crate::query_from::run_query_from;
-use crate::query_job::{QueryOptions, QueryWords, run_query};
+use crate::query_job::{QueryOptions, QueryWords, index_members, run_query};
 use crate::same_job::run_same;
 use crate::sort_job::run_sort;
 use crate::unmet_job::{UnmetWords, run_unmet};
 use crate::version_jobs::{run_canon_version, run_compare, run_version_key};
 use crate::whole_job::run_check_whole;
 use deb_base::{Sink, Source, VersionText};
-use debctl_args::{Dependents, Detail, DiffDetail, DiffKind, Job};
+use debctl_args::{Dependents, Detail, DiffDetail, DiffKind, Job, Members};
 use std::alloc::Global;
 
 /// Runs a job over readers and writers, reports on `err` why it failed, and returns the status.
@@ -153,14 +153,24 @@ fn run_job<R: Source, S: Source, W: Sink, E: Sink>(
         Job::Unmet {
             arch,
             profiles,
+            members,
             dependents,
             versions,
         } => {
-            let words = unmet_words(arch, profiles, *dependents, *versions);
+            let members = index_members(*members);
+            let words = unmet_words(arch, profiles, members, *dependents, *versions);
             run_unmet(alloc, &words, first, second, out, err)
         }
-        Job::Healthy { arch, strength } => {
-            run_healthy(alloc, arch.as_str(), *strength, first, out, err)
+        Job::Healthy {
+            arch,
+            members,
+            strength,
+        } => {
+            let set = SetAsked {
+                members: index_members(*members),
+                strength: *strength,
+            };
+            run_healthy(alloc, arch.as_str(), set, first, out, err)
         }
         Job::Diff { .. } | Job::Query { .. } | Job::QueryFrom { .. } => {
             run_in_detail(alloc, job, first, second, out, err)
@@ -215,19 +225,21 @@ fn run_in_detail<R: Source, S: Source, W: Sink, E: Sink>(
             arch,
             profiles,
             relation,
+            members,
             detail,
             versions,
         } => {
-            let words = query_words(arch, profiles, *detail, *versions);
+            let words = query_words(arch, profiles, *members, *detail, *versions);
             run_query(alloc, &words, relation.as_bytes(), first, out, err)
         }
         Job::QueryFrom {
             arch,
             profiles,
+            members,
             detail,
             versions,
         } => {
-            let words = query_words(arch, profiles, *detail, *versions);
+            let words = query_words(arch, profiles, *members, *detail, *versions);
             run_query_from(alloc, &words, first, second, out, err)
         }
         _ => unreachable!(),
@@ -246,16 +258,19 @@ fn diff_options(kind: DiffKind, detail: DiffDetail, versions: VersionText) -> Di
 fn query_words<'a>(
     arch: &'a String,
     profiles: &'a [String],
+    members: Members,
     detail: Detail,
     versions: VersionText,
 ) -> QueryWords<'a>
     ensures target { result.target.now ≡ string_bytes arch.entry.now }
     ensures profiles { result.profiles.now ≡ profiles.entry.now }
+    ensures members { result.members ≡ index_members members }
     ensures options { result.options ≡ query_options detail versions }
 {
     QueryWords {
         target: arch.as_str(),
         profiles,
+        members: index_members(members),
         options: QueryOptions { detail, versions },
     }
 }
@@ -263,17 +278,20 @@ fn query_words<'a>(
 fn unmet_words<'a>(
     arch: &'a String,
     profiles: &'a [String],
+    members: deb_index::Members,
     dependents: Dependents,
     versions: VersionText,
 ) -> UnmetWords<'a>
     ensures target { result.target.now ≡ string_bytes arch.entry.now }
     ensures profiles { result.profiles.now ≡ profiles.entry.now }
+    ensures members { result.members ≡ members }
     ensures dependents { result.dependents ≡ dependents }
     ensures versions { result.versions ≡ versions }
 {
     UnmetWords {
         target: arch.as_str(),
         profiles,
+        members,
         dependents,
         versions,
     }

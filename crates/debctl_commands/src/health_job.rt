@@ -17,10 +17,18 @@ use crate::reporting::report_fault;
 use crate::unmet_job::{fields_tried, parse_environment};
 use deb_base::{Fault, Sink, Source};
 use deb_health::healthy;
+use deb_index::Members;
 use deb_relation::Env;
 use deb_unmet::Summary;
 use debctl_args::Strength;
 use std::alloc::Global;
+
+/// Which packages of its file are the set, and which fields are tried.
+#[derive(Clone, Copy)]
+pub(crate) struct SetAsked {
+    pub members: Members,
+    pub strength: Strength,
+}
 
 /// Writes to `out` a line for each reason why a set of packages isn't healthy, and returns the
 /// status.
@@ -33,7 +41,7 @@ use std::alloc::Global;
 pub(crate) fn run_healthy<R: Source, W: Sink, E: Sink>(
     alloc: Global,
     target: &str,
-    strength: Strength,
+    set: SetAsked,
     first: &mut R,
     out: &mut W,
     err: &mut E,
@@ -47,13 +55,13 @@ pub(crate) fn run_healthy<R: Source, W: Sink, E: Sink>(
     ensures status_3_if_write_failed { W.failures out.old < W.failures out.new → result ≡ 3 }
 
     // Whatever the status: there is an answer, and that is reported.
-    ensures reports_answer { (second : ReaderOfJob) → Ends (health_promise target.now strength)
+    ensures reports_answer { (second : ReaderOfJob) → Ends (health_promise target.now set.members set.strength)
         (reader_of (R.left first.old) (R.failures first.old) (R.failures first.new)) second
         (writer_of W.held W.failures out.old out.new)
         (writer_of E.held E.failures err.old err.new) result }
 {
     match parse_environment(alloc, target, &[]) {
-        Ok(environment) => run_in_environment(alloc, &environment, strength, first, out, err),
+        Ok(environment) => run_in_environment(alloc, &environment, set, first, out, err),
         Err(fault) => report_fault(&fault, err),
     }
 }
@@ -62,20 +70,21 @@ pub(crate) fn run_healthy<R: Source, W: Sink, E: Sink>(
 fn run_in_environment<R: Source, W: Sink, E: Sink>(
     alloc: Global,
     environment: &Env,
-    strength: Strength,
+    set: SetAsked,
     first: &mut R,
     out: &mut W,
     err: &mut E,
 ) -> u8
     ensures ends { (answer : Result Summary Fault)
-        × AsksOwn (asks_healthy (fields_tried strength) (environment_of environment.now))
+        × AsksOwn (asks_healthy set.members (fields_tried set.strength)
+        (environment_of environment.now))
         (R.left first.old) (R.failures first.old) (R.failures first.new) W.held W.failures out.old
         out.new answer × ReportsBy health_report (λ fault. fault) fault_line E.held E.failures
         err.old err.new answer result }
     ensures reads_at_most { TakesFile (R.left first.old) (R.left first.new) }
 {
-    let strength = fields_tried(strength);
-    let answer = healthy(alloc, environment, strength, first, out);
+    let strength = fields_tried(set.strength);
+    let answer = healthy(alloc, environment, set.members, strength, first, out);
     report_health(answer, err)
 }
 

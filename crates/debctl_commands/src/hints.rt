@@ -7,7 +7,7 @@ use crate::reader::SystemFiles;
 use deb_base::{Doc, Fault, Sink, put_all, put_pieces};
 use deb_explain::write_path;
 use deb_version::{BadVersion, Version};
-use debctl_args::{Call, Dependents, DiffKind, Job};
+use debctl_args::{Call, Dependents, DiffKind, Job, Members};
 use itoa::Buffer;
 use std::env;
 use std::io::IsTerminal;
@@ -120,14 +120,29 @@ fn kind_of_file(job: &Job, about: About) -> Option<Doc> {
             DiffKind::Source => Doc::Source,
             DiffKind::Status => Doc::Status,
         }),
-        Job::Query { .. } | Job::QueryFrom { .. } => Some(Doc::Packages),
-        Job::Unmet { dependents, .. } => Some(match (about, dependents) {
+        Job::Query { members, .. } | Job::QueryFrom { members, .. } => Some(kind_of_index(
+            *members,
+        )),
+        Job::Unmet {
+            members,
+            dependents,
+            ..
+        } => Some(match (about, dependents) {
             (About::Second, Dependents::Binary(_)) => Doc::Binary,
             (About::Second, Dependents::Sources) => Doc::Sources,
             (About::Second, Dependents::Source) => Doc::Source,
-            _ => Doc::Packages,
+            (About::Second, _) => Doc::Packages,
+            _ => kind_of_index(*members),
         }),
         _ => job.document(),
+    }
+}
+
+/// Returns the kind of the file of an index.
+fn kind_of_index(members: Members) -> Doc {
+    match members {
+        Members::All => Doc::Packages,
+        Members::Installed => Doc::Status,
     }
 }
 

@@ -41,7 +41,8 @@ pub(crate) fn run_query_from<R: Source, S: Source, W: Sink, E: Sink>(
     ensures status_3_if_write_failed { W.failures out.old < W.failures out.new → result ≡ 3 }
 
     // Whatever the status: there is an answer, and that is reported.
-    ensures reports_answer { Ends (from_promise words.now.options (question_of words.now))
+    ensures reports_answer { Ends (from_promise words.now.members words.now.options
+        (question_of words.now))
         (reader_of (R.left first.old) (R.failures first.old) (R.failures first.new))
         (reader_of (S.left second.old) (S.failures second.old) (S.failures second.new))
         (writer_of W.held W.failures out.old out.new)

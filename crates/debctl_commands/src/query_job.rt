@@ -9,14 +9,14 @@ ghost use Rattle.deb_index.specs.Asked.{environment_asked, relation_asked, Asks}
 ghost use Rattle.deb_index.specs.Indexes.{packages_of, spellings_of};
 ghost use Rattle.deb_index.specs.Questions.{Question as Words, RefusesWords};
 ghost use Rattle.debctl_commands.specs.QueryJob.{AreRefused, QueriesFile, ReportsOver};
-ghost use Rattle.debctl_commands.specs.QueryJob.{query_options, question_of};
+ghost use Rattle.debctl_commands.specs.QueryJob.{index_members, query_options, question_of};
 ghost use Rattle.debctl_commands.specs.Reporting.{Reports};
 ghost use Rattle.debctl_commands.specs.Taking.{TakesFile};
 ghost use Rattle.debctl_commands.specs.VersionJobs.{verdict_status};
 
 use crate::reporting::report_fault;
 use deb_base::{Fault, Sink, Source, VersionText};
-use deb_index::{Index, Question};
+use deb_index::{Index, Members, NoKeeper, Question};
 use debctl_args::Detail;
 use std::alloc::{AllocError, Global};
 
@@ -25,6 +25,7 @@ use std::alloc::{AllocError, Global};
 pub(crate) struct QueryWords<'a> {
     pub target: &'a str,
     pub profiles: &'a [String],
+    pub members: Members,
     pub options: QueryOptions,
 }
 
@@ -33,6 +34,16 @@ pub(crate) struct QueryWords<'a> {
 pub(crate) struct QueryOptions {
     pub detail: Detail,
     pub versions: VersionText,
+}
+
+/// Returns which packages of its file an index has.
+pub(crate) fn index_members(members: debctl_args::Members) -> Members
+    ensures { result ≡ index_members members }
+{
+    match members {
+        debctl_args::Members::All => Members::All,
+        debctl_args::Members::Installed => Members::Installed,
+    }
 }
 
 /// Writes to `out` which packages of an index meet a relation, with reasons if these are asked for,
@@ -63,7 +74,7 @@ pub(crate) fn run_query<R: Source, W: Sink, E: Sink>(
 
     // Whatever the status: there is an answer, and that is reported.
     ensures reports_answer { (answer : Result Bool Fault)
-        × QueriesFile words.now.options (question_of words.now relation.now)
+        × QueriesFile words.now.members words.now.options (question_of words.now relation.now)
         (R.left first.old) (R.failures first.old) (R.failures first.new)
         W.held W.failures out.old out.new answer
         × Reports verdict_status E.held E.failures err.old err.new answer result }
@@ -83,7 +94,7 @@ fn write_report<R: Source, W: Sink>(
     first: &mut R,
     out: &mut W,
 ) -> Result<bool, Fault>
-    ensures queries { QueriesFile words.now.options
+    ensures queries { QueriesFile words.now.members words.now.options
         (question_of words.now relation.now)
         (R.left first.old) (R.failures first.old) (R.failures first.new)
         W.held W.failures out.old out.new result }
@@ -93,7 +104,7 @@ fn write_report<R: Source, W: Sink>(
         → first.new ≡ first.old }
 {
     let question = parse_question(alloc, words, relation)?;
-    write_answer(alloc, &question, words.options, first, out)
+    write_answer(alloc, &question, words.members, words.options, first, out)
 }
 
 /// Parses the question that the command-line arguments ask.
@@ -128,16 +139,17 @@ pub(crate) fn names_of<'a>(alloc: Global, words: &'a [String]) -> Result<Vec<&'a
 fn write_answer<R: Source, W: Sink>(
     alloc: Global,
     question: &Question<'_>,
+    members: Members,
     options: QueryOptions,
     first: &mut R,
     out: &mut W,
 ) -> Result<bool, Fault>
     ensures queries { (words : Words) → Asks words question.now
-        → QueriesFile options words (R.left first.old) (R.failures first.old) (R.failures first.new)
-        W.held W.failures out.old out.new result }
+        → QueriesFile members options words (R.left first.old) (R.failures first.old)
+        (R.failures first.new) W.held W.failures out.old out.new result }
     ensures reads_at_most { TakesFile (R.left first.old) (R.left first.new) }
 {
-    let index = Index::read(alloc, first)?;
+    let index = Index::read_members(alloc, first, members, &mut NoKeeper)?;
     write_over(alloc, &index, question, options, out)
 }
 

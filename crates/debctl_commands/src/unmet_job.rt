@@ -20,9 +20,9 @@ use crate::query_job::names_of;
 use crate::reporting::{report_fault, report_side};
 use deb_base::{Code, Fault, Refusal, Sink, Source, VersionText};
 use deb_control::{Side, SideFault};
-use deb_index::Index;
+use deb_index::{Index, Members, NoKeeper};
 use deb_relation::{Env, EnvFault};
-use deb_unmet::{Asked, Request, Summary, unmet, unmet_in_itself};
+use deb_unmet::{Asked, OwnRequest, Request, Summary, unmet, unmet_in_itself};
 use debctl_args::{Dependents, Strength};
 use std::alloc::Global;
 
@@ -31,6 +31,7 @@ use std::alloc::Global;
 pub(crate) struct UnmetWords<'a> {
     pub target: &'a str,
     pub profiles: &'a [String],
+    pub members: Members,
     pub dependents: Dependents,
     pub versions: VersionText,
 }
@@ -39,6 +40,7 @@ pub(crate) struct UnmetWords<'a> {
 #[derive(Clone, Copy)]
 struct Asking<'a> {
     environment: &'a Env,
+    members: Members,
     dependents: Dependents,
     versions: VersionText,
 }
@@ -90,6 +92,7 @@ pub(crate) fn run_unmet<R: Source, S: Source, W: Sink, E: Sink>(
             alloc,
             &Asking {
                 environment: &environment,
+                members: words.members,
                 dependents: words.dependents,
                 versions: words.versions,
             },
@@ -131,7 +134,7 @@ fn run_in_environment<R: Source, S: Source, W: Sink, E: Sink>(
     err: &mut E,
 ) -> u8
     ensures ends { (answer : Result Summary Failure)
-        × AsksIn asking.now.dependents asking.now.versions
+        × AsksIn asking.now.members asking.now.dependents asking.now.versions
         (environment_of asking.now.environment.now)
         (reader_of (R.left first.old) (R.failures first.old) (R.failures first.new))
         (reader_of (S.left second.old) (S.failures second.old) (S.failures second.new))
@@ -139,7 +142,7 @@ fn run_in_environment<R: Source, S: Source, W: Sink, E: Sink>(
         × ReportsTried (writer_of E.held E.failures err.old err.new) answer result }
     ensures reads_at_most { TakesFile (R.left first.old) (R.left first.new) }
     ensures second_reads_at_most { TakesFile (S.left second.old) (S.left second.new) }
-    ensures second_untouched_if_refused { IsRefusedIndex (R.left first.old)
+    ensures second_untouched_if_refused { IsRefusedIndex asking.now.members (R.left first.old)
         → second.new ≡ second.old }
     ensures second_untouched_if_index { IsTrue (is_index asking.now.dependents)
         → second.new ≡ second.old }
@@ -163,16 +166,19 @@ fn run_in_itself<R: Source, W: Sink, E: Sink>(
     err: &mut E,
 ) -> u8
     ensures ends { (tried : Result Summary Fault)
-        × AsksOwn (asks_own (fields_tried strength) asking.now.versions
+        × AsksOwn (asks_own asking.now.members (fields_tried strength) asking.now.versions
         (environment_of asking.now.environment.now)) (R.left first.old) (R.failures first.old)
         (R.failures first.new) W.held W.failures out.old out.new tried
         × ReportsTried (writer_of E.held E.failures err.old err.new) (at_side Side.First tried)
         result }
     ensures reads_at_most { TakesFile (R.left first.old) (R.left first.new) }
 {
-    let strength = fields_tried(strength);
-    let versions = asking.versions;
-    let answer = unmet_in_itself(alloc, asking.environment, strength, versions, first, out);
+    let request = OwnRequest {
+        members: asking.members,
+        strength: fields_tried(strength),
+        versions: asking.versions,
+    };
+    let answer = unmet_in_itself(alloc, asking.environment, request, first, out);
     report_tried(Side::First, answer, err)
 }
 
@@ -186,7 +192,7 @@ fn run_beside<R: Source, S: Source, W: Sink, E: Sink>(
     err: &mut E,
 ) -> u8
     ensures ends { (answer : Result Summary Failure)
-        × AsksBeside asking.now.dependents asking.now.versions
+        × AsksBeside asking.now.members asking.now.dependents asking.now.versions
         (environment_of asking.now.environment.now)
         (reader_of (R.left first.old) (R.failures first.old) (R.failures first.new))
         (reader_of (S.left second.old) (S.failures second.old) (S.failures second.new))
@@ -194,10 +200,10 @@ fn run_beside<R: Source, S: Source, W: Sink, E: Sink>(
         × ReportsTried (writer_of E.held E.failures err.old err.new) answer result }
     ensures reads_at_most { TakesFile (R.left first.old) (R.left first.new) }
     ensures second_reads_at_most { TakesFile (S.left second.old) (S.left second.new) }
-    ensures second_untouched_if_refused { IsRefusedIndex (R.left first.old)
+    ensures second_untouched_if_refused { IsRefusedIndex asking.now.members (R.left first.old)
         → second.new ≡ second.old }
 {
-    match Index::read(alloc, first) {
+    match Index::read_members(alloc, first, asking.members, &mut NoKeeper) {
         Ok(index) => run_over(alloc, &index, asking, second, out, err),
         Err(fault) => report_side(
             SideFault {

@@ -10,6 +10,7 @@ use Rattle.deb_index.specs.Asked.{Asks, relation_asked}
 use Rattle.deb_index.specs.Listed.{Listed}
 use Rattle.deb_index.specs.Listing.{ListsAll}
 use Rattle.deb_index.specs.Questions.{IsGood, Question, RefusesQuery, RefusesWords, wildcard}
+use Rattle.deb_index.specs.declared.members.Members.TheVariants as members
 use Rattle.deb_index.specs.declared.question.Question.{Question as Asked}
 use Rattle.deb_relation.specs.Tests.{some_wildcard}
 
@@ -17,14 +18,14 @@ use Rattle.deb_relation.specs.Tests.{some_wildcard}
 abbrev pub good_words : (q : Question) (asked : Asked) → Asks q asked → IsGood q
 good_words q asked asks = record { relation = relation_asked asked; spelled = asks.spelled; environment = asks.environment }
 
-pub words_refused : (q : Question) (text : List ℕ) (fault : Fault) → RefusedOrMemory fault (RefusesWords q) → RefusedOrMemory fault (RefusesQuery q text)
+pub words_refused : (q : Question) (text : List ℕ) (fault : Fault) → RefusedOrMemory fault (RefusesWords q) → RefusedOrMemory fault (RefusesQuery members.All q text)
 words_refused q text (Refused refusal) is = inl is
 words_refused q text Memory is = tt
 words_refused q text Read is = absurd is
 words_refused q text Write is = absurd is
 
 pub index_refused : (q : Question) (text : List ℕ) (fault : Fault) → IsGood q
-    → RefusedOrMemory fault (λ refusal. refusal_of Packages text ≡ Some refusal) → RefusedOrMemory fault (RefusesQuery q text)
+    → RefusedOrMemory fault (λ refusal. refusal_of Packages text ≡ Some refusal) → RefusedOrMemory fault (RefusesQuery members.All q text)
 index_refused q text (Refused refusal) good is = inr (inl (record { good = good; refused = is }))
 index_refused q text Memory good is = tt
 index_refused q text Read good is = absurd is
@@ -33,7 +34,7 @@ index_refused q text Write good is = absurd is
 -- the words and the index are good, and a wildcard is refused, or out of memory
 pub wildcard_refused : (q : Question) (text : List ℕ) (fault : Fault) (good : IsGood q) (packages : List Listed)
     → ListsAll text packages → RefusedOrMemory fault (λ refusal. IsTrue (some_wildcard good.relation) × (refusal ≡ wildcard))
-    → RefusedOrMemory fault (RefusesQuery q text)
+    → RefusedOrMemory fault (RefusesQuery members.All q text)
 wildcard_refused q text (Refused refusal) good packages lists is =
     inr (inr (record { good = good; packages = packages; lists = lists; holds = is.0; is = is.1 }))
 wildcard_refused q text Memory good packages lists is = tt

@@ -9,6 +9,7 @@ use Rattle.deb_index.specs.Asked.{Asks, environment_asked, relation_asked}
 use Rattle.deb_index.specs.Listed.{Listed}
 use Rattle.deb_index.specs.Listing.{ListsAll}
 use Rattle.deb_index.specs.Questions.{Question, RefusesQuery, environment_in}
+use Rattle.deb_index.specs.declared.members.Members.TheVariants as members
 use Rattle.deb_index.specs.Reports.{all_met, report}
 use Rattle.deb_index.specs.declared.question.Question.{Question as Asked}
 use Rattle.debctl_ffi.specs.Queries.{RefusesAsked, ReportsOn, ReportsOver, detail_text}
@@ -34,6 +35,6 @@ answers_on detail q text asked packages (Err fault) asks lists over = tt
 
 pub faults_on : (q : Question) (text : List ℕ) (asked : Asked) (packages : List Listed) (answer : Result (Bool × Vec ℕ Global) Fault) → Asks q asked → ListsAll text packages
     → IfErr answer (λ fault. RefusedOrMemory fault (RefusesAsked (relation_asked asked)))
-    → IfErr answer (λ fault. RefusedOrMemory fault (RefusesQuery q text))
+    → IfErr answer (λ fault. RefusedOrMemory fault (RefusesQuery members.All q text))
 faults_on q text asked packages (Ok found) asks lists over = tt
 faults_on q text asked packages (Err fault) asks lists over = wildcard_refused q text fault (good_words q asked asks) packages lists over

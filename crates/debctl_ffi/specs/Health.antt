@@ -3,12 +3,14 @@
 use Rattle.std.specs.Prelude.{◌≡◌, ◌⊎◌, ℕ, Bool, true, false, IsTrue, List, [], ◌∷◌, map, length, refl}
 use Rattle.deb_base.specs.declared.doc.Doc.TheVariants.{Packages}
 use Rattle.deb_relation.specs.Applying.{Environment}
+use Rattle.deb_relation.specs.Environments.{environment_with}
 use Rattle.deb_relation.specs.Targets.{is_environment}
 use Rattle.deb_control.specs.Documents.{Accepted, Meaning}
 use Rattle.deb_index.specs.Listed.{Listed}
 use Rattle.deb_index.specs.Listing.{ListsAll}
-use Rattle.deb_unmet.specs.Files.{file_lines, is_nothing}
-use Rattle.deb_unmet.specs.Own.{asks_over}
+use Rattle.deb_index.specs.declared.members.Members.TheVariants as members
+use Rattle.deb_unmet.specs.Files.{is_nothing}
+use Rattle.deb_unmet.specs.Own.{OwnAsks, own_lines}
 use Rattle.deb_unmet.specs.declared.asked.Strength.{Strength}
 use Rattle.deb_unmet.specs.declared.asked.Strength.TheVariants.{Depends, Recommends}
 use Rattle.deb_unmet.specs.declared.asking.Summary.{Summary}
@@ -25,6 +27,13 @@ strength_of false = Depends
 strengths : map strength_of (false ∷ true ∷ []) ≡ Depends ∷ Recommends ∷ []
 strengths = refl
 
+-- what is asked of the packages of an index
+abbrev pub asks_set : Strength → Environment → OwnAsks
+asks_set strength environment = asks_healthy members.All strength environment
+
+asked_of_sets : (asks_set Depends (environment_with (codes "amd64") [])).members ≡ members.All
+asked_of_sets = refl
+
 -- The index is accepted, these are the lines of its packages over the packages that it lists, and
 -- the summary says how many there are and whether there is no line.
 pub record HasSetLines (strength : Strength) (environment : Environment) (index : List ℕ)
@@ -34,8 +43,7 @@ pub record HasSetLines (strength : Strength) (environment : Environment) (index 
   pub meaning : Meaning
   pub accepted : Accepted Packages index meaning
   pub count : length meaning ≡ summary.paragraphs
-  pub lines : bytes
-      ≡ file_lines (asks_over (asks_healthy strength environment) packages) index meaning
+  pub lines : bytes ≡ own_lines (asks_set strength environment) packages index meaning
   pub is_empty : summary.is_empty ≡ is_nothing bytes
 
 -- The target can be that of a set, and these are the lines of the index for it.

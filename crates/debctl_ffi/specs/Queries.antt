@@ -11,6 +11,7 @@ use Rattle.deb_version.specs.Places.{version_in}
 use Rattle.deb_index.specs.Alternatives.{alone, with_list}
 use Rattle.deb_index.specs.Listed.{Listed}
 use Rattle.deb_index.specs.Questions.{IsReported, Question, RefusesQuery, bad_environment}
+use Rattle.deb_index.specs.declared.members.Members.TheVariants as members
 use Rattle.deb_index.specs.Questions.{bad_relation, environment_in, wildcard}
 use Rattle.deb_index.specs.Reports.{Answer as GroupAnswer, all_met, report}
 use Rattle.deb_index.specs.ReportText.{report_text}
@@ -39,7 +40,7 @@ detail_text Reasons packages relation environment =
 pub record ReportsOn (detail : Detail) (q : Question) (text : List ℕ) (met : Bool)
     (bytes : List ℕ) : Type 0 where
   pub answers : List GroupAnswer
-  pub reported : IsReported q text answers
+  pub reported : IsReported members.All q text answers
   pub met_is : met ≡ all_met answers
   pub text_is : bytes
       ≡ detail_text detail reported.packages reported.good.relation (environment_in q)
@@ -83,7 +84,7 @@ worked-texts = refl
 -- The query is refused, and this is its refusal.
 pub record IsRefusedQuery (q : Question) (text : List ℕ) (answer : Answer) : Type 0 where
   pub refusal : Refusal
-  pub refused : RefusesQuery q text refusal
+  pub refused : RefusesQuery members.All q text refusal
   pub is : answer ≡ refusing 2 refusal
 
 -- What is said of a file that is given as a text.

@@ -16,6 +16,7 @@ use crate::asker::make_environment;
 use crate::buffer::reply;
 use deb_base::{Fault, SliceSource, VecSink};
 use deb_health::healthy;
+use deb_index::Members;
 use deb_relation::Env;
 use deb_unmet::{Strength, Summary};
 use std::alloc::Global;
@@ -101,7 +102,14 @@ fn lines_in(
 {
     let mut sink = VecSink::new(alloc);
     let mut source = SliceSource::new(index);
-    match healthy(alloc, environment, strength, &mut source, &mut sink) {
+    match healthy(
+        alloc,
+        environment,
+        Members::All,
+        strength,
+        &mut source,
+        &mut sink,
+    ) {
         Ok(summary) => Ok((summary, sink.into_bytes())),
         Err(Fault::Refused(refusal)) => Err(Fault::Refused(refusal)),
         Err(Fault::Memory | Fault::Write) => Err(Fault::Memory),

@@ -10,6 +10,7 @@ ghost use Rattle.deb_index.specs.FirstLines.{first_lines};
 ghost use Rattle.deb_index.specs.Indexes.{lines_of, packages_of};
 ghost use Rattle.deb_index.specs.Listing.{ListsAll};
 ghost use Rattle.deb_index.specs.Questions.{question, RefusesQuery};
+ghost use Rattle.deb_index.specs.declared.members.Members.TheVariants.{All};
 ghost use Rattle.deb_index.specs.ReportText.{report_text};
 ghost use Rattle.deb_index.specs.Reported.{report_of};
 ghost use Rattle.deb_index.specs.Why.{detailed_text};
@@ -45,7 +46,8 @@ pub(crate) fn report_on(
         index.now answer.0 answer.1.items) }
     ensures fault { IfErr result
         (λ fault. RefusedOrMemory fault
-        (RefusesQuery (question target.now (names_of profiles.now) relation.now) index.now)) }
+        (RefusesQuery All (question target.now (names_of profiles.now) relation.now)
+        index.now)) }
 {
     let question = Question::parse(alloc, target, profiles, relation)?;
     let index = read_index(alloc, index)?;
@@ -66,7 +68,8 @@ pub(crate) fn report_in(
         text answer.0 answer.1.items) }
     ensures fault { (text : List ℕ) → ListsAll text (packages_of index.now) → IfErr result
         (λ fault. RefusedOrMemory fault
-        (RefusesQuery (question target.now (names_of profiles.now) relation.now) text)) }
+        (RefusesQuery All (question target.now (names_of profiles.now) relation.now)
+        text)) }
 {
     let question = Question::parse(alloc, target, profiles, relation)?;
     report_over(alloc, detail, index, &question)

@@ -1,6 +1,7 @@
 use Rattle.std.proofs.Common.{◌≡◌, ◌&&◌, refl, sym, ap, ◌∙◌}
 use Rattle.std.proofs.lemmas.Result.{err_from_is_err_and}
 use Rattle.deb_index.specs.Indexes.{packages_of}
+use Rattle.deb_unmet.proofs.OwnMembers.{kept_members}
 use Rattle.deb_unmet.proofs.OwnFiles.{end_own, next_own, none_own, one_own, stopped_own}
 use Rattle.deb_unmet.proofs.in_itself.write_kept.Goals as goal
 use Rattle.deb_unmet.proofs.in_itself.write_kept.Goals.{then-is_empty, else-is_empty}
@@ -35,11 +36,15 @@ returns-in_err-has_none-clause-stopped g c = λ text lists keeps.
     let own = g.L.OwnLines.asks c.args.lines.now in
     let packages = packages_of c.args.index.now in
     let Holds = g.L.OwnLines.Holds in
-    let next = next_own own packages Holds c.args.kept.now keeps.given (g.W.Sink.held c.args.writer.now) c.loop-count.count c.index-kept-count.result (c.loop-count.invariant.lines keeps.given keeps.keeps) c.loop-count-test.true c.index-kept-count.is in
+    let are = kept_members own.members Holds c.args.kept.now text keeps in
+    let next = next_own own packages Holds c.args.kept.now are.0 (g.W.Sink.held c.args.writer.now) c.loop-count.count c.index-kept-count.result (c.loop-count.invariant.lines are.0 are.1) c.loop-count-test.true c.index-kept-count.is in
     rw (p.1, p.2)
-    (stopped_own own packages Holds c.args.kept.now keeps.given (g.W.Sink.held c.args.writer.now) next text (g.W.Sink.held c.write_lines.new.writer) c.in_err-has_none.field-0.0
-    (c.in_err-has_none.ensures.puts next.seen.fields next.is.values next.is.holds) lists keeps.next keeps.accepted)
+    (stopped_own own packages Holds c.args.kept.now are.0 (g.W.Sink.held c.args.writer.now) next text (g.W.Sink.held c.write_lines.new.writer) c.in_err-has_none.field-0.0
+    (c.in_err-has_none.ensures.puts next.seen.fields next.is.values next.is.holds) lists are.2)
 
 pub returns-clause-ok : goal.returns-clause-ok
 returns-clause-ok g c = λ text lists keeps.
-    end_own _ _ _ _ keeps.given _ (c.loop-count.invariant.lines keeps.given keeps.keeps) c.loop-count-test.false keeps.keeps text lists keeps.next keeps.accepted
+    let own = g.L.OwnLines.asks c.args.lines.now in
+    let Holds = g.L.OwnLines.Holds in
+    let are = kept_members own.members Holds c.args.kept.now text keeps in
+    end_own own _ Holds c.args.kept.now are.0 _ (c.loop-count.invariant.lines are.0 are.1) c.loop-count-test.false are.1 text lists are.2

@@ -10,11 +10,11 @@ returns-in-Ok-clause-reports_answer g c =
 
 pub returns-in-Ok-clause-status_3_if_read_failed : goal.returns-in-Ok-clause-status_3_if_read_failed
 returns-in-Ok-clause-status_3_if_read_failed g c =
-    three_if_first c.args.target.now c.args.strength _ _ _ c.run_in_environment.result (returns-in-Ok-clause-reports_answer g c)
+    three_if_first c.args.target.now c.args.set.members c.args.set.strength _ _ _ c.run_in_environment.result (returns-in-Ok-clause-reports_answer g c)
 
 pub returns-in-Ok-clause-status_3_if_write_failed : goal.returns-in-Ok-clause-status_3_if_write_failed
 returns-in-Ok-clause-status_3_if_write_failed g c =
-    three_if_out c.args.target.now c.args.strength _ _ _ c.run_in_environment.result (returns-in-Ok-clause-reports_answer g c)
+    three_if_out c.args.target.now c.args.set.members c.args.set.strength _ _ _ c.run_in_environment.result (returns-in-Ok-clause-reports_answer g c)
 
 pub returns-in-Err-clause-reports_answer : goal.returns-in-Err-clause-reports_answer
 returns-in-Err-clause-reports_answer g c = λ second. (

@@ -10,7 +10,7 @@ returns-clause-ends g c =
     let answer = c.healthy-answer.result in (
       answer,
       subst
-          (λ strength. AsksOwn (asks_healthy strength (environment_of c.args.environment.now))
+          (λ strength. AsksOwn (asks_healthy c.args.set.members strength (environment_of c.args.environment.now))
           (g.R.Source.left c.args.first.now) (g.R.Source.failures c.args.first.now) (g.R.Source.failures c.healthy-answer.new.reader)
           g.W.Sink.held g.W.Sink.failures c.args.out.now c.healthy-answer.new.writer answer)
           c.fields_tried-strength.ensures

@@ -6,7 +6,7 @@ use Rattle.debctl_commands.proofs.query_from.run_query_from.Goals as goal
 
 pub returns-in-Ok-clause-reports_answer : goal.returns-in-Ok-clause-reports_answer
 returns-in-Ok-clause-reports_answer g c =
-    read_ends c.args.words.now.options (question_of c.args.words.now) _ _ _ _ c.in-Ok.relation.items c.as_slice.result.now c.in-Ok.ensures.ok c.as_slice.ensures.value c.in-Ok.ensures.counts_failure c.run_query.result c.run_query.ensures.reports_answer
+    read_ends c.args.words.now.members c.args.words.now.options (question_of c.args.words.now) _ _ _ _ c.in-Ok.relation.items c.as_slice.result.now c.in-Ok.ensures.ok c.as_slice.ensures.value c.in-Ok.ensures.counts_failure c.run_query.result c.run_query.ensures.reports_answer
 
 pub returns-in-Ok-clause-second_untouched_if_refused : goal.returns-in-Ok-clause-second_untouched_if_refused
 returns-in-Ok-clause-second_untouched_if_refused g c = λ bad.

@@ -7,7 +7,7 @@ pub returns-in_err-question-clause-queries : goal.returns-in_err-question-clause
 returns-in_err-question-clause-queries g c =
     let p = err_from_is_err_and c.from_residual.result c.from_residual.ensures.1 in
     rw (p.1, p.2)
-    (words_refused c.args.words.now.options (question_of c.args.words.now c.args.relation.now) (g.R.Source.left c.args.first.now) (g.R.Source.failures c.args.first.now) g.W.Sink.held g.W.Sink.failures c.args.out.now _
+    (words_refused c.args.words.now.members c.args.words.now.options (question_of c.args.words.now c.args.relation.now) (g.R.Source.left c.args.first.now) (g.R.Source.failures c.args.first.now) g.W.Sink.held g.W.Sink.failures c.args.out.now _
     c.in_err-question.ensures.fault)
 
 pub returns-clause-queries : goal.returns-clause-queries

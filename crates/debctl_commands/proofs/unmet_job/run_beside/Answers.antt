@@ -37,4 +37,4 @@ returns-in-Err-clause-ends g c = (
 
 pub returns-in-Ok-clause-second_untouched_if_refused : goal.returns-in-Ok-clause-second_untouched_if_refused
 returns-in-Ok-clause-second_untouched_if_refused g c = λ bad.
-    absurd (no_index bad.0 _ bad.1 (c.in-Ok.ensures.ok bad.0 bad.2) bad.3)
+    absurd (no_index c.args.asking.now.members bad.0 _ bad.1 (c.in-Ok.ensures.ok bad.0 bad.2) bad.3)

@@ -10,10 +10,10 @@ returns-clause-ends g c =
     let answer = c.unmet_in_itself-answer.result in (
       answer,
       subst
-          (λ strength. AsksOwn (asks_own strength c.args.asking.now.versions (environment_of c.args.asking.now.environment.now))
+          (λ strength. AsksOwn (asks_own c.args.asking.now.members strength c.args.asking.now.versions (environment_of c.args.asking.now.environment.now))
           (g.R.Source.left c.args.first.now) (g.R.Source.failures c.args.first.now) (g.R.Source.failures c.unmet_in_itself-answer.new.reader)
           g.W.Sink.held g.W.Sink.failures c.args.out.now c.unmet_in_itself-answer.new.writer answer)
-          c.fields_tried-strength.ensures
+          c.fields_tried.ensures
           (record {
             ok = e.ok;
             refused = e.refused;

@@ -1,6 +1,7 @@
 use Rattle.std.proofs.Common.{ap, inl, inr, refl, subst, sym}
 use Rattle.deb_base.specs.Faults.{RefusedOrMemory}
 use Rattle.deb_index.specs.Questions.{question, RefusesQuery}
+use Rattle.deb_index.specs.declared.members.Members.TheVariants as members
 use Rattle.deb_relation.specs.Views.{names_of}
 use Rattle.debctl_ffi.proofs.Loading.{lists_held}
 use Rattle.debctl_ffi.proofs.loaded.Loaded.report.Goals as goal
@@ -43,7 +44,7 @@ returns-in-Err-Refused-clause-answers c =
         ap (λ a. a.status) c.refused.ensures,
         λ text holds. record {
           refusal = c.in-Err-Refused.refusal;
-          refused = subst (λ fault. RefusedOrMemory fault (RefusesQuery q text)) c.in-Err-Refused.field-0-is
+          refused = subst (λ fault. RefusedOrMemory fault (RefusesQuery members.All q text)) c.in-Err-Refused.field-0-is
               (c.in-Err-Refused.ensures.fault text (lists_held text c.args.self.now c.in-Some.index c.in-Some.is holds));
           is = c.refused.ensures;
         },
