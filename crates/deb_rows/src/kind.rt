@@ -90,74 +90,99 @@ pub(crate) fn front_of(kind: RowKind) -> &'static [u8]
     }
 }
 
-/// The cells of a line of this kind, each with the text after it.
-pub(crate) fn pieces_of(kind: RowKind) -> &'static [(Class, &'static [u8])]
+/// Cells of a line, each with the text after it.
+type Pieces = &'static [(Class, &'static [u8])];
+
+const ANY_TEXT: Pieces = &[(Class::Line, b"\n")];
+
+/// A number, a name, a version and an architecture.
+const PACKAGE_LAST: Pieces = &[
+    (Class::Number, b" "),
+    (Class::Word, b" "),
+    (Class::Word, b" "),
+    (Class::Word, b"\n"),
+];
+
+const REASON: Pieces = &[(Class::Alternative, b": "), (Class::Reason, b"\n")];
+
+const PACKAGE_REASON: Pieces = &[
+    (Class::Alternative, b": "),
+    (Class::Number, b" "),
+    (Class::Word, b" "),
+    (Class::Word, b" "),
+    (Class::Word, b" "),
+    (Class::Line, b"\n"),
+];
+
+const PACKAGE_AND_TEXT: Pieces = &[
+    (Class::Number, b" "),
+    (Class::Word, b" "),
+    (Class::Word, b" "),
+    (Class::Word, b" "),
+    (Class::Line, b"\n"),
+];
+
+const PACKAGE_WORD_AND_TEXT: Pieces = &[
+    (Class::Number, b" "),
+    (Class::Word, b" "),
+    (Class::Word, b" "),
+    (Class::Word, b" "),
+    (Class::Word, b" "),
+    (Class::Line, b"\n"),
+];
+
+const PACKAGE_FIELD_AND_GROUP: Pieces = &[
+    (Class::Number, b" "),
+    (Class::Word, b" "),
+    (Class::Word, b" "),
+    (Class::Word, b" "),
+    (Class::Word, b" "),
+    (Class::Group, b"\n"),
+];
+
+const PACKAGE_FIELD_AND_EXCLUDED: Pieces = &[
+    (Class::Number, b" "),
+    (Class::Word, b" "),
+    (Class::Word, b" "),
+    (Class::Word, b" "),
+    (Class::Word, b" "),
+    (Class::Group, b" by "),
+    (Class::Number, b" "),
+    (Class::Word, b" "),
+    (Class::Word, b" "),
+    (Class::Word, b"\n"),
+];
+
+/// Two packages of one name.
+const PACKAGE_TWICE: Pieces = &[
+    (Class::Number, b" "),
+    (Class::Word, b" "),
+    (Class::Word, b" "),
+    (Class::Word, b" with "),
+    (Class::Number, b" "),
+    (Class::Word, b" "),
+    (Class::Word, b"\n"),
+];
+
+/// The cells of a line of this kind.
+pub(crate) fn pieces_of(kind: RowKind) -> Pieces
     ensures pieces { map piece_in result.now ≡ pieces_of kind }
     ensures few { length result.now ≤ 10 }
 {
     match kind {
-        RowKind::Met | RowKind::Unmet | RowKind::Ignored | RowKind::OldLine | RowKind::NewLine => &[
-            (Class::Line, b"\n"),
-        ],
-        RowKind::Package | RowKind::Removed | RowKind::Added => &[
-            (Class::Number, b" "),
-            (Class::Word, b" "),
-            (Class::Word, b" "),
-            (Class::Word, b"\n"),
-        ],
-        RowKind::Reason => &[(Class::Alternative, b": "), (Class::Reason, b"\n")],
-        RowKind::PackageReason => &[
-            (Class::Alternative, b": "),
-            (Class::Number, b" "),
-            (Class::Word, b" "),
-            (Class::Word, b" "),
-            (Class::Word, b" "),
-            (Class::Line, b"\n"),
-        ],
-        RowKind::UnmetGroup | RowKind::UnsureGroup | RowKind::Upgraded | RowKind::Downgraded => &[
-            (Class::Number, b" "),
-            (Class::Word, b" "),
-            (Class::Word, b" "),
-            (Class::Word, b" "),
-            (Class::Word, b" "),
-            (Class::Line, b"\n"),
-        ],
-        RowKind::Changed => &[
-            (Class::Number, b" "),
-            (Class::Word, b" "),
-            (Class::Word, b" "),
-            (Class::Word, b" "),
-            (Class::Line, b"\n"),
-        ],
-        RowKind::UnmetNeed | RowKind::UnsureNeed => &[
-            (Class::Number, b" "),
-            (Class::Word, b" "),
-            (Class::Word, b" "),
-            (Class::Word, b" "),
-            (Class::Word, b" "),
-            (Class::Group, b"\n"),
-        ],
-        RowKind::Conflict | RowKind::UnsureConflict => &[
-            (Class::Number, b" "),
-            (Class::Word, b" "),
-            (Class::Word, b" "),
-            (Class::Word, b" "),
-            (Class::Word, b" "),
-            (Class::Group, b" by "),
-            (Class::Number, b" "),
-            (Class::Word, b" "),
-            (Class::Word, b" "),
-            (Class::Word, b"\n"),
-        ],
-        RowKind::Duplicate => &[
-            (Class::Number, b" "),
-            (Class::Word, b" "),
-            (Class::Word, b" "),
-            (Class::Word, b" with "),
-            (Class::Number, b" "),
-            (Class::Word, b" "),
-            (Class::Word, b"\n"),
-        ],
+        RowKind::Met | RowKind::Unmet | RowKind::Ignored | RowKind::OldLine | RowKind::NewLine => {
+            ANY_TEXT
+        }
+        RowKind::Package | RowKind::Removed | RowKind::Added => PACKAGE_LAST,
+        RowKind::Reason => REASON,
+        RowKind::PackageReason => PACKAGE_REASON,
+        RowKind::Changed => PACKAGE_AND_TEXT,
+        RowKind::UnmetGroup | RowKind::UnsureGroup | RowKind::Upgraded | RowKind::Downgraded => {
+            PACKAGE_WORD_AND_TEXT
+        }
+        RowKind::UnmetNeed | RowKind::UnsureNeed => PACKAGE_FIELD_AND_GROUP,
+        RowKind::Conflict | RowKind::UnsureConflict => PACKAGE_FIELD_AND_EXCLUDED,
+        RowKind::Duplicate => PACKAGE_TWICE,
         RowKind::Key => &[(Class::Key, b": "), (Class::Line, b"\n")],
         RowKind::Count => &[(Class::Number, b"\n")],
         RowKind::Summary => &[(Class::Number, b", "), (Class::Number, b" refused\n")],
