@@ -45,7 +45,7 @@ none_kept members store entries records = record {
 
 -- one paragraph more
 module _ (members : Members) (given : List Seen) (seen : Seen) (passes : is_judged (doc_of members) seen ≡ true) (fields : are_fields seen.fields ≡ true) where
-  values : ValueEntries ValueMeaning
+  abbrev values : ValueEntries ValueMeaning
   values = (values-passing (doc_of members) seen passes).0
 
   are : AreValuesOf (doc_of members) seen values
