@@ -13,7 +13,6 @@ use Rattle.deb_control.specs.ValueFiles.{ValueEntries}
 use Rattle.deb_control.proofs.GivenValues.{accepted-given, pairwise-push}
 use Rattle.deb_control.proofs.PassingParagraphs.{values-passing}
 use Rattle.deb_control.proofs.ShownSoFar.{ShownAll}
-use Rattle.deb_index.specs.Installed.{is_seen_member}
 use Rattle.deb_index.specs.Listed.{Listed}
 use Rattle.deb_index.specs.Listing.{Lists, SeenLists}
 use Rattle.deb_index.specs.Members.{HasBoth, KeepsGiven, KeepsMembers, ListsMembers, doc_of, has_seen, has_values, seen_in}

@@ -1,11 +1,8 @@
-use Rattle.std.proofs.Common.{◌≡◌, ◌++◌, ◌∷◌, [], Ok, Some, ap, sym, subst, ◌∙◌}
+use Rattle.std.proofs.Common.{◌≡◌, Ok, Some, ap, ◌∙◌}
 use Rattle.std.proofs.lemmas.Result.{err_from_is_err_and}
 use Rattle.deb_control.specs.CheckedStates.{passing_judged}
 use Rattle.deb_control.specs.Checking.{passing_seen}
-use Rattle.deb_control.specs.Visiting.{VisitsValues}
 use Rattle.deb_control.proofs.ShownSoFar.{shows-end, shows-next, shows-none, shows-refusal, shows-taken}
-use Rattle.deb_index.specs.Members.{ListsMembers, doc_of}
-use Rattle.deb_index.specs.PackageBuilder.{KeepsVisited}
 use Rattle.deb_index.specs.declared.index.Index.{Index}
 use Rattle.deb_index.proofs.Indexed.{ReadGiven, keeps_members, lists_members, none_kept}
 use Rattle.deb_index.proofs.ReadLines.{all_lines, all_spellings}
