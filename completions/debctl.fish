@@ -91,6 +91,7 @@ complete -c debctl -n '__debctl_at query' -l arch -x -a '(dpkg-architecture -L 2
 complete -c debctl -n '__debctl_at query' -l profiles -x -d 'The active build profiles, separated by commas'
 complete -c debctl -n '__debctl_at query' -l why -d 'Say below each unmet or ignored group why it is'
 complete -c debctl -n '__debctl_at query' -l spelled -d 'Print each version as its file spells it'
+complete -c debctl -n '__debctl_at query' -l installed -d 'Read a status file such as /var/lib/dpkg/status'
 complete -c debctl -n '__debctl_at query' -l relation-from -r -F -d 'A file that contains the relation'
 complete -c debctl -n '__debctl_at query' -s h -l help -d 'Print help'
 complete -c debctl -n '__debctl_at unmet 0' -F
@@ -100,10 +101,12 @@ complete -c debctl -n '__debctl_at unmet' -l profiles -x -d 'The active build pr
 complete -c debctl -n '__debctl_at unmet' -s k -l kind -x -a 'binary packages source sources' -d 'The kind of PATH'
 complete -c debctl -n '__debctl_at unmet' -l recommends -d 'Try the groups of Recommends too'
 complete -c debctl -n '__debctl_at unmet' -l spelled -d 'Print each version as its file spells it'
+complete -c debctl -n '__debctl_at unmet' -l installed -d 'Read a status file such as /var/lib/dpkg/status'
 complete -c debctl -n '__debctl_at unmet' -s h -l help -d 'Print help'
 complete -c debctl -n '__debctl_at healthy 0' -F
 complete -c debctl -n '__debctl_at healthy' -l arch -x -a '(dpkg-architecture -L 2>/dev/null)' -d 'The target architecture, such as amd64'
 complete -c debctl -n '__debctl_at healthy' -l recommends -d 'Try the groups of Recommends too'
+complete -c debctl -n '__debctl_at healthy' -l installed -d 'Read a status file such as /var/lib/dpkg/status'
 complete -c debctl -n '__debctl_at healthy' -s h -l help -d 'Print help'
 complete -c debctl -n '__debctl_at help 0' -a 'check explain audit normalise same diff compare canon-version version-key sort query unmet healthy help kinds'
 complete -c debctl -n '__debctl_at help' -s h -l help -d 'Print help'

@@ -52,7 +52,8 @@ enum deb_status {
     DEB_SECOND_REFUSED = 3, /* the first text is accepted, and the second is refused */
     DEB_NO_ROOM = 4,        /* the buffer is too small; its length is what it needs */
     DEB_NO_MEMORY = 5,      /* out of memory */
-    DEB_NO_KIND = 6,        /* no kind of document has this number, or no detail */
+    DEB_NO_KIND = 6,        /* no kind of document has this number, or no detail; deb_diff, deb_unmet,
+                             * deb_healthy: the call doesn't take this kind */
     DEB_NO_INDEX = 7        /* the index that is asked holds none, since it was refused */
 };
 
@@ -119,9 +120,9 @@ struct deb_answer {
     uint64_t line;  /* the line of the refusal in its file; 0 for a text that isn't a file */
     uint64_t count; /* the number of paragraphs of the file: for DEB_YES of deb_check, deb_check_all,
                      * deb_normalise, deb_explain, deb_explain_all and deb_fields, and for DEB_YES
-                     * and DEB_NO of deb_unmet and deb_healthy; of the paragraphs that pass, for
-                     * DEB_REFUSED of deb_check_all and deb_explain_all; of the packages of an index,
-                     * for DEB_YES of deb_index_read */
+                     * and DEB_NO of deb_unmet; of the paragraphs that pass, for DEB_REFUSED of
+                     * deb_check_all and deb_explain_all; of the packages, for DEB_YES and DEB_NO of
+                     * deb_healthy, and for DEB_YES of deb_index_read */
 };
 
 /* The answer of a comparison of two versions. */
@@ -355,15 +356,17 @@ struct deb_answer deb_unmet(uint8_t kind, uint8_t recommends,
                             const uint8_t *text, size_t text_length,
                             uint8_t *out, size_t out_size, size_t *length);
 
-/* Writes why the packages of an index aren't consistent as a set, for a target architecture: a line
- * for each group that no package of the set meets, or may not meet, for each package that a relation
- * of another excludes, or may exclude, and for two of one name that can't be installed together.
- * They are the lines that the program `debctl healthy` writes. Pre-Depends and Depends are asked, and
- * Recommends too unless `recommends` is 0.
+/* Writes why a set of packages isn't consistent, for a target architecture: a line for each group that
+ * no package of the set meets, or may not meet, for each package that a relation of another excludes,
+ * or may exclude, and for two of one name that can't be installed together. They are the lines that
+ * the program `debctl healthy` writes. `kind` is that of the file `index`: the set is all packages of
+ * an index (DEB_PACKAGES), or the installed ones of a status file (DEB_STATUS), which the program
+ * reads with `--installed`. Pre-Depends and Depends are asked, and Recommends too unless `recommends`
+ * is 0.
  * DEB_YES: there is no line, the set is healthy; DEB_NO: there is one; both with the number of
- * packages. DEB_REFUSED: the target (DEB_BAD_ENVIRONMENT) or the index, in this order; DEB_NO_ROOM;
- * DEB_NO_MEMORY. */
-struct deb_answer deb_healthy(uint8_t recommends,
+ * packages of the set. DEB_REFUSED: the target (DEB_BAD_ENVIRONMENT) or the file, in this order;
+ * DEB_NO_ROOM; DEB_NO_MEMORY; DEB_NO_KIND: `kind` is neither of these two. */
+struct deb_answer deb_healthy(uint8_t kind, uint8_t recommends,
                               const uint8_t *target, size_t target_length,
                               const uint8_t *index, size_t index_length,
                               uint8_t *out, size_t out_size, size_t *length);

@@ -216,10 +216,13 @@ def unmet_report(
     return UnmetReport(met, lines.decode())
 
 
-def healthy(index: Text, arch: Text, *, recommends: bool = False) -> HealthReport:
-    """Finds why the packages of an index aren't consistent as a set, for this architecture: the
-    lines that the program `debctl healthy` writes. Pre-Depends and Depends are asked, with
-    `recommends` Recommends too.
+def healthy(
+    index: Text, arch: Text, *, kind: Kind = "packages", recommends: bool = False
+) -> HealthReport:
+    """Finds why a set of packages isn't consistent, for this architecture: the lines that the
+    program `debctl healthy` writes. `kind` is that of the file: of `packages` the set is all
+    packages of an index, and of `status` the installed packages of a status file of dpkg.
+    Pre-Depends and Depends are asked, with `recommends` Recommends too.
 
         >>> import debctl
         >>> aa = "Package: aa\\nVersion: 1\\nArchitecture: all\\nConflicts: bb\\n\\n"
@@ -229,10 +232,18 @@ def healthy(index: Text, arch: Text, *, recommends: bool = False) -> HealthRepor
         False conflict 1 aa 1 all Conflicts bb by 2 bb 1 all
         >>> [(it.verdict, it.package.name, it.group, it.by.number) for it in report.reasons]
         [('conflict', 'aa', 'bb', 2)]
+        >>> removed = "Status: deinstall ok config-files\n" + aa
+        >>> installed = "Status: install ok installed\n" + bb
+        >>> bool(debctl.healthy(removed + installed, "amd64", kind="status"))
+        True
 
-    Raises Refused if the architecture or the index is refused.
+    Raises Refused if the architecture or the file is refused, and ValueError for another kind.
     """
-    data, length = text_of(index)
-    call = functools.partial(lib.deb_healthy, bool(recommends), *text_of(arch), data, length)
+    number, (data, length) = kind_of(kind), text_of(index)
+    call = functools.partial(
+        lib.deb_healthy, number, bool(recommends), *text_of(arch), data, length
+    )
     answer, lines = written(length + _REPORT_ROOM, call)
-    return HealthReport(answered_file(answer, _PACKAGES, data).status == YES, lines.decode())
+    if answer.status == NO_KIND:
+        raise ValueError(f"there are no sets of {kind!r}")
+    return HealthReport(answered_file(answer, number, data).status == YES, lines.decode())

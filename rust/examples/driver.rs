@@ -9,7 +9,7 @@ use debctl::{
     canonical, check, check_all, compare, diff, explain, explain_all, explain_relation,
     explain_version, healthy, key, normalise, paragraphs, query, query_why, relations, same,
     spelled_relations, unmet, AllChecked, Asked, Compared, Error, Explanation, Index, Kind,
-    ReadError, Reader, Refusal, Report, Version,
+    Members, ReadError, Reader, Refusal, Report, Version,
 };
 use printed::Printed;
 use std::env::args_os;
@@ -234,7 +234,11 @@ fn answer(call: &str, number: usize, files: &[Vec<u8>]) -> Result<Vec<u8>, Error
         "query" | "why" => of_query(call, files)?,
         "unmet" => of_unmet(number, files)?,
         "healthy" => {
-            let report = healthy(number > 0, &files[0], &files[1])?;
+            let members = match KINDS[number % 8] {
+                Kind::Status => Members::Installed,
+                _ => Members::All,
+            };
+            let report = healthy(members, number >= 8, &files[0], &files[1])?;
             with_rows(&done(report.healthy, 0), &report.text, &report.printed())
         }
         "diff" => of_diff(number, files)?,

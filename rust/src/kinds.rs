@@ -105,6 +105,26 @@ impl Asked {
     }
 }
 
+/// Which packages of a file are a set, for [`healthy`](crate::healthy).
+#[derive(Clone, Copy, Debug, PartialEq, Eq, Hash)]
+#[non_exhaustive]
+pub enum Members {
+    /// All packages of an index of binary packages.
+    All,
+    /// The installed packages of a status file of dpkg.
+    Installed,
+}
+
+impl Members {
+    /// Returns the kind of the file.
+    pub(crate) fn kind(self) -> Kind {
+        match self {
+            Members::All => Kind::Packages,
+            Members::Installed => Kind::Status,
+        }
+    }
+}
+
 /// The kind of two files that are compared.
 #[derive(Clone, Copy, Debug, PartialEq, Eq, Hash)]
 #[non_exhaustive]

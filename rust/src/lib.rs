@@ -45,7 +45,7 @@ pub use explanations::{
 };
 pub use files::{check, check_all, normalise, same, AllChecked};
 pub use index::{Details, Index, Package};
-pub use kinds::{Asked, Compared, Kind, UnknownKind};
+pub use kinds::{Asked, Compared, Kind, Members, UnknownKind};
 pub use paragraphs::{paragraphs, Field, Iter, Paragraph, Paragraphs};
 pub use reader::{ReadError, Reader};
 pub use refusals::{Code, Error, Refusal};

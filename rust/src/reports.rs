@@ -4,7 +4,7 @@
 use crate::library::{self, Answer, Text};
 use crate::refusals::answered_of;
 use crate::texts::{self, rows, string, written, Form, Row};
-use crate::{Asked, Error, Kind, Package};
+use crate::{Asked, Error, Kind, Members, Package};
 use std::fmt;
 
 /// The report on a relation.
@@ -350,30 +350,38 @@ pub fn unmet(
     Ok(unmet_report((answer, text)))
 }
 
-/// Finds why the packages of an index aren't consistent as a set, for a target architecture: the
-/// lines that the program `debctl healthy` writes. With `recommends` a package needs what it
-/// recommends, too.
+/// Finds why a set of packages isn't consistent, for a target architecture: the lines that the
+/// program `debctl healthy` writes. The set is the packages of an index, or the installed ones of a
+/// status file. With `recommends` a package needs what it recommends, too.
 ///
 /// ```
+/// use debctl::{healthy, Members};
+///
 /// let index = "Package: aa\nVersion: 1\nArchitecture: all\nConflicts: bb\n\n\
 ///     Package: bb\nVersion: 2\nArchitecture: all\n";
-/// let report = debctl::healthy(false, "amd64", index)?;
+/// let report = healthy(Members::All, false, "amd64", index)?;
 /// assert!(!report.healthy);
 /// assert_eq!(report.reasons[0].package.name, "aa");
 /// assert_eq!(report.text, "conflict 1 aa 1 all Conflicts bb by 2 bb 2 all\n");
+///
+/// let status = "Package: aa\nStatus: deinstall ok config-files\nVersion: 1\n\
+///     Architecture: all\nConflicts: bb\n\n\
+///     Package: bb\nStatus: install ok installed\nVersion: 2\nArchitecture: all\n";
+/// assert!(healthy(Members::Installed, false, "amd64", status)?.healthy);
 /// # Ok::<(), debctl::Error>(())
 /// ```
 pub fn healthy(
+    members: Members,
     recommends: bool,
     target: impl AsRef<[u8]>,
     index: impl AsRef<[u8]>,
 ) -> Result<HealthReport, Error> {
-    let (target, index) = (target.as_ref(), index.as_ref());
-    let call = |out: &mut [u8], length: &mut usize| {
-        library::healthy(u8::from(recommends), (target, index), out, length)
-    };
-    let (answer, text) = written(index.len() + 4096, call);
-    let answer = answered_of(answer, (Kind::Packages, index), (Kind::Packages, index))?;
+    let (target, file) = (target.as_ref(), (members.kind(), index.as_ref()));
+    let asked = (file.0 as u8, u8::from(recommends));
+    let call =
+        |out: &mut [u8], length: &mut usize| library::healthy(asked, (target, file.1), out, length);
+    let (answer, text) = written(file.1.len() + 4096, call);
+    let answer = answered_of(answer, file, file)?;
     let text = string(text);
     Ok(HealthReport {
         healthy: answer.status == library::YES,

@@ -195,7 +195,7 @@ mod tests {
             12 => drop((loaded.packages("p1"), loaded.providers("p1"))),
             13 => drop((loaded.package(1)?, loaded.details(1)?)),
             14 => drop((key("1:2.0~rc1-3")?, canonical("1:2.0~rc1-3")?)),
-            15 => drop(healthy(true, "amd64", old)?),
+            15 => drop(healthy(Members::All, true, "amd64", old)?),
             _ => drop(relations(relation)?),
         }
         Ok(())

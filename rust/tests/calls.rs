@@ -3,7 +3,7 @@
 
 use debctl::{
     check, check_all, compare, diff, explain, explain_all, healthy, key, paragraphs, query,
-    relations, unmet, Asked, Code, Compared, Error, Index, Kind, Refusal, Version,
+    relations, unmet, Asked, Code, Compared, Error, Index, Kind, Members, Refusal, Version,
 };
 use std::collections::HashSet;
 
@@ -95,26 +95,78 @@ fn sets_of_packages_have_lines() -> Result<(), Error> {
         "unmet 1 aa 1 amd64 Recommends cc\n",
     );
     let twice = "duplicate 1 aa 1 amd64 with 2 1 amd64\n";
-    let report = healthy(false, "amd64", &set)?;
+    let report = healthy(Members::All, false, "amd64", &set)?;
     assert_eq!(report.text, format!("{bb}{twice}"));
     assert_eq!(report.to_string(), report.text);
     assert!(!report.healthy);
     assert_eq!(
-        healthy(true, b"amd64", set.as_bytes())?.text,
+        healthy(Members::All, true, b"amd64", set.as_bytes())?.text,
         format!("{bb}{cc}{twice}")
     );
     for set in ["", package, "Package: bb\nVersion: 1\nArchitecture: i386\n"] {
-        let report = healthy(true, "amd64", set)?;
+        let report = healthy(Members::All, true, "amd64", set)?;
         assert!(report.healthy && report.text.is_empty());
     }
     assert_eq!(
-        refused(healthy(true, "any", "x")),
+        refused(healthy(Members::All, true, "any", "x")),
         (Code::BadEnvironment, 0, None)
     );
     let version = Some("Version".to_owned());
     assert_eq!(
-        refused(healthy(false, "amd64", package.replace("01", "1_"))),
+        refused(healthy(
+            Members::All,
+            false,
+            "amd64",
+            package.replace("01", "1_")
+        )),
         (Code::BadVersion, 2, version)
+    );
+    Ok(())
+}
+
+#[test]
+fn a_set_has_the_installed_packages_of_a_status_file() -> Result<(), Error> {
+    let package = |name: &str, status: &str, more: &str| {
+        format!("Package: {name}\nStatus: {status}\nArchitecture: all\nVersion: 01\n{more}\n")
+    };
+    let status = [
+        package("aa", "deinstall ok config-files", "Depends: zz\n"),
+        package("bb", "install ok half-installed", "Conflicts: cc\n"),
+        package(
+            "cc",
+            "install ok installed",
+            "Depends: aa, cc\nRecommends: bb\n",
+        ),
+    ]
+    .concat();
+    let (aa, bb) = (
+        "unmet 1 cc 1 all Depends aa\n",
+        "unmet 1 cc 1 all Recommends bb\n",
+    );
+    let report = healthy(Members::Installed, false, "amd64", &status)?;
+    assert_eq!((report.healthy, report.text.as_str()), (false, aa));
+    assert_eq!(report.reasons[0].package.number, 1);
+    let report = healthy(Members::Installed, true, "amd64", status.as_bytes())?;
+    assert_eq!(report.text, format!("{aa}{bb}"));
+    assert!(healthy(Members::Installed, true, "amd64", "")?.healthy);
+    let all = healthy(Members::All, false, "amd64", &status)?;
+    assert_eq!(
+        all.text,
+        "unmet 1 aa 1 all Depends zz\nconflict 2 bb 1 all Conflicts cc by 3 cc 1 all\n"
+    );
+    assert_eq!(
+        refused(healthy(Members::Installed, true, "any", "x")),
+        (Code::BadEnvironment, 0, None)
+    );
+    let without = "Package: aa\nArchitecture: all\nVersion: 1\n";
+    assert_eq!(
+        refused(healthy(Members::Installed, false, "amd64", without)),
+        (Code::MissingField, 1, Some("Status".to_owned()))
+    );
+    let wrong = status.replacen("01", "1_", 1);
+    assert_eq!(
+        refused(healthy(Members::Installed, false, "amd64", wrong)),
+        (Code::BadVersion, 4, Some("Version".to_owned()))
     );
     Ok(())
 }

@@ -4,8 +4,8 @@
 use debctl::{
     applies, canonical, compare, diff, explain, explain_relation, explain_version, healthy,
     paragraphs, query, query_why, relations, satisfies, spelled_relations, unmet, Alternative,
-    Asked, ChangeKind, Code, Compared, Error, Explanation, HealthFault, Index, Kind, Verdict,
-    Version,
+    Asked, ChangeKind, Code, Compared, Error, Explanation, HealthFault, Index, Kind, Members,
+    Verdict, Version,
 };
 use std::collections::HashMap;
 
@@ -93,7 +93,7 @@ fn a_report_on_a_set_has_reasons() -> Result<(), Error> {
          Package: xx\nVersion: 1\nArchitecture: all\n\n\
          Package: bb\nVersion: 3\nArchitecture: all\n"
     );
-    let report = healthy(false, "amd64", &set)?;
+    let report = healthy(Members::All, false, "amd64", &set)?;
     let texts = |field: &str, group: &str| (field.to_owned(), group.to_owned());
     let index = Index::read(&set)?;
     let package = |number| Ok::<_, Error>(index.package(number)?.expect("a package"));
@@ -128,7 +128,8 @@ fn a_report_on_a_set_has_reasons() -> Result<(), Error> {
     for reason in &report.reasons {
         assert_eq!(reason.package, package(2)?);
     }
-    assert!(!report.healthy && healthy(false, "amd64", INDEX)?.reasons.is_empty());
+    let of_index = healthy(Members::All, false, "amd64", INDEX)?;
+    assert!(!report.healthy && of_index.reasons.is_empty());
     Ok(())
 }
 

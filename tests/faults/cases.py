@@ -263,7 +263,8 @@ def many_paragraphs():
     front = b"".join(text % at + b"\n" for at in numbers[:-1])
     old, new = front + last % 1, front + last % 2
     bad = b"\n".join(text % at + b"Size: x\n" for at in numbers)
-    files = {"old": old, "new": new, "bad": bad, "versions": b"2\n" * 400}
+    status = old.replace(b"Version", b"Status: install ok installed\nVersion")
+    files = {"old": old, "new": new, "bad": bad, "status": status, "versions": b"2\n" * 400}
     refused = [b"line %d: 15 BadNumber\n" % (6 * at - 1) for at in numbers] + [b"ok 0, 400 refused\n"]
     met = b"".join(b" %d p%03d 1 all\n" % (at, at) for at in numbers)
     why = b"".join(
@@ -271,6 +272,7 @@ def many_paragraphs():
     )
     explained = b"file: -\nline: 5\ncode: 15\nname: BadNumber\nfield: Size\nvalue: x\nrule: "
     arch = ["--arch", "amd64"]
+    installed = [*arch, "--installed"]
     audited = b"old: ok 400\nnew: ok 400\n"
     cases = [
         (["check", "old"], b"ok 400\n", 0), (["explain", "old"], b"ok 400\n", 0),
@@ -282,6 +284,9 @@ def many_paragraphs():
         (["query", *arch, "--why", "vv (>= 1)", "old"], b"unmet vv (>= 1)\n" + why, 1),
         (["unmet", *arch, "old", "new"], b"unmet 400 p400 2 all Depends zz\n", 1),
         (["healthy", *arch, "new"], b"unmet 400 p400 2 all Depends zz\n", 1),
+        (["healthy", *installed, "status"], b"unmet 400 p400 1 all Depends zz\n", 1),
+        (["unmet", *installed, "status"], b"unmet 400 p400 1 all Depends zz\n", 1),
+        (["query", *installed, "vv", "status"], b"met vv\n" + met, 0),
         (["sort", "versions"], files["versions"], 0), (["audit", "old", "new"], audited, 0),
         (["check", "--all", "bad"], b"".join(refused), 2),
         (["audit", "--all", "bad"], b"".join(b"bad: " + line for line in refused), 2),

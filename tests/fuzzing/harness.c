@@ -400,6 +400,21 @@ static void try_pair(uint8_t kind, struct deb_text one, struct deb_text two) {
     try_rows(DEB_DIFF_LINES, lines, DEB_YES);
 }
 
+/* The set of a file: an index of its packages is asked about the same ones, a status file of some. */
+static void try_set(uint8_t kind, struct deb_text text, struct deb_text target) {
+    struct written lines;
+    struct deb_answer checked = deb_check(kind, text.bytes, text.length);
+    WRITE(lines, 1, 1, deb_healthy(kind, chosen >> 7, target.bytes, target.length, text.bytes, text.length, out, room, length));
+    int has_set = kind == DEB_PACKAGES || kind == DEB_STATUS;
+    REQUIRE((lines.answer.status == DEB_NO_KIND) == !has_set);
+    if (lines.answer.status <= DEB_NO) {
+        REQUIRE(checked.status == DEB_YES && lines.answer.status == (lines.length > 0));
+        REQUIRE(kind == DEB_PACKAGES ? lines.answer.count == checked.count : lines.answer.count <= checked.count);
+        try_rows(DEB_HEALTH_LINES, lines, DEB_YES);
+    } else if (has_set)
+        REQUIRE(lines.answer.code == DEB_BAD_ENVIRONMENT || agrees(lines.answer, checked));
+}
+
 static void try_index(uint8_t kind, struct deb_text relation, struct deb_text text, struct deb_text target) {
     struct deb_answer answer;
     struct written one, two, numbers, package;
@@ -434,10 +449,11 @@ static void try_index(uint8_t kind, struct deb_text relation, struct deb_text te
     if (one.answer.status <= DEB_NO)
         try_rows(DEB_UNMET_LINES, one, DEB_YES);
     if (one.answer.status <= DEB_NO) {
-        WRITE(two, 2, 1, deb_healthy(chosen >> 7, target.bytes, target.length, text.bytes, text.length, out, room, length));
+        WRITE(two, 2, 1, deb_healthy(DEB_PACKAGES, chosen >> 7, target.bytes, target.length, text.bytes, text.length, out, room, length));
         REQUIRE(two.answer.status <= DEB_NO && two.answer.count == one.answer.count && two.length >= (count ? 0 : one.length));
         try_rows(DEB_HEALTH_LINES, two, DEB_YES);
     }
+    try_set(kind, text, target);
     for (uint64_t number = 0; number <= held + 1 && number < 8; number++) {
         WRITE(package, 3, 1, deb_index_package(index, number, out, room, length));
         WRITE(two, 2, 1, deb_index_details(index, number, out, room, length));

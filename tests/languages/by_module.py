@@ -111,7 +111,8 @@ def answered(call, number, texts, loaded):
         more = b"" if call == "unmet" or relation_agrees(texts[1]) else b"parts differ\n"
         return b"%d 0 0 0\n" % (not it) + by_rows(it.text, it) + more
     if call == "healthy":
-        it = debctl.healthy(texts[1], texts[0], recommends=bool(number))
+        more = {"kind": KINDS[number % 8], "recommends": number >= 8}
+        it = debctl.healthy(texts[1], texts[0], **more)
         return b"%d 0 0 0\n" % (not it) + by_rows(it.text, it)
     if call in ("explain", "explain-relation", "explain-version"):
         return explained(call, number, texts)

@@ -190,7 +190,9 @@ static void try_differences(void) {
 static void try_order(void) {
     const uint8_t *no = bytes("x"), *any = bytes("any");
     const struct deb_text profile = {bytes("No"), 2};
-    size_t length, count;
+    const uint8_t sets[] = {DEB_PACKAGES, DEB_STATUS};
+    const uint8_t others[] = {DEB_BINARY, DEB_SOURCE, DEB_SOURCES, DEB_ANY, 6, 255};
+    size_t length, count, at;
     IS(is(deb_normalise(6, no, 1, NULL, 0, &length), DEB_NO_KIND, 0, 0, 0));
     IS(is(deb_normalise(DEB_ANY, no, 1, NULL, 0, &length), DEB_REFUSED, DEB_NO_COLON, 1, 0));
     IS(is(same(6, "x", "x"), DEB_NO_KIND, 0, 0, 0));
@@ -207,9 +209,18 @@ static void try_order(void) {
           0, 0, 0));
     IS(is(deb_unmet(DEB_SOURCE, 0, any, 3, NULL, 0, no, 1, no, 1, NULL, 0, &length), DEB_REFUSED,
           DEB_BAD_ENVIRONMENT, 0, 0));
-    IS(is(deb_healthy(0, any, 3, no, 1, NULL, 0, &length), DEB_REFUSED, DEB_BAD_ENVIRONMENT, 0, 0));
-    IS(is(deb_healthy(0, any, 2, no, 1, NULL, 0, &length), DEB_REFUSED, DEB_NO_COLON, 1, 0) &&
-       length == 0);
+    for (at = 0; at < sizeof others; at++) {
+        length = 9;
+        IS(is(deb_healthy(others[at], 0, any, 3, no, 1, NULL, 0, &length), DEB_NO_KIND, 0, 0, 0) &&
+           length == 0);
+    }
+    for (at = 0; at < sizeof sets; at++) {
+        IS(is(deb_healthy(sets[at], 0, any, 3, no, 1, NULL, 0, &length), DEB_REFUSED,
+              DEB_BAD_ENVIRONMENT, 0, 0));
+        IS(is(deb_healthy(sets[at], 0, any, 2, no, 1, NULL, 0, &length), DEB_REFUSED, DEB_NO_COLON, 1,
+              0) &&
+           length == 0);
+    }
     IS(is(deb_explain(6, no, 1, NULL, 0, &length), DEB_NO_KIND, 0, 0, 0) && length == 0);
     IS(is(deb_explain(DEB_ANY, no, 1, NULL, 0, &length), DEB_NO_ROOM, 0, 0, 0));
     IS(is(deb_explain_all(6, no, 1, NULL, 0, &length), DEB_NO_KIND, 0, 0, 0) && length == 0);

@@ -105,11 +105,11 @@ static std::string unmet(const std::string &text) {
 }
 
 // Why the packages of a text aren't healthy as a set.
-static std::string unhealthy(const std::string &text) {
+static std::string unhealthy(const std::string &text, deb_kind kind = DEB_PACKAGES) {
     std::vector<uint8_t> out(256);
     size_t length = 0;
-    deb_answer answer = deb_healthy(0, bytes("amd64"), 5, bytes(text), text.size(), out.data(),
-                                    out.size(), &length);
+    deb_answer answer = deb_healthy(kind, 0, bytes("amd64"), 5, bytes(text), text.size(),
+                                    out.data(), out.size(), &length);
     return std::to_string(answer.status) + ' ' + std::string(out.begin(), out.begin() + length);
 }
 
@@ -132,6 +132,9 @@ int main() {
     failed += unhealthy(text) != "0 " ||
               unhealthy(text + "\n" + text) !=
                   "1 duplicate 1 hello 1.0 amd64 with 2 1.0 amd64\n";
-    std::printf("cpp: %d passed, %d failed\n", 12 - failed, failed);
+    const std::string removed = text + "Status: deinstall ok config-files\n\n";
+    failed += unhealthy(removed + text + "Status: install ok installed\n", DEB_STATUS) != "0 " ||
+              unhealthy(text, DEB_STATUS) != "2 " || unhealthy(text, DEB_ANY) != "6 ";
+    std::printf("cpp: %d passed, %d failed\n", 13 - failed, failed);
     return failed != 0;
 }

@@ -90,6 +90,7 @@ TAKE_KIND = {
     "check_all's kind": lambda kind: debctl.check_all(HELLO, kind),
     "explain_all's kind": lambda kind: debctl.explain_all(HELLO, kind),
     "same's kind": lambda kind: debctl.same(HELLO, HELLO, kind),
+    "healthy's kind": lambda kind: debctl.healthy(HELLO, "amd64", kind=kind),
 }
 BYTES_LIKE = [bytes, bytearray, memoryview, lambda text: array.array("B", text)]
 

@@ -91,8 +91,8 @@ static struct deb_answer ask(const struct question *q, uint8_t *out, size_t room
                          target->length, q->profiles, q->profile_count, first->bytes, first->length,
                          second->bytes, second->length, out, room, length);
     if (calls(q, "healthy"))
-        return deb_healthy((uint8_t)q->number, target->bytes, target->length, first->bytes,
-                           first->length, out, room, length);
+        return deb_healthy((uint8_t)(q->number % 8), (uint8_t)(q->number / 8), target->bytes,
+                           target->length, first->bytes, first->length, out, room, length);
     return ask_file(q, out, room, length);
 }
 

@@ -62,6 +62,10 @@ static const char *unhealthy =
     "Package: bb\nVersion: 2\nArchitecture: all\nProvides: mta (= 2), other\n\n"
     "Package: aa\nVersion: 2\nArchitecture: all\n";
 
+static const char *installed =
+    "Package: aa\nStatus: deinstall ok config-files\nVersion: 1\nArchitecture: all\n\n"
+    "Package: bb\nStatus: install ok installed\nVersion: 2\nArchitecture: all\nDepends: aa | cc\n";
+
 static uint8_t out[1024];
 static size_t length;
 
@@ -204,8 +208,11 @@ static struct deb_answer call(int which) {
     case 29:
         return new_index(index_of_two);
     case 30:
-        return deb_healthy(1, bytes("amd64"), 5, bytes(unhealthy), strlen(unhealthy), out, sizeof out,
-                           &length);
+        return deb_healthy(DEB_PACKAGES, 1, bytes("amd64"), 5, bytes(unhealthy), strlen(unhealthy),
+                           out, sizeof out, &length);
+    case 31:
+        return deb_healthy(DEB_STATUS, 1, bytes("amd64"), 5, bytes(installed), strlen(installed), out,
+                           sizeof out, &length);
     default:
         return deb_query(bytes("amd64"), 5, &profile, 1, bytes("hello (>= 1) | xx, mta"), 22, text,
                          size, out, sizeof out, &length);
@@ -223,7 +230,8 @@ int main(void) {
                                   "explain_relation, refused", "explain_relation",
                                   "explain_version, refused",  "explain_version",
                                   "relation_parts",    "reader_feed", "reader_feed, refused",
-                                  "index_new",         "healthy",     "query"};
+                                  "index_new",         "healthy",     "healthy, installed",
+                                  "query"};
     enum { CALLS = sizeof names / sizeof *names };
     static const int statuses[CALLS] = {
         DEB_YES, DEB_YES, DEB_YES, DEB_YES, DEB_REFUSED, DEB_YES,
@@ -231,7 +239,7 @@ int main(void) {
         DEB_YES, DEB_YES, DEB_NO,  DEB_NO,  DEB_REFUSED, DEB_YES,
         DEB_REFUSED, DEB_NO,  DEB_NO,  DEB_YES, DEB_REFUSED, DEB_YES,
         DEB_REFUSED, DEB_YES, DEB_YES, DEB_YES, DEB_REFUSED, DEB_YES,
-        DEB_NO,  DEB_YES,
+        DEB_NO,  DEB_NO,  DEB_YES,
     };
     struct deb_answer reading;
     int which, passed = 0, failed = 0;

@@ -181,6 +181,40 @@ def healthy():
     )
 
 
+def healthy_status():
+    """Whether a status file has the lines of its installed packages, which alone are numbered."""
+    removed = "Package: aa\nStatus: deinstall ok config-files\nVersion: 1\nArchitecture: all\n\n"
+    half = removed.replace("deinstall ok config-files", "install ok half-installed")
+    last = "Package: cc\nStatus: install ok installed\nVersion: 02\nArchitecture: all\nDepends: aa\n"
+    text = removed + half + last + "Recommends: ee\n"
+    ask = functools.partial(debctl.healthy, text, "amd64")
+    lines = ["unmet 1 cc 2 all Depends aa", "unmet 1 cc 2 all Recommends ee"]
+    return (
+        ask(kind="status").text.splitlines() == lines[:1]
+        and ask(kind="status", recommends=True).text.splitlines() == lines
+        and [it.package.number for it in ask(kind="status").reasons] == [1]
+        and ask() == ask(kind="packages") == (False, "duplicate 1 aa 1 all with 2 1 all\n")
+        and debctl.healthy(removed + half, "amd64", kind="status") == (True, "")
+    )
+
+
+def refused_sets():
+    """Whether a status file has its own refusals, and no other kind has an answer."""
+    wrong = "Package: aa\nStatus: deinstall ok config-files\nVersion: 1_\n"
+    others = ["binary", "source", "sources", "any"]
+    refusals = [
+        error(debctl.healthy, text, arch, kind="status")
+        for text, arch in [(wrong, "amd64"), (INDEX, "amd64"), (wrong, "any")]
+    ]
+    return (
+        [(it.name, it.line, it.field) for it in refusals]
+        == [("BadVersion", 3, "Version"), ("MissingField", 1, "Status"), ("BadEnvironment", 0, None)]
+        and [str(error(debctl.healthy, "x", "any", kind=it)) for it in others]
+        == [f"there are no sets of {it!r}" for it in others]
+        and isinstance(error(debctl.healthy, "x", "any", kind="installed"), ValueError)
+    )
+
+
 BB, CC, EE = (
     f"unmet 1 aa 1 amd64 {it}" for it in ("Depends bb", "Depends cc | dd", "Recommends ee")
 )
@@ -214,6 +248,8 @@ TESTS = {
     "unmet, no target": error(debctl.unmet, INDEX, INDEX, "any").line == 0,
     "unmet in a loaded index": as_in_a_loaded_index(),
     "healthy": healthy(),
+    "healthy, of a status file": healthy_status(),
+    "healthy, kinds": refused_sets(),
     "a healthy set": [debctl.healthy(it, "amd64") for it in ("", CONTROL.split("Depends")[0])]
     == [(True, ""), (True, "")],
     "healthy, recommends by name": isinstance(error(debctl.healthy, SET, "amd64", True), TypeError),

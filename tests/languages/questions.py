@@ -8,7 +8,7 @@ ORDERS = {
     "<<": {-1}, "<=": {-1, 0}, "=": {0}, ">=": {0, 1}, ">>": {1},
 }
 LONGEST_RELATION = 16_777_216  # in a file that the program reads; the libraries have no such limit
-FLAGS = ["--recommends", "--all", "--why", "--values"]
+FLAGS = ["--recommends", "--installed", "--all", "--why", "--values"]
 VALUES = ["--kind", "--arch", "--profiles", "--relation", "--version-text", "--relation-from"]
 
 
@@ -73,12 +73,14 @@ def unmet_question(options, others, given):
 
 
 def healthy_question(options, others, given):
-    """A question whether a set is healthy: its number is 1 if Recommends is asked, and its texts are the
-    target and the index."""
+    """A question whether a set is healthy: its number is that of the kind, and 8 more if Recommends is
+    asked; its texts are the target and the file."""
     if len(others) > 1:
         raise Unknown
     texts = [bytes_of(options.pop("--arch")), read(others[0] if others else None, given)]
-    return "healthy", int(options.pop("--recommends", None) is not None), texts
+    kind = "packages" if options.pop("--installed", None) is None else "status"
+    number = KINDS.index(kind) + 8 * (options.pop("--recommends", None) is not None)
+    return "healthy", number, texts
 
 
 def query_question(options, others, given):

@@ -35,6 +35,7 @@ def of_pieces(text):
 
 
 INDEX, NEXT = index("1"), index("2")
+STATUS = INDEX.replace("Version:", "Status: install ok installed\nVersion:")
 SHORT = "a:\n\n" * COUNT
 WRONG = index("1_")
 NEEDS = ",".join(f"a{at}|b{at}(<1)" for at in range(COUNT))
@@ -64,6 +65,7 @@ TESTS = {
     "query, why": (lambda: debctl.query("p1 (>= 3), qq", INDEX, "amd64", why=True).groups, 2),
     "unmet": (lambda: debctl.unmet(INDEX, INDEX, "amd64").groups, 2),
     "healthy": (lambda: debctl.healthy(INDEX, "amd64").reasons, 2),
+    "healthy, of a status file": (lambda: debctl.healthy(STATUS, "amd64", kind="status").reasons, 2),
     "Index": (lambda: debctl.Index(INDEX), 2),  # and frees it
     "Index.query": (lambda: LOADED.query(NAMES, "amd64").groups, 2),
     "Index.unmet": (lambda: LOADED.unmet(INDEX, "amd64").groups, 2),

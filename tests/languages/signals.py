@@ -9,6 +9,7 @@ import time
 import debctl
 
 INDEX = "Package: hello\nVersion: 1\nArchitecture: all\nDepends: bb, cc\n"
+STATUS = "Status: install ok installed\n" + INDEX
 VERSIONS = [f"{at % 7}:{at * 7919 % 1000}.{at}~rc{at % 5}-{at % 11}" for at in range(400)]
 KEYS = {version: debctl.key(version) for version in VERSIONS}
 SORTED = sorted(VERSIONS, key=KEYS.__getitem__)
@@ -23,6 +24,7 @@ FIXED = {
     "query": lambda: debctl.query("hello, bb", INDEX, "amd64"),
     "unmet": lambda: debctl.unmet(INDEX, INDEX, "amd64"),
     "healthy": lambda: debctl.healthy(INDEX, "amd64"),
+    "healthy, of a status file": lambda: debctl.healthy(STATUS, "amd64", kind="status"),
     "paragraphs": lambda: [dict(it) for it in debctl.paragraphs(INDEX)],
     "value": lambda: next(debctl.paragraphs(INDEX, "packages")).canonical("Depends"),
     "diff": lambda: debctl.diff(INDEX, ""),

@@ -185,25 +185,50 @@ static const char set[] = "Package: aa\nVersion: 01\nArchitecture: amd64\nDepend
     "unsure 1 aa 1 amd64 Breaks dd [linux-any] by 3 dd 3 i386\n"                                   \
     "duplicate 1 aa 1 amd64 with 4 2 amd64\n"
 
+/* A status file of a removed package, of one that is half installed, and of an installed one. */
+static const char status_file[] =
+    "Package: aa\nStatus: deinstall ok config-files\nVersion: 1\nArchitecture: all\nDepends: zz\n\n"
+    "Package: bb\nStatus: install ok half-installed\nVersion: 1\nArchitecture: all\n"
+    "Conflicts: cc\n\n"
+    "Package: cc\nStatus: install ok installed\nVersion: 02\nArchitecture: all\nDepends: aa, cc\n"
+    "Recommends: bb\n";
+
 static void try_healthy(void) {
     static const struct {
-        int recommends;
+        int kind, recommends;
         const char *target, *index;
         int status, code;
         uint64_t line, count;
         const char *lines;
     } all[] = {
-        {0, "amd64", set, DEB_NO, 0, 0, 4, UNMET_IN_SET UNHEALTHY},
-        {1, "amd64", set, DEB_NO, 0, 0, 4,
+        {1, 0, "amd64", set, DEB_NO, 0, 0, 4, UNMET_IN_SET UNHEALTHY},
+        {1, 1, "amd64", set, DEB_NO, 0, 0, 4,
          UNMET_IN_SET "unmet 1 aa 1 amd64 Recommends ee\n" UNHEALTHY},
-        {255, "amd64", "Package: aa\nVersion: 1\nArchitecture: all\nRecommends: bb\n", DEB_NO, 0, 0,
-         1, "unmet 1 aa 1 all Recommends bb\n"},
-        {0, "amd64", "Package: aa\nVersion: 1\nArchitecture: all\nRecommends: bb\n", DEB_YES, 0, 0,
-         1, ""},
-        {0, "amd64", "", DEB_YES, 0, 0, 0, ""},
-        {0, "any", "x", DEB_REFUSED, DEB_BAD_ENVIRONMENT, 0, 0, NULL},
-        {0, "", set, DEB_REFUSED, DEB_BAD_ENVIRONMENT, 0, 0, NULL},
-        {1, "amd64", "\nx", DEB_REFUSED, DEB_NO_COLON, 2, 0, NULL},
+        {1, 255, "amd64", "Package: aa\nVersion: 1\nArchitecture: all\nRecommends: bb\n", DEB_NO, 0,
+         0, 1, "unmet 1 aa 1 all Recommends bb\n"},
+        {1, 0, "amd64", "Package: aa\nVersion: 1\nArchitecture: all\nRecommends: bb\n", DEB_YES, 0,
+         0, 1, ""},
+        {1, 0, "amd64", "", DEB_YES, 0, 0, 0, ""},
+        {1, 0, "any", "x", DEB_REFUSED, DEB_BAD_ENVIRONMENT, 0, 0, NULL},
+        {1, 0, "", set, DEB_REFUSED, DEB_BAD_ENVIRONMENT, 0, 0, NULL},
+        {1, 1, "amd64", "\nx", DEB_REFUSED, DEB_NO_COLON, 2, 0, NULL},
+        {1, 0, "amd64", status_file, DEB_NO, 0, 0, 3,
+         "unmet 1 aa 1 all Depends zz\nconflict 2 bb 1 all Conflicts cc by 3 cc 2 all\n"},
+        {5, 0, "amd64", status_file, DEB_NO, 0, 0, 1, "unmet 1 cc 2 all Depends aa\n"},
+        {5, 1, "amd64", status_file, DEB_NO, 0, 0, 1,
+         "unmet 1 cc 2 all Depends aa\nunmet 1 cc 2 all Recommends bb\n"},
+        {5, 0, "amd64", "Package: aa\nStatus: purge ok not-installed\n", DEB_YES, 0, 0, 0, ""},
+        {5, 1, "amd64", "", DEB_YES, 0, 0, 0, ""},
+        {5, 0, "any", "x", DEB_REFUSED, DEB_BAD_ENVIRONMENT, 0, 0, NULL},
+        {5, 0, "amd64", set, DEB_REFUSED, DEB_MISSING_FIELD, 1, 0, NULL},
+        {5, 1, "amd64", "Package: aa\nStatus: deinstall ok config-files\nVersion: 1_\n", DEB_REFUSED,
+         DEB_BAD_VERSION, 3, 0, NULL},
+        {0, 0, "amd64", set, DEB_NO_KIND, 0, 0, 0, NULL},
+        {2, 1, "any", "x", DEB_NO_KIND, 0, 0, 0, NULL},
+        {3, 0, "amd64", "", DEB_NO_KIND, 0, 0, 0, NULL},
+        {4, 255, "amd64", status_file, DEB_NO_KIND, 0, 0, 0, NULL},
+        {6, 0, "", "", DEB_NO_KIND, 0, 0, 0, NULL},
+        {255, 1, "amd64", set, DEB_NO_KIND, 0, 0, 0, NULL},
     };
     size_t at;
     for (at = 0; at < sizeof all / sizeof *all; at++) {
@@ -214,7 +239,7 @@ static void try_healthy(void) {
             struct deb_answer answer;
             memset(out, 7, room + 1);
             length = 99;
-            answer = deb_healthy((uint8_t)all[at].recommends,
+            answer = deb_healthy((uint8_t)all[at].kind, (uint8_t)all[at].recommends,
                                  target ? bytes(all[at].target) : NULL, target,
                                  size ? bytes(all[at].index) : NULL, size, out, room, &length);
             IS(length == whole);

@@ -85,7 +85,8 @@ static void *run(void *wrong) {
         *(int *)wrong += deb_unmet(DEB_PACKAGES, 0, bytes("amd64"), 5, NULL, 0, text, size, text,
                                    size, out, sizeof out, &length)
                              .status != DEB_YES;
-        *(int *)wrong += deb_healthy(0, bytes("amd64"), 5, text, size, out, sizeof out, &length)
+        *(int *)wrong += deb_healthy(DEB_PACKAGES, 0, bytes("amd64"), 5, text, size, out, sizeof out,
+                                     &length)
                              .status != DEB_YES;
         *(int *)wrong += ask_more(text, size);
     }

@@ -7,7 +7,7 @@ from dataclasses import dataclass
 from typing import Iterator, NamedTuple
 
 from laws.changes import changed, lines_with
-from laws.documents import OPERATORS, REQUIRED, SINGLE, VERSIONS
+from laws.documents import OPERATORS, REQUIRED, SINGLE, SPACES, VERSIONS
 from laws.documents import alternative, made, mistaken, read, text_of
 from laws.reasons import FIELDS, Fault, fault_of, nearly
 from laws.refusals import REFUSAL, AllRefusals
@@ -16,6 +16,7 @@ from laws.spelling import planted, respelled, spoiled
 SECONDS = 10
 REASON_LINE = re.compile(rb"^(name|place|reason): (.*)$", re.M)
 GROUP_LINE = re.compile(rb"^(?:met|unmet|ignored) (.+)$", re.M)
+STATUS = re.compile(rb"^status:(.*(?:\n[ \t].*)*)", re.M | re.I)
 KINDS = tuple(REQUIRED)
 
 
@@ -127,6 +128,8 @@ class Asked:
         yield from self.of_reason()
         yield from AllRefusals(self.program, case.kind, case.text).wrong(case.random)
         yield from self.of_planted_faults()
+        if case.kind == "status":
+            yield from self.of_installed(normal)
 
     def of_check(self, normal):
         """`check` and `normalise` agree, and the number of paragraphs is that of the text."""
@@ -245,6 +248,23 @@ class Asked:
         if told != self.as_depends(groups):
             yield f"query of {groups!r}: {shown(answer)}; Depends is {self.as_depends(groups)!r}"
 
+    def of_installed(self, normal):
+        """With `--installed` a status file has the answers that its installed packages have as an
+        index, and its own refusals."""
+        random = self.case.random
+        kept = file_of([it for it in paragraphs_of(normal.out) if is_installed(it)])
+        relation = b", ".join(alternative(random) for _ in range(random.randint(1, 4)))
+        for call, *more in (["healthy"], ["healthy", "--recommends"], ["unmet"], ["query", relation]):
+            words = [call, "--arch", "amd64", *more]
+            answer = self.program.run([*words, "--installed"], [self.case.text])
+            if normal.status == 2:
+                side = b"first: " if call == "unmet" else b""
+                wanted = Answer(b"", side + normal.err, 2)
+            else:
+                wanted = self.program.run(words, [kept])
+            if answer != wanted:
+                yield f"{words!r} with --installed: {shown(answer)}, and not {shown(wanted)}"
+
     def of_bound(self):
         """A package meets a bound where `compare` says so of its version."""
         random = self.case.random
@@ -297,6 +317,14 @@ class Asked:
 def paragraphs_of(text: bytes):
     """The paragraphs of a canonical text, each without its last newline."""
     return text[:-1].split(b"\n\n") if text else []
+
+
+def is_installed(paragraph: bytes) -> bool:
+    """Whether a paragraph of a status file is that of an installed package, as `--installed` reads it."""
+    status = STATUS.search(paragraph)
+    words = SPACES.split(status[1].strip(b" \t\n")) if status else []
+    has = [re.search(rb"(?im)^%s:" % name, paragraph) for name in (b"version", b"architecture")]
+    return len(words) == 3 and words[2] == b"installed" and all(has)
 
 
 def file_of(paragraphs) -> bytes:

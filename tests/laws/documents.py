@@ -45,6 +45,10 @@ TEXTS = (
     *(b"caf\xc3\xa9 \xe2\x82\xac", b"x\n # y\n :\n -----BEGIN PGP", b"a  b\r", b"\x00\x7f"),
     b"y" * 90,
 )
+STATUSES = (
+    *(b"install ok installed", b"deinstall ok config-files", b"install ok half-installed", b"", b"x"),
+    *(b"hold  ok\n\tinstalled", b"install ok Installed", b"ok installed", b"a b installed c"),
+)
 OTHER_NAMES = (b"X", b"x-y--z1", b"Description", b"Files", b"Md5Sum", b"a_b", b"X[y]", b"!", b"A~")
 LINES = (b"", b"Aa <a@b>", b"https://example.org/", b"optional", b"3.9.8")
 ONE_LINE = (b"Maintainer", b"Homepage", b"Section", b"Priority", b"Filename", b"Standards-Version")
@@ -144,6 +148,7 @@ def body_of(random, kind: str, folded: bytes) -> bytes:
         b"essential": (b"yes", b"no"),
         b"multi-arch": (b"no", b"same", b"foreign", b"allowed"),
         b"format": (b"1.0", b"3.0 (quilt)"),
+        b"status": STATUSES,
     }
     if folded == b"architecture" and kind in ("source", "sources"):
         return some(random, ARCHITECTURES, 0, 4)
@@ -173,6 +178,8 @@ def made(random, kind: str) -> Document:
     document = []
     for _ in range(1 if kind in SINGLE else random.choice((1, 1, 2, 3))):
         names = [*REQUIRED[kind], *random.sample(optional, random.randint(1, 7))]
+        if kind == "status" and random.random() < 0.5:
+            names += [b"Version", b"Architecture"]
         paragraph = {}
         for name in names:
             paragraph.setdefault(name.lower(), Field(name, b""))

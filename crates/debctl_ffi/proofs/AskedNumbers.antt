@@ -1,6 +1,9 @@
 -- Numbers that ask something don't ask nothing.
 use Rattle.std.proofs.Common.{◌≡◌, ◌≤◌, ◌<◌, ℕ, Bool, inl, inr, subst, arith}
 use Rattle.std.specs.Prelude.{IsTrue}
+use Rattle.deb_index.specs.Members.{doc_of as doc_of_set}
+use Rattle.deb_index.specs.declared.members.Members.{Members}
+use Rattle.deb_index.specs.declared.members.Members.TheVariants.{All, Installed}
 use Rattle.deb_unmet.specs.Asked.{doc_of}
 use Rattle.deb_unmet.specs.declared.asked.Asked.{Asked}
 use Rattle.deb_unmet.specs.declared.asked.Asked.TheVariants.{Binary, Packages, Source, Sources}
@@ -11,6 +14,7 @@ use Rattle.deb_diff.specs.declared.kind.Kind.{Kind}
 use Rattle.deb_diff.specs.declared.kind.Kind.TheVariants as kinds
 use Rattle.debctl_ffi.specs.Diffs.{ComparesNothing, IsNotCompared, detail_number}
 use Rattle.debctl_ffi.specs.Documents.{kind_number}
+use Rattle.debctl_ffi.specs.Health.{AsksNoSet, AsksSet}
 use Rattle.debctl_ffi.specs.Unmet.{AsksNothing, IsAsked, asks_recommends}
 
 -- a number below 2, and one below 4
@@ -55,3 +59,15 @@ pub compares_something : (kind detail : ℕ) (of : Kind) (how : Detail) → kind
     → detail ≡ detail_number how → ComparesNothing kind detail → ⊥
 compares_something kind detail of how is how_is (inl none) = kinds_compared of (subst IsNotCompared is none)
 compares_something kind detail of how is how_is (inr most) = below_two detail _ how_is (details how) most
+
+-- a number that asks for no set is neither 1 nor 5
+neither : (kind : ℕ) → AsksNoSet kind → (kind ≡ 1 → ⊥) × (kind ≡ 5 → ⊥)
+neither kind (inl e) = (λ is. omega (arith, e, is), λ is. omega (arith, e, is))
+neither kind (inr (inl e)) = (λ is. omega (arith, e, is), λ is. omega (arith, e, is))
+neither kind (inr (inr (inl e))) = (λ is. omega (arith, e, is), λ is. omega (arith, e, is))
+neither kind (inr (inr (inr (inl e)))) = (λ is. omega (arith, e, is), λ is. omega (arith, e, is))
+neither kind (inr (inr (inr (inr most)))) = (λ is. omega (arith, most, is), λ is. omega (arith, most, is))
+
+pub asks_a_set : (kind : ℕ) (members : Members) → AsksSet kind members → AsksNoSet kind → ⊥
+asks_a_set kind All asks none = (neither kind none).0 asks
+asks_a_set kind Installed asks none = (neither kind none).1 asks

@@ -1,17 +1,18 @@
 //! Whether a set of packages is healthy, for programs in C.
 
-ghost use Rattle.std.specs.Prelude.{◌≡◌, ◌∷◌, [], IfErr, IfOk, Some};
+ghost use Rattle.std.specs.Prelude.{◌≡◌, ◌∷◌, [], IfErr, IfNone, IfOk, IfSome, Some};
 ghost use Rattle.deb_base.specs.Faults.{RefusedOrMemory};
-ghost use Rattle.deb_base.specs.declared.doc.Doc.TheVariants.{Packages};
 ghost use Rattle.deb_control.specs.Documents.{refusal_of};
+ghost use Rattle.deb_index.specs.Members.{doc_of};
 ghost use Rattle.deb_relation.specs.Environments.{environment_of};
 ghost use Rattle.debctl_ffi.specs.Answers.{HasStatus};
 ghost use Rattle.debctl_ffi.specs.Buffers.{buffer};
-ghost use Rattle.debctl_ffi.specs.Health.{HasSetLines, IsOfSet, ListsSet, SetFails, strength_of};
+ghost use Rattle.debctl_ffi.specs.Health.{AsksNoSet, AsksSet, HasSetLines, IsOfSet, ListsSet};
+ghost use Rattle.debctl_ffi.specs.Health.{RefusesSet, SetFails, strength_of};
 ghost use Rattle.debctl_ffi.specs.Replies.{Replies};
-ghost use Rattle.debctl_ffi.specs.Unmet.{RefusesAsker, asker, is_set};
+ghost use Rattle.debctl_ffi.specs.Unmet.{asker, is_set};
 
-use crate::answer::{Answer, no_memory, refused, some, yes};
+use crate::answer::{Answer, no_kind, no_memory, refused, some, yes};
 use crate::asker::make_environment;
 use crate::buffer::reply;
 use deb_base::{Fault, SliceSource, VecSink};
@@ -23,15 +24,18 @@ use std::alloc::Global;
 
 /// Writes why a set of packages isn't healthy for a target architecture, a line for each reason, to
 /// the start of `out`, and returns the length of these lines (Debian Policy 7.2 to 7.5). The set is
-/// the packages of an index; what they recommend must be met too if `recommends` isn't 0. Status 0:
-/// there is no line, the set is healthy. 1: there is one. With the number of the packages. 4: `out`
-/// is too small; `len` is the length that it needs. 5: out of memory.
+/// the packages of an index if `kind` is 1, and the installed packages of a status file if it is 5;
+/// what they recommend must be met too if `recommends` isn't 0. Status 0: there is no line, the set
+/// is healthy. 1: there is one. With the number of the packages. 4: `out` is too small; `len` is
+/// the length that it needs. 5: out of memory. 6: `kind` is another number.
 ///
-/// Status 2, refused: the target, with the code 23 and the line 0; else the index, with its first
+/// Status 2, refused: the target, with the code 23 and the line 0; else the file, with its first
 /// refusal. Except for status 0 and 1, `out` is unchanged.
 #[unsafe(no_mangle)]
+#[tactic(auto, using(crate::proofs::AskedNumbers::asks_a_set))]
 pub extern "C" fn deb_healthy(
     alloc: Global,
+    kind: u8,
     recommends: u8,
     target: &[u8],
     index: &[u8],
@@ -39,12 +43,17 @@ pub extern "C" fn deb_healthy(
     len: &mut usize,
 ) -> Answer
     ensures answers { let by = asker target.now [] index.now in
-        Replies (ListsSet (strength_of (is_set recommends)) by) (SetFails by)
+        Replies (ListsSet kind (strength_of (is_set recommends)) by) (SetFails kind by)
         (buffer out.old out.new len.new) result }
-    ensures status { HasStatus result.status (0 ∷ 1 ∷ 2 ∷ 4 ∷ 5 ∷ []) }
+    ensures unknown_kind { AsksNoSet kind → result.status ≡ 6 }
+    ensures status { HasStatus result.status (0 ∷ 1 ∷ 2 ∷ 4 ∷ 5 ∷ 6 ∷ []) }
 {
     *len = 0;
-    match lines_for(alloc, strength_of(recommends != 0), target, index) {
+    let Some(members) = members_of(kind) else {
+        return no_kind();
+    };
+    let strength = strength_of(recommends != 0);
+    match lines_for(alloc, members, strength, target, index) {
         Ok((summary, lines)) => {
             if summary.is_empty {
                 reply(yes(summary.paragraphs), &lines, out, len)
@@ -54,6 +63,18 @@ pub extern "C" fn deb_healthy(
         }
         Err(Fault::Refused(refusal)) => refused(&refusal),
         Err(_) => no_memory(),
+    }
+}
+
+/// Which packages of a file of this kind are a set.
+fn members_of(kind: u8) -> Option<Members>
+    ensures some { IfSome result (AsksSet kind) }
+    ensures none { IfNone result (AsksNoSet kind) }
+{
+    match kind {
+        1 => Some(Members::All),
+        5 => Some(Members::Installed),
+        _ => None,
     }
 }
 
@@ -68,44 +89,47 @@ fn strength_of(recommends: bool) -> Strength
     }
 }
 
-/// The lines of a set in memory, and its summary. Else a refusal: of the target; else of the index.
+/// The lines of a set in memory, and its summary. Else a refusal: of the target; else of the file.
 /// Or out of memory.
 fn lines_for(
     alloc: Global,
+    members: Members,
     strength: Strength,
     target: &[u8],
     index: &[u8],
 ) -> Result<(Summary, Vec<u8>), Fault>
     ensures ok { IfOk result
-        (λ answer. IsOfSet strength (asker target.now [] index.now) answer.0 answer.1.items) }
+        (λ answer. IsOfSet members strength (asker target.now [] index.now) answer.0
+        answer.1.items) }
     ensures fault { IfErr result
-        (λ fault. RefusedOrMemory fault (RefusesAsker (asker target.now [] index.now))) }
+        (λ fault. RefusedOrMemory fault (RefusesSet members (asker target.now [] index.now))) }
 {
     let environment = make_environment(alloc, target, &[])?;
-    lines_in(alloc, &environment, strength, index)
+    lines_in(alloc, &environment, members, strength, index)
 }
 
-/// The lines of a set in memory for an environment, and its summary; or the refusal of the index,
-/// or out of memory.
+/// The lines of a set in memory for an environment, and its summary; or the refusal of the file, or
+/// out of memory.
 fn lines_in(
     alloc: Global,
     environment: &Env,
+    members: Members,
     strength: Strength,
     index: &[u8],
 ) -> Result<(Summary, Vec<u8>), Fault>
     ensures ok { IfOk result
-        (λ answer. HasSetLines strength (environment_of environment.now) index.now answer.0
-        answer.1.items) }
+        (λ answer. HasSetLines members strength (environment_of environment.now) index.now
+        answer.0 answer.1.items) }
     ensures fault { IfErr result
         (λ fault. RefusedOrMemory fault
-        (λ refusal. refusal_of Packages index.now ≡ Some refusal)) }
+        (λ refusal. refusal_of (doc_of members) index.now ≡ Some refusal)) }
 {
     let mut sink = VecSink::new(alloc);
     let mut source = SliceSource::new(index);
     match healthy(
         alloc,
         environment,
-        Members::All,
+        members,
         strength,
         &mut source,
         &mut sink,

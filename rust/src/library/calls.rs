@@ -178,16 +178,17 @@ pub fn unmet(
     )
 }
 
-/// Recommends is asked too unless `recommends` is 0.
+/// `asked` is the kind of the file, and whether Recommends is asked.
 pub fn healthy(
-    recommends: u8,
+    asked: (u8, u8),
     (target, index): (&[u8], &[u8]),
     out: &mut [u8],
     length: &mut usize,
 ) -> Answer {
     written!(
         deb_healthy(
-            recommends,
+            asked.0,
+            asked.1,
             target.as_ptr(),
             target.len(),
             index.as_ptr(),

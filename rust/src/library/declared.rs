@@ -268,6 +268,7 @@ extern "C" {
         length: *mut usize,
     ) -> Answer;
     pub fn deb_healthy(
+        kind: u8,
         recommends: u8,
         target: *const u8,
         target_length: usize,
