@@ -5,3 +5,4 @@ pub mod Kept
 pub mod Health
 pub mod States
 pub mod Laws
+pub mod Changes

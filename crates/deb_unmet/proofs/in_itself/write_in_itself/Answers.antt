@@ -36,3 +36,8 @@ returns-clause-counts_read_failure g c = c.in_ok-index.ensures.counts_read_failu
 
 pub returns-clause-fault_iff_write_failed : goal.returns-clause-fault_iff_write_failed
 returns-clause-fault_iff_write_failed g c = write_told _ _ c.write_kept.result c.write_kept.ensures.counts_failure
+
+pub returns-in_err-index-clause-refused : goal.returns-in_err-index-clause-refused
+returns-in_err-index-clause-refused g c = λ text told.
+    let p = err_from_is_err_and c.from_residual.result c.from_residual.ensures.1 in
+    rw (p.1, p.2) (rw c.members.ensures at c.in_err-index.ensures.refused text told)
