@@ -19,7 +19,6 @@ use Rattle.deb_control.specs.CheckedStates.{passing_judged}
 use Rattle.deb_control.specs.Documents.{Meaning, Accepted}
 use Rattle.deb_control.specs.FieldTexts.{HasTexts, KeepsTexts}
 use Rattle.deb_control.specs.GivenParagraphs.{AreNext}
-use Rattle.deb_control.specs.Pairs.{Pairwise}
 use Rattle.deb_control.specs.Paragraphs.{AreValuesOf}
 use Rattle.deb_control.specs.ValueFiles.{ValueEntries}
 use Rattle.deb_control.specs.Visiting.{VisitsValues}

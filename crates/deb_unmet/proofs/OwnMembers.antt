@@ -1,8 +1,8 @@
 -- The members among the paragraphs of a file, and their lines.
-use Rattle.std.proofs.Common.{◌≡◌, ℕ, suc, ◌+◌, Bool, true, false, cond, List, [], ◌∷◌, ◌++◌, length, refl, sym, ap, ◌∙◌, subst, arith}
+use Rattle.std.proofs.Common.{◌≡◌, ℕ, ◌+◌, Bool, true, false, cond, List, [], ◌∷◌, ◌++◌, length, refl, sym, ap, ◌∙◌, subst, arith}
 use Rattle.std.specs.List.{filter}
 use Rattle.deb_base.specs.declared.doc.Doc.TheVariants as docs
-use Rattle.deb_syntax.specs.Answers.{Seen, next_answer}
+use Rattle.deb_syntax.specs.Answers.{Seen}
 use Rattle.deb_syntax.specs.Fields.{Field}
 use Rattle.deb_field.specs.Values.{ValueMeaning}
 use Rattle.deb_control.specs.Documents.{Meaning, Accepted}
@@ -126,17 +126,19 @@ module _ (members : Members) where
   up-to [] meaning same (d ∷ done) rest (v ∷ values) others is meant_is long = absurd (cc)
   up-to (seen ∷ given) [] same (d ∷ done) rest (v ∷ values) others is meant_is long = absurd same
   up-to (seen ∷ given) (w ∷ meaning) same (d ∷ done) rest (v ∷ values) others is meant_is long =
-      go (has_values members w) refl same.0 is meant_is
+      go (has_values members w) refl same.0 is meant_is (λ done_later values_later one other length_is. up-to given meaning same.1 done_later rest values_later others one other length_is)
     where
-      go : (t : Bool) → has_values members w ≡ t → has_seen members seen ≡ has_values members w → cond (has_seen members seen) (seen ∷ seen_in members given) (seen_in members given) ≡ d ∷ (done ++ rest) → cond (has_values members w) (w ∷ filter (has_values members) meaning) (filter (has_values members) meaning) ≡ v ∷ (values ++ others) → UpTo (seen ∷ given) (w ∷ meaning) (d ∷ done) (v ∷ values)
-      go true w_is seen_is one other =
+      go : (t : Bool) → has_values members w ≡ t → has_seen members seen ≡ has_values members w → cond (has_seen members seen) (seen ∷ seen_in members given) (seen_in members given) ≡ d ∷ (done ++ rest) → cond (has_values members w) (w ∷ filter (has_values members) meaning) (filter (has_values members) meaning) ≡ v ∷ (values ++ others)
+          → ((done_later : List Seen) (values_later : Meaning) → seen_in members given ≡ done_later ++ rest → filter (has_values members) meaning ≡ values_later ++ others → length values_later ≡ length done_later → UpTo given meaning done_later values_later)
+          → UpTo (seen ∷ given) (w ∷ meaning) (d ∷ done) (v ∷ values)
+      go true w_is seen_is one other again =
           let here = rw (seen_is, w_is) at one in
           let there = rw w_is at other in
           let d_is : seen ≡ d = cc in
           let more_is : seen_in members given ≡ done ++ rest = cc in
           let v_is : w ≡ v = cc in
           let meant_more : filter (has_values members) meaning ≡ values ++ others = cc in
-          let up = up-to given meaning same.1 done rest values others more_is meant_more (omega (arith, long)) in
+          let up = again done values more_is meant_more (omega (arith, long)) in
           record {
             first = seen ∷ up.first;
             behind = up.behind;
@@ -148,8 +150,8 @@ module _ (members : Members) where
             are_done = rw (seen_is, w_is) (ap (λ l. seen ∷ l) up.are_done ∙ ap (λ x. x ∷ done) d_is);
             are_values = rw w_is (ap (λ l. w ∷ l) up.are_values ∙ ap (λ x. x ∷ values) v_is);
           }
-      go false w_is seen_is one other =
-          let up = up-to given meaning same.1 (d ∷ done) rest (v ∷ values) others (rw (seen_is, w_is) at one) (rw w_is at other) long in
+      go false w_is seen_is one other again =
+          let up = again (d ∷ done) (v ∷ values) (rw (seen_is, w_is) at one) (rw w_is at other) long in
           record {
             first = seen ∷ up.first;
             behind = up.behind;
