@@ -1,5 +1,5 @@
 -- What a further package changes.
-use Rattle.std.proofs.Common.{◌≡◌, ◌⊎◌, ℕ, Bool, true, false, cond, not, ◌&&◌, ◌||◌, is_none, List, [], ◌∷◌, ◌++◌, Option, None, Some, codes, refl, sym, ap, ◌∙◌, subst, inl, inr}
+use Rattle.std.proofs.Common.{◌≡◌, ℕ, Bool, true, false, cond, not, ◌&&◌, ◌||◌, is_none, List, [], ◌∷◌, ◌++◌, Option, None, Some, codes, refl, sym, ap, ◌∙◌}
 use Rattle.std.specs.List.{list_all, list_any}
 use Rattle.std.specs.Str.{bytes_eq}
 use Rattle.std.proofs.lemmas.Bool.{false≢true}
@@ -19,8 +19,6 @@ use Rattle.deb_unmet.specs.Readings.{applies_by, may, surely}
 use Rattle.deb_unmet.specs.Troubles.{can_be_otherwise, can_be_unmet, is_met, trouble}
 use Rattle.deb_unmet.specs.declared.asked.Asked.TheVariants.{Packages}
 use Rattle.deb_unmet.specs.declared.asked.Strength.{Strength}
-use Rattle.deb_unmet.specs.declared.trouble.Trouble.{Trouble}
-use Rattle.deb_unmet.specs.declared.trouble.Trouble.TheVariants.{Unmet, Unsure}
 use Rattle.deb_health.specs.Changes.{AddingRemovesUnmetAtMost, fits}
 use Rattle.deb_health.specs.Excluding.{excludes, is_spoken_of}
 use Rattle.deb_health.specs.Health.{are_apart, is_abundant, is_healthy, is_peaceful}
@@ -28,25 +26,16 @@ use Rattle.deb_health.specs.Lines.{negative_fields}
 use Rattle.deb_health.specs.Together.{rules_out}
 use Rattle.deb_health.proofs.Growing.{all-both, all-grows, all-true, all-where, and-grows, any-grows, both-true, not-grows, or-grows}
 use Rattle.deb_health.proofs.Rearranged.{filter-skipping}
-use Rattle.deb_health.proofs.SameReasons.{apart-rearranged, healthy-rearranged, troubles-rearranged}
+use Rattle.deb_health.proofs.SameReasons.{apart-rearranged, healthy-rearranged, otherwise-rearranged, troubles-rearranged}
 
-abbrev trouble_by : Bool → Bool → Option Trouble
-trouble_by unmet other = cond unmet (cond other (Some Unsure) (Some Unmet)) None
+-- A group that has no line has none if it can be unmet only if it could.
+stays-none : {X : Type 0} (a b : X) (unmet less other more : Bool) → (less ≡ true → unmet ≡ true) → cond unmet (cond other (Some a) (Some b)) None ≡ None → cond less (cond more (Some a) (Some b)) None ≡ None
+stays-none a b unmet false other more back is = refl
+stays-none a b true true true more back is = absurd cc
+stays-none a b true true false more back is = absurd cc
+stays-none a b false true other more back is = absurd (false≢true (back refl))
 
--- What becomes of a line if its group can be unmet only if it could, and otherwise if it could.
-stays-none : (unmet less other more : Bool) → (less ≡ true → unmet ≡ true) → trouble_by unmet other ≡ None → trouble_by less more ≡ None
-stays-none unmet false other more back is = refl
-stays-none true true true more back is = absurd cc
-stays-none true true false more back is = absurd cc
-stays-none false true other more back is = absurd (false≢true (back refl))
-
-stays-unsure : (unmet less other more : Bool) → (other ≡ true → more ≡ true) → trouble_by unmet other ≡ Some Unsure → (trouble_by less more ≡ Some Unsure) ⊎ (trouble_by less more ≡ None)
-stays-unsure unmet false other more on is = inr refl
-stays-unsure true true true more on is = inl (ap (λ v. trouble_by true v) (on refl))
-stays-unsure true true false more on is = absurd cc
-stays-unsure false true other more on is = absurd cc
-
-none-is : (why : Option Trouble) → is_none why ≡ true → why ≡ None
+none-is : {X : Type 0} (why : Option X) → is_none why ≡ true → why ≡ None
 none-is None is = refl
 none-is (Some why) is = absurd (false≢true is)
 
@@ -87,7 +76,7 @@ module _ (packages : List Listed) (p : Listed) where
         (any-grows (λ a. sure a && met a) (λ a. sure a && more a) (λ a. and-grows (sure a) (sure a) (met a) (more a) (λ e. e) (met-more a)) group))
         (any-grows (λ a. some a && not (more a)) (λ a. some a && not (met a)) (λ a. and-grows (some a) (some a) (not (more a)) (not (met a)) (λ e. e) (not-grows (more a) (met a) (met-more a))) group)
 
-    otherwise-more : (group : Group) → can_be_otherwise environment packages group ≡ true → can_be_otherwise environment (p ∷ packages) group ≡ true
+    pub otherwise-more : (group : Group) → can_be_otherwise environment packages group ≡ true → can_be_otherwise environment (p ∷ packages) group ≡ true
     otherwise-more group =
         let some : Alternative → Bool = λ a. may (applies_by environment a) in
         let met = is_met environment packages in
@@ -98,10 +87,7 @@ module _ (packages : List Listed) (p : Listed) where
         (λ e. e)
 
     pub none-stays : (group : Group) → trouble environment packages group ≡ None → trouble environment (p ∷ packages) group ≡ None
-    none-stays group = stays-none (can_be_unmet environment packages group) (can_be_unmet environment (p ∷ packages) group) (can_be_otherwise environment packages group) (can_be_otherwise environment (p ∷ packages) group) (unmet-less group)
-
-    pub unsure-stays : (group : Group) → trouble environment packages group ≡ Some Unsure → (trouble environment (p ∷ packages) group ≡ Some Unsure) ⊎ (trouble environment (p ∷ packages) group ≡ None)
-    unsure-stays group = stays-unsure (can_be_unmet environment packages group) (can_be_unmet environment (p ∷ packages) group) (can_be_otherwise environment packages group) (can_be_otherwise environment (p ∷ packages) group) (otherwise-more group)
+    none-stays group = stays-none _ _ (can_be_unmet environment packages group) (can_be_unmet environment (p ∷ packages) group) (can_be_otherwise environment packages group) (can_be_otherwise environment (p ∷ packages) group) (unmet-less group)
 
   module _ (strength : Strength) (environment : Environment) where
     abbrev own : ValueEntries ValueMeaning → Environment
@@ -163,8 +149,7 @@ adding before after p =
     let more = p ∷ (before ++ after) in
     record {
       no_line_stays_none = λ environment group none. troubles-rearranged (before ++ p ∷ after) more moved environment group ∙ none-stays (before ++ after) p environment group none;
-      unsure_stays_or_goes = λ environment group unsure.
-          subst (λ why. (why ≡ Some Unsure) ⊎ (why ≡ None)) (sym (troubles-rearranged (before ++ p ∷ after) more moved environment group)) (unsure-stays (before ++ after) p environment group unsure);
+      otherwise_stays = λ environment group other. otherwise-rearranged (before ++ p ∷ after) more moved environment group ∙ otherwise-more (before ++ after) p environment group other;
       excludes_the_same = λ target name a. filter-skipping (excludes target name a) before after p;
       rules_out_the_same = λ target q. filter-skipping (rules_out target q) before after p;
       apart_alike = λ target none. apart-rearranged target (before ++ p ∷ after) more moved ∙ ap (λ v. not v && are_apart target (before ++ after)) none;

@@ -1,5 +1,5 @@
 -- There is no line exactly if the set is healthy.
-use Rattle.std.proofs.Common.{◌≡◌, ℕ, ◌+◌, ◌<◌, ◌≤◌, ltb, Bool, true, false, cond, not, ◌&&◌, ◌||◌, is_none, List, [], ◌∷◌, ◌++◌, length, Option, None, Some, codes, append_assoc, refl, sym, ap, ◌∙◌, arith}
+use Rattle.std.proofs.Common.{◌≡◌, ℕ, ◌+◌, ◌<◌, ◌≤◌, ltb, Bool, true, false, cond, not, ◌&&◌, ◌||◌, is_none, List, [], ◌∷◌, ◌++◌, length, codes, append_assoc, refl, sym, ap, ◌∙◌, arith}
 use Rattle.std.specs.List.{filter, flat_map, list_all, list_any}
 use Rattle.std.specs.Option.{option_map_or}
 use Rattle.std.proofs.lemmas.List.{length_push}
@@ -15,7 +15,7 @@ use Rattle.deb_index.specs.Listed.{Listed}
 use Rattle.deb_index.specs.Listing.{Lists}
 use Rattle.deb_index.specs.Members.{has_values}
 use Rattle.deb_index.specs.declared.members.Members.{Members}
-use Rattle.deb_index.specs.Named.{numbers_from, numbers_of, package_at}
+use Rattle.deb_index.specs.Named.{numbers_from, numbers_of}
 use Rattle.deb_index.specs.Reports.{Numbered}
 use Rattle.deb_index.proofs.Numbered.{at-front}
 use Rattle.deb_unmet.specs.Asked.{fields_with}

@@ -20,10 +20,9 @@ use Rattle.deb_index.proofs.Numbered.{at-front}
 use Rattle.deb_unmet.specs.Asked.{fields_asked, fields_with}
 use Rattle.deb_unmet.specs.Fields.{environment_for, heading, paragraph_lines}
 use Rattle.deb_unmet.specs.Readings.{applies_by, may, surely}
-use Rattle.deb_unmet.specs.Troubles.{trouble, trouble_line}
+use Rattle.deb_unmet.specs.Troubles.{can_be_otherwise, can_be_unmet, is_met, trouble, trouble_line}
 use Rattle.deb_unmet.specs.declared.asked.Asked.TheVariants.{Packages}
 use Rattle.deb_unmet.specs.declared.asked.Strength.{Strength}
-use Rattle.deb_unmet.specs.declared.trouble.Trouble.TheVariants.{Unmet, Unsure}
 use Rattle.deb_health.specs.Changes.{HaveSameReasons, RearrangingChangesNoReason}
 use Rattle.deb_health.specs.Excluding.{excludes}
 use Rattle.deb_health.specs.Health.{are_apart, is_abundant, is_healthy, is_peaceful}
@@ -99,14 +98,22 @@ named-from test front (p ∷ rest) n is =
     ∙ ap (λ l. cond (test p) (Some p ∷ l) l) more
     ∙ sym (map-cond (λ q. Some q) (test p) p (filter test rest))
 
+same-choice : {X : Type 0} (a b : X) (u v o w : Bool) → u ≡ v → o ≡ w → cond u (cond o (Some a) (Some b)) None ≡ cond v (cond w (Some a) (Some b)) None
+same-choice a b u v o w us os = ap (λ t. cond t (cond o (Some a) (Some b)) None) us ∙ ap (λ t. cond v (cond t (Some a) (Some b)) None) os
+
 -- What follows for a list of packages in another order.
 module _ (packages others : List Listed) (moved : IsPermutation packages others) where
+  met-rearranged : (environment : Environment) (a : Alternative) → is_met environment packages a ≡ is_met environment others a
+  met-rearranged environment a = list_any-IsPermutation (meets environment a) packages others moved
+
+  unmet-rearranged : (environment : Environment) (group : Group) → can_be_unmet environment packages group ≡ can_be_unmet environment others group
+  unmet-rearranged environment group = λ i. not (list_any (λ a. surely (applies_by environment a) && met-rearranged environment a i) group) && list_any (λ a. may (applies_by environment a) && not (met-rearranged environment a i)) group
+
+  pub otherwise-rearranged : (environment : Environment) (group : Group) → can_be_otherwise environment packages group ≡ can_be_otherwise environment others group
+  otherwise-rearranged environment group = λ i. list_any (λ a. may (applies_by environment a) && met-rearranged environment a i) group || not (list_any (λ a. surely (applies_by environment a)) group)
+
   pub troubles-rearranged : (environment : Environment) (group : Group) → trouble environment packages group ≡ trouble environment others group
-  troubles-rearranged environment group =
-      let met : (a : Alternative) → list_any (meets environment a) packages ≡ list_any (meets environment a) others = λ a. list_any-IsPermutation (meets environment a) packages others moved in
-      λ i. cond (not (list_any (λ a. surely (applies_by environment a) && met a i) group) && list_any (λ a. may (applies_by environment a) && not (met a i)) group)
-      (cond (list_any (λ a. may (applies_by environment a) && met a i) group || not (list_any (λ a. surely (applies_by environment a)) group)) (Some Unsure) (Some Unmet))
-      None
+  troubles-rearranged environment group = same-choice _ _ _ _ _ _ (unmet-rearranged environment group) (otherwise-rearranged environment group)
 
   module _ (strength : Strength) (environment : Environment) (values : ValueEntries ValueMeaning) where
     abbrev own : Environment

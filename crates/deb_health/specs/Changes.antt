@@ -1,7 +1,7 @@
 -- Laws of a set that changes. In another order it has the same lines, but for their order and their
 -- numbers. A package that excludes none and is excluded by none removes lines of unmet groups at
 -- most, if it is added. Debian Policy 7.2 to 7.5.
-use Rattle.std.specs.Prelude.{◌≡◌, ◌⊎◌, ℕ, ◌&&◌, Bool, true, false, not, List, [], ◌∷◌, ◌++◌, map, None, Some, codes, refl}
+use Rattle.std.specs.Prelude.{◌≡◌, ℕ, ◌&&◌, Bool, true, false, not, List, [], ◌∷◌, ◌++◌, map, None, Some, codes, refl}
 use Rattle.std.specs.List.{filter, list_all, list_any}
 use Rattle.std.specs.List.Sorted.{IsPermutation}
 use Rattle.deb_relation.specs.Applying.{Environment}
@@ -15,11 +15,10 @@ use Rattle.deb_index.specs.Alternatives.{alone}
 use Rattle.deb_index.specs.Listed.{Listed}
 use Rattle.deb_index.specs.Named.{numbers_of, package_at}
 use Rattle.deb_unmet.specs.Fields.{paragraph_lines}
-use Rattle.deb_unmet.specs.Troubles.{trouble}
+use Rattle.deb_unmet.specs.Troubles.{can_be_otherwise, trouble}
 use Rattle.deb_unmet.specs.declared.asked.Asked.TheVariants.{Packages}
 use Rattle.deb_unmet.specs.declared.asked.Strength.{Strength}
 use Rattle.deb_unmet.specs.declared.asked.Strength.TheVariants.{Depends}
-use Rattle.deb_unmet.specs.declared.trouble.Trouble.TheVariants.{Unsure}
 use Rattle.deb_health.specs.Excluding.{excludes}
 use Rattle.deb_health.specs.Health.{are_apart, is_abundant, is_healthy, is_peaceful}
 use Rattle.deb_health.specs.Lines.{listed}
@@ -69,18 +68,17 @@ fits strength environment packages meaning p values =
     && not (list_any (rules_out environment.target p) packages))
 
 -- What changes for a set if a package is added at any place. A group without a line still has none.
--- A line that says `unsure` stays or goes; one that says `unmet` may also say `unsure` from then on.
--- An alternative that doesn't exclude the added package excludes the same ones as before, and a
+-- One that can be met or ignored still can: a line that says `unsure` stays or goes, and one that
+-- says `unmet` may also say `unsure` from then on. An alternative that doesn't exclude the added package excludes the same ones as before, and a
 -- package that doesn't rule it out rules out the same ones. A healthy set stays healthy exactly if
 -- the added package fits.
 pub record AddsNoReason (before after : List Listed) (p : Listed) : Type 0 where
   pub no_line_stays_none : (environment : Environment) (group : Group)
       → trouble environment (before ++ after) group ≡ None
       → trouble environment (before ++ p ∷ after) group ≡ None
-  pub unsure_stays_or_goes : (environment : Environment) (group : Group)
-      → trouble environment (before ++ after) group ≡ Some Unsure
-      → (trouble environment (before ++ p ∷ after) group ≡ Some Unsure)
-      ⊎ (trouble environment (before ++ p ∷ after) group ≡ None)
+  pub otherwise_stays : (environment : Environment) (group : Group)
+      → can_be_otherwise environment (before ++ after) group ≡ true
+      → can_be_otherwise environment (before ++ p ∷ after) group ≡ true
   pub excludes_the_same : (target name : List ℕ) (a : Alternative)
       → excludes target name a p ≡ false
       → filter (excludes target name a) (before ++ p ∷ after)

@@ -6,7 +6,7 @@ use Rattle.deb_version.specs.Places.{version_in}
 use Rattle.deb_relation.specs.Meaning.{Alternative}
 use Rattle.deb_relation.specs.declared.operator.Op.TheVariants.{Earlier}
 use Rattle.deb_index.specs.Alternatives.{alone, with_bound, with_qualifier}
-use Rattle.deb_index.specs.Listed.{Listed, Provision}
+use Rattle.deb_index.specs.Listed.{Listed}
 use Rattle.deb_index.specs.Meeting.{effective, meets_by_name}
 
 -- Conflicts and Breaks speak of packages of every architecture where they have no qualifier or the

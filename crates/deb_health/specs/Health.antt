@@ -1,7 +1,7 @@
 -- Which sets of packages are healthy: what each package depends on is there, and none excludes
 -- another. Debian Policy 7.2 to 7.5; the two conditions are those of Mancinelli and others,
 -- 'Managing the Complexity of Large Free and Open Source Package-Based Software Distributions'.
-use Rattle.std.specs.Prelude.{◌≡◌, ℕ, ◌&&◌, Bool, true, false, not, List, [], ◌∷◌, map, is_none, None, codes, refl}
+use Rattle.std.specs.Prelude.{◌≡◌, ℕ, ◌&&◌, Bool, true, false, not, List, [], ◌∷◌, is_none, codes, refl}
 use Rattle.std.specs.Fmt.{digits}
 use Rattle.std.specs.List.{list_all, list_any}
 use Rattle.deb_base.specs.declared.version_text.VersionText.TheVariants.{Canonical}

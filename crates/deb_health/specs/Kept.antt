@@ -1,10 +1,9 @@
 -- What is kept of a package until the whole set is read. Debian Policy 7.2 to 7.4; which texts are
 -- kept is this project's own.
-use Rattle.std.specs.Prelude.{◌≡◌, ℕ, List, [], ◌∷◌, codes, refl}
-use Rattle.deb_relation.specs.Regular.{IsRegularRelation}
+use Rattle.std.specs.Prelude.{List, codes}
 use Rattle.deb_syntax.specs.Fields.{Field}
 use Rattle.deb_field.specs.Values.{ValueMeaning}
-use Rattle.deb_control.specs.FieldWords.{groups_of, value_under}
+use Rattle.deb_control.specs.FieldWords.{value_under}
 use Rattle.deb_control.specs.ValueFiles.{ValueEntries}
 use Rattle.deb_unmet.specs.KeptParagraphs.{HoldsTexts}
 use Rattle.deb_unmet.specs.Paragraphs.{IsRelationText}

@@ -1,6 +1,6 @@
 -- The lines of one package of a set. Debian Policy 7.2 to 7.5; the form of the lines is this
 -- project's own.
-use Rattle.std.specs.Prelude.{◌≡◌, ℕ, false, cond, List, [], ◌∷◌, ◌++◌, map, ltb, Option, Some, None, codes, refl}
+use Rattle.std.specs.Prelude.{◌≡◌, ℕ, false, cond, List, [], ◌∷◌, ◌++◌, map, ltb, Some, None, codes, refl}
 use Rattle.std.specs.Fmt.{decimal, digits}
 use Rattle.std.specs.List.{concat, filter, flat_map}
 use Rattle.std.specs.Option.{option_map_or}
@@ -8,10 +8,9 @@ use Rattle.deb_version.specs.Canonical.{version_text}
 use Rattle.deb_version.specs.Places.{version_in}
 use Rattle.deb_relation.specs.Applying.{Environment}
 use Rattle.deb_relation.specs.Environments.{environment_with}
-use Rattle.deb_relation.specs.Meaning.{Alternative, Group, Relation}
+use Rattle.deb_relation.specs.Meaning.{Alternative, Group}
 use Rattle.deb_relation.specs.Texts.{group_text}
 use Rattle.deb_field.specs.Values.{ValueMeaning, NameMeans, VersionMeans, ArchitectureMeans, RelationMeans}
-use Rattle.deb_field.specs.declared.flag.MultiArch.{MultiArch}
 use Rattle.deb_field.specs.declared.flag.MultiArch.TheVariants.{Same}
 use Rattle.deb_control.specs.FieldWords.{groups_of, value_under, word_under}
 use Rattle.deb_control.specs.ValueFiles.{ValueEntries}
@@ -26,7 +25,7 @@ use Rattle.deb_unmet.specs.declared.applying.Applies.{Applies}
 use Rattle.deb_unmet.specs.declared.applying.Applies.TheVariants.{Surely, Maybe, Never}
 use Rattle.deb_unmet.specs.declared.asked.Asked.TheVariants.{Packages}
 use Rattle.deb_unmet.specs.declared.asked.Strength.{Strength}
-use Rattle.deb_unmet.specs.declared.asked.Strength.TheVariants.{Depends, Recommends}
+use Rattle.deb_unmet.specs.declared.asked.Strength.TheVariants.{Depends}
 use Rattle.deb_health.specs.Excluding.{excludes}
 use Rattle.deb_health.specs.Together.{rules_out}
 

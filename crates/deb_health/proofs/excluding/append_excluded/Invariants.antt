@@ -1,5 +1,5 @@
 -- The lines of the numbers so far.
-use Rattle.std.proofs.Common.{◌≡◌, ◌++◌, take, option_copied}
+use Rattle.std.proofs.Common.{◌≡◌, ◌++◌, take}
 use Rattle.std.specs.List.{flat_map}
 use Rattle.deb_relation.specs.Views.{alternative_of}
 use Rattle.deb_index.specs.Indexes.{packages_of}

@@ -1,10 +1,7 @@
 -- The lines of the groups so far.
-use Rattle.std.proofs.Common.{◌≡◌, List, ℕ, ◌++◌, length}
+use Rattle.std.proofs.Common.{◌≡◌, ◌++◌, length}
 use Rattle.std.specs.List.{flat_map}
-use Rattle.deb_relation.specs.Environments.{environment_of}
-use Rattle.deb_relation.specs.Meaning.{Group}
 use Rattle.deb_index.specs.CanonicalTexts.{OfRelation}
-use Rattle.deb_index.specs.Indexes.{packages_of}
 use Rattle.deb_index.proofs.TextPieces.{GroupsRead}
 use Rattle.deb_health.proofs.Exclusions.{groups_of}
 use Rattle.deb_health.proofs.excluding.append_exclusions.Given as goal

@@ -1,6 +1,5 @@
-use Rattle.std.proofs.Common.{◌≡◌, ◌++◌, append-nil, sym, ap, ◌∙◌, subst}
+use Rattle.std.proofs.Common.{◌≡◌, ◌++◌, append-nil, sym, ap, ◌∙◌}
 use Rattle.std.specs.List.{flat_map}
-use Rattle.deb_relation.specs.Texts.{group_text}
 use Rattle.deb_index.proofs.TextPieces.{alternatives_all, alternatives_more, alternatives_none, lines_more}
 use Rattle.deb_health.proofs.Exclusions.{alternatives_of}
 use Rattle.deb_health.proofs.excluding.append_group.Goals as goal

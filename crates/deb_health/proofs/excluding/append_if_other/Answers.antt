@@ -1,4 +1,4 @@
-use Rattle.std.proofs.Common.{rules, ◌≡◌, ◌++◌, [], cond, false, append_assoc, sym, ap, ◌∙◌}
+use Rattle.std.proofs.Common.{rules, ◌++◌, [], cond, false, append_assoc, sym, ap, ◌∙◌}
 use Rattle.std.specs.Option.{option_map_or}
 use Rattle.std.proofs.Common.{option_copied}
 use Rattle.deb_index.specs.Kept.{listed_of}

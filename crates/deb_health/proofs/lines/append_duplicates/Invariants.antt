@@ -1,7 +1,6 @@
 -- The lines of the numbers so far.
-use Rattle.std.proofs.Common.{◌≡◌, ◌++◌, ◌&&◌, [], cond, false, ltb, not, take}
+use Rattle.std.proofs.Common.{◌≡◌, ◌++◌, not, take}
 use Rattle.std.specs.List.{flat_map}
-use Rattle.std.specs.Option.{option_map_or}
 use Rattle.deb_relation.specs.Environments.{environment_of}
 use Rattle.deb_index.specs.Indexes.{packages_of}
 use Rattle.deb_index.specs.Kept.{listed_of}
