@@ -69,9 +69,9 @@ fits strength environment packages meaning p values =
 
 -- What changes for a set if a package is added at any place. A group without a line still has none.
 -- One that can be met or ignored still can: a line that says `unsure` stays or goes, and one that
--- says `unmet` may also say `unsure` from then on. An alternative that doesn't exclude the added package excludes the same ones as before, and a
--- package that doesn't rule it out rules out the same ones. A healthy set stays healthy exactly if
--- the added package fits.
+-- says `unmet` may also say `unsure` from then on. An alternative that doesn't exclude the added
+-- package excludes the same ones as before, and a package that doesn't rule it out rules out the
+-- same ones. A healthy set stays healthy exactly if the added package fits.
 pub record AddsNoReason (before after : List Listed) (p : Listed) : Type 0 where
   pub no_line_stays_none : (environment : Environment) (group : Group)
       → trouble environment (before ++ after) group ≡ None

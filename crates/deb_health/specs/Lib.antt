@@ -3,6 +3,5 @@ pub mod Together
 pub mod Lines
 pub mod Kept
 pub mod Health
-pub mod States
 pub mod Laws
 pub mod Changes

@@ -1,6 +1,6 @@
 -- Which paragraphs of a status file are of installed packages, and which packages these are.
--- dpkg(1) (want, error flag and status); Debian Policy 5.1, 5.6.8 and 5.6.12. That a package without
--- a version or an architecture isn't one of them is this project's own.
+-- dpkg(1) (want, error flag and status); Debian Policy 5.1, 5.6.8 and 5.6.12. That a package
+-- without a version or an architecture isn't one of them is this project's own.
 use Rattle.std.specs.Prelude.{◌≡◌, ℕ, ◌&&◌, Bool, true, false, List, [], ◌∷◌, ◌++◌, is_some, map, Option, None, Some, Result, Ok, Err, codes, refl}
 use Rattle.std.specs.List.{filter, list_all}
 use Rattle.std.specs.Option.{option_map_or}

@@ -80,7 +80,8 @@ pub record KeepsGiven (members : Members) (store : Store) (given : List Seen) : 
       (filter (has_values members) meaning)
   pub listed : Pairwise Lists (filter (has_values members) meaning) (listed_in store)
   pub lines : lines_in store ≡ map (λ seen. seen.first) (seen_in members given)
-  pub spellings : spellings_in store ≡ map (λ seen. version_body seen.fields) (seen_in members given)
+  pub spellings : spellings_in store
+      ≡ map (λ seen. version_body seen.fields) (seen_in members given)
 
 worked-docs : map doc_of (All ∷ Installed ∷ []) ≡ docs.Packages ∷ docs.Status ∷ []
 worked-docs = refl

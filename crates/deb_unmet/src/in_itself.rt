@@ -49,7 +49,8 @@ pub fn write_in_itself<L: OwnLines, R: Source, W: Sink>(
         → IfOk result (λ summary. WritesOwn (L.asks lines.now) text summary (W.held writer.old)
         (W.held writer.new)) }
     ensures refused { (text : List ℕ) → R.left reader.old ≡ Some text
-        → IfRefused result (λ refusal. refusal_of (doc_of (L.asks lines.now).members) text ≡ Some refusal) }
+        → IfRefused result
+        (λ refusal. refusal_of (doc_of (L.asks lines.now).members) text ≡ Some refusal) }
     ensures stopped { (text : List ℕ) → R.left reader.old ≡ Some text
         → IfErr result (λ fault. StopsOwn fault (L.asks lines.now) text (W.held writer.old)
         (W.held writer.new)) }

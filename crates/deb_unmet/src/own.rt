@@ -45,9 +45,9 @@ pub struct OwnRequest {
 /// line for each group of its own relations that none of its packages meets, or may not meet
 /// (Debian Policy 7.1 and 7.2).
 ///
-/// For an index the lines are those of [`crate::unmet`] for the same file. None is written before the whole file
-/// has been read and has no refusal: of each package its name, its version, its architecture and
-/// the relations that are asked are kept until then.
+/// For an index the lines are those of [`crate::unmet`] for the same file. None is written before
+/// the whole file has been read and has no refusal: of each package its name, its version, its
+/// architecture and the relations that are asked are kept until then.
 ///
 /// At most 4,295,032,831 bytes are read: a file of the most bytes, and one piece. Promises about
 /// the text of the file hold for a reader whose bytes are known.

@@ -22,8 +22,8 @@ pub trait OwnLines {
     /// This is kept of fields that have these values.
     ghost Holds: { List Field → ValueEntries ValueMeaning → Self.Kept → Type 0 };
 
-    /// Which paragraphs of a file have lines, which text of a version these have, and the lines of a
-    /// paragraph.
+    /// Which paragraphs of a file have lines, which text of a version these have, and the lines of
+    /// a paragraph.
     ghost asks: { Self → OwnAsks };
 
     /// Returns which paragraphs of a file have lines.

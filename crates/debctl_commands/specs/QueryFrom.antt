@@ -57,8 +57,8 @@ at_second (Err fault) = Err (record { side = Second; fault = fault })
 
 -- A relation was read, and the query of it has this answer.
 pub record QueriesRead {W : Type 0} (members : Members) (options : QueryOptions)
-    (ask : List ℕ → Question) (first second : ReaderOfJob) (out : WriterOfJob W) (answer : Result Bool SideFault)
-    : Type 0 where
+    (ask : List ℕ → Question) (first second : ReaderOfJob) (out : WriterOfJob W)
+    (answer : Result Bool SideFault) : Type 0 where
   pub relation : List ℕ
   pub read : IsRead first.text relation
   pub unfailed : first.failures_after ≡ first.failures

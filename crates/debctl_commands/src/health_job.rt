@@ -55,7 +55,8 @@ pub(crate) fn run_healthy<R: Source, W: Sink, E: Sink>(
     ensures status_3_if_write_failed { W.failures out.old < W.failures out.new → result ≡ 3 }
 
     // Whatever the status: there is an answer, and that is reported.
-    ensures reports_answer { (second : ReaderOfJob) → Ends (health_promise target.now set.members set.strength)
+    ensures reports_answer { (second : ReaderOfJob)
+        → Ends (health_promise target.now set.members set.strength)
         (reader_of (R.left first.old) (R.failures first.old) (R.failures first.new)) second
         (writer_of W.held W.failures out.old out.new)
         (writer_of E.held E.failures err.old err.new) result }
