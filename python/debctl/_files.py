@@ -232,8 +232,8 @@ def healthy(
         False conflict 1 aa 1 all Conflicts bb by 2 bb 1 all
         >>> [(it.verdict, it.package.name, it.group, it.by.number) for it in report.reasons]
         [('conflict', 'aa', 'bb', 2)]
-        >>> removed = "Status: deinstall ok config-files\n" + aa
-        >>> installed = "Status: install ok installed\n" + bb
+        >>> removed = "Status: deinstall ok config-files\\n" + aa
+        >>> installed = "Status: install ok installed\\n" + bb
         >>> bool(debctl.healthy(removed + installed, "amd64", kind="status"))
         True
 
