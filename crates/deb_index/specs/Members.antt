@@ -60,9 +60,9 @@ abbrev pub member_spellings : Members → List ℕ → List (List ℕ)
 member_spellings All = version_spellings
 member_spellings Installed = installed_spellings
 
--- This is kept of them.
+-- This is kept of all paragraphs of the file.
 abbrev pub KeepsMembers : Members → (List Seen → Type 0) → List ℕ → Type 0
-KeepsMembers All = KeepsAll
+KeepsMembers All = KeepsAll docs.Packages
 KeepsMembers Installed = KeepsInstalled
 
 -- by its fields and by its values a paragraph is a member, or isn't
@@ -80,7 +80,8 @@ pub record KeepsGiven (members : Members) (store : Store) (given : List Seen) : 
       (filter (has_values members) meaning)
   pub listed : Pairwise Lists (filter (has_values members) meaning) (listed_in store)
   pub lines : lines_in store ≡ map (λ seen. seen.first) (seen_in members given)
-  pub spellings : spellings_in store ≡ map (λ seen. version_body seen.fields) (seen_in members given)
+  pub spellings : spellings_in store
+      ≡ map (λ seen. version_body seen.fields) (seen_in members given)
 
 worked-docs : map doc_of (All ∷ Installed ∷ []) ≡ docs.Packages ∷ docs.Status ∷ []
 worked-docs = refl
