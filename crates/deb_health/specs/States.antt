@@ -1,8 +1,7 @@
--- The packages of a status file that are neither installed nor removed, and a line for each.
--- dpkg(1) (the states of a package); the form of the lines is this project's own.
-use Rattle.std.specs.Prelude.{◌≡◌, ℕ, ◌+◌, ◌&&◌, Bool, true, false, cond, not, List, [], ◌∷◌, ◌++◌, map, unwrap_or, codes, refl}
-use Rattle.std.specs.Fmt.{decimal, digits}
-use Rattle.std.specs.List.{concat, list_any}
+-- The packages of a status file that are neither installed nor removed, and what the line of each
+-- has. dpkg(1) (the states of a package); the form of the lines is this project's own.
+use Rattle.std.specs.Prelude.{◌≡◌, ℕ, ◌&&◌, ◌||◌, Bool, true, false, cond, not, List, [], ◌∷◌, map, unwrap_or, codes, refl}
+use Rattle.std.specs.List.{concat, list_all}
 use Rattle.std.specs.Str.{bytes_eq}
 use Rattle.deb_version.specs.Places.{version_in}
 use Rattle.deb_field.specs.Values.{ValueMeaning, NameMeans, VersionMeans, ArchitectureMeans, TextMeans}
@@ -10,45 +9,50 @@ use Rattle.deb_control.specs.Documents.{Meaning}
 use Rattle.deb_control.specs.FieldWords.{value_under, word_under}
 use Rattle.deb_control.specs.ValueFiles.{ValueEntries}
 use Rattle.deb_index.specs.Installed.{is_member, status_in, text_of}
+use Rattle.deb_index.specs.declared.members.Members.{Members}
+use Rattle.deb_index.specs.declared.members.Members.TheVariants.{All, Installed}
 
--- the status of a package: the third word of Status, or a hyphen if that hasn't three words
+-- the status in the text of Status, the third of three words; else a hyphen
+abbrev pub status_or_hyphen : List ℕ → List ℕ
+status_or_hyphen text = unwrap_or (status_in text) (codes "-")
+
 abbrev pub status_word : ValueEntries ValueMeaning → List ℕ
-status_word values = unwrap_or (status_in (text_of (value_under (codes "Status") values))) (codes "-")
+status_word values = status_or_hyphen (text_of (value_under (codes "Status") values))
 
 -- nothing of such a package is left but perhaps its configuration
-abbrev pub removed : List (List ℕ)
-removed = codes "not-installed" ∷ codes "config-files" ∷ []
+abbrev pub is_removed : List ℕ → Bool
+is_removed status =
+    bytes_eq status (codes "not-installed") || bytes_eq status (codes "config-files")
 
 -- The package is neither a member of the set nor removed: it is installed in part, or it lacks a
 -- version or an architecture.
 abbrev pub is_unsettled : ValueEntries ValueMeaning → Bool
-is_unsettled values =
-    not (is_member values) && not (list_any (λ word. bytes_eq word (status_word values)) removed)
+is_unsettled values = not (is_member values) && not (is_removed (status_word values))
+
+-- no paragraph of the file is of such a package; those of an index are all members
+abbrev pub are_settled : Members → Meaning → Bool
+are_settled All meaning = true
+are_settled Installed meaning = list_all (λ values. not (is_unsettled values)) meaning
 
 -- a word, or a hyphen for none
 abbrev pub or_hyphen : List ℕ → List ℕ
 or_hyphen [] = codes "-"
 or_hyphen (b ∷ bs) = b ∷ bs
 
--- `state NUMBER PACKAGE VERSION ARCHITECTURE STATUS`, where the number counts all paragraphs
-abbrev pub state_line : ℕ → ValueEntries ValueMeaning → List ℕ
-state_line number values =
-    concat (codes "state " ∷ decimal number ∷ codes " " ∷ word_under (codes "Package") values
-    ∷ codes " " ∷ or_hyphen (word_under (codes "Version") values) ∷ codes " "
+-- ` PACKAGE VERSION ARCHITECTURE STATUS`
+abbrev pub state_words : ValueEntries ValueMeaning → List ℕ
+state_words values =
+    concat (codes " " ∷ word_under (codes "Package") values ∷ codes " "
+    ∷ or_hyphen (word_under (codes "Version") values) ∷ codes " "
     ∷ or_hyphen (word_under (codes "Architecture") values) ∷ codes " " ∷ status_word values
     ∷ codes "\n" ∷ [])
 
--- the lines of the paragraphs that come after so many
-abbrev pub states_from : ℕ → Meaning → List ℕ
-states_from n [] = []
-states_from n (values ∷ more) =
-    cond (is_unsettled values) (state_line (n + 1) values) [] ++ states_from (n + 1) more
+-- What the line of a paragraph that isn't a member has after its number; nothing if its package is
+-- removed.
+abbrev pub state_text : ValueEntries ValueMeaning → List ℕ
+state_text values = cond (is_removed (status_word values)) [] (state_words values)
 
--- The lines of a status file.
-abbrev pub state_lines : Meaning → List ℕ
-state_lines meaning = states_from 0 meaning
-
--- for the worked cases: aa with this text of Status, and with this text and no version
+-- for the worked cases: aa with this text of Status, and bb with it and no version
 abbrev with_status : List ℕ → ValueEntries ValueMeaning
 with_status status =
     (codes "Architecture", ArchitectureMeans (codes "all"))
@@ -68,13 +72,25 @@ worked-unsettled : map is_unsettled
     ≡ false ∷ false ∷ false ∷ true ∷ true ∷ true ∷ false ∷ []
 worked-unsettled = refl
 
-worked-lines : state_lines
-    (with_status (codes "install ok installed")
-    ∷ with_status (codes "install reinstreq half-installed")
-    ∷ without_version (codes "install ok installed") ∷ without_version [] ∷ [])
-    ≡ codes "state 2 aa 1.0 all half-installed\nstate 3 bb - - installed\nstate 4 bb - - -\n"
-unfolding digits
-worked-lines = refl
+worked-settled : (are_settled Installed (with_status (codes "install ok unpacked") ∷ []) ≡ false)
+    × (are_settled Installed (with_status (codes "install ok installed")
+    ∷ with_status (codes "deinstall ok config-files") ∷ []) ≡ true)
+    × (are_settled All (with_status (codes "install ok unpacked") ∷ []) ≡ true)
+    × (are_settled Installed [] ≡ true)
+worked-settled = (refl, refl, refl, refl)
+
+worked-texts : map state_text
+    (with_status (codes "install reinstreq half-installed")
+    ∷ without_version (codes "install ok installed") ∷ without_version []
+    ∷ with_status (codes "deinstall ok config-files")
+    ∷ without_version (codes "purge ok not-installed") ∷ [])
+    ≡ codes " aa 1.0 all half-installed\n" ∷ codes " bb - - installed\n" ∷ codes " bb - - -\n"
+    ∷ [] ∷ [] ∷ []
+worked-texts = refl
 
 worked-words : (or_hyphen [] ≡ codes "-") × (or_hyphen (codes "a-") ≡ codes "a-")
-worked-words = (refl, refl)
+    × (map status_or_hyphen (codes "a b c" ∷ codes "a b c d" ∷ [] ∷ [])
+    ≡ codes "c" ∷ codes "-" ∷ codes "-" ∷ [])
+    × (map is_removed (codes "not-installed" ∷ codes "config-files" ∷ codes "installed" ∷ [])
+    ≡ true ∷ true ∷ false ∷ [])
+worked-words = (refl, refl, refl, refl)
