@@ -1,5 +1,5 @@
--- Laws of the lines of a set: there is none exactly if the set is healthy and each package either in
--- it or removed, those of a package begin as `unmet` writes them, and canonical text changes none.
+-- Laws of the lines of a set: there is none exactly if the set is healthy and each package is in it
+-- or removed, those of a package begin as `unmet` writes them, and canonical text changes none.
 -- Debian Policy 5.1 and 7.2 to 7.5; the canonical text is this project's own.
 use Rattle.std.specs.Prelude.{◌≡◌, ◌&&◌, ℕ, List, ◌++◌}
 use Rattle.std.specs.List.{filter}
