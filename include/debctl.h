@@ -514,8 +514,9 @@ enum deb_row_kind {
     DEB_ROW_UNSURE_NEED = 21,   /* the same */
     DEB_ROW_CONFLICT = 22,      /* the same; number, name, version, architecture of the excluded one */
     DEB_ROW_UNSURE_CONFLICT = 23, /* the same */
-    DEB_ROW_DUPLICATE = 24      /* number, package, version, architecture; number, version,
+    DEB_ROW_DUPLICATE = 24,     /* number, package, version, architecture; number, version,
                                  * architecture of the later one */
+    DEB_ROW_STATE = 25          /* number, package, version, architecture, status; `-` for none */
 };
 
 /* A line of a text. `fields` is one cell, with a space between two names. */

@@ -214,9 +214,11 @@ static void try_healthy(void) {
         {1, 1, "amd64", "\nx", DEB_REFUSED, DEB_NO_COLON, 2, 0, NULL},
         {1, 0, "amd64", status_file, DEB_NO, 0, 0, 3,
          "unmet 1 aa 1 all Depends zz\nconflict 2 bb 1 all Conflicts cc by 3 cc 2 all\n"},
-        {5, 0, "amd64", status_file, DEB_NO, 0, 0, 1, "unmet 1 cc 2 all Depends aa\n"},
+        {5, 0, "amd64", status_file, DEB_NO, 0, 0, 1,
+         "state 2 bb 1 all half-installed\nunmet 1 cc 2 all Depends aa\n"},
         {5, 1, "amd64", status_file, DEB_NO, 0, 0, 1,
-         "unmet 1 cc 2 all Depends aa\nunmet 1 cc 2 all Recommends bb\n"},
+         "state 2 bb 1 all half-installed\nunmet 1 cc 2 all Depends aa\n"
+         "unmet 1 cc 2 all Recommends bb\n"},
         {5, 0, "amd64", "Package: aa\nStatus: purge ok not-installed\n", DEB_YES, 0, 0, 0, ""},
         {5, 1, "amd64", "", DEB_YES, 0, 0, 0, ""},
         {5, 0, "any", "x", DEB_REFUSED, DEB_BAD_ENVIRONMENT, 0, 0, NULL},

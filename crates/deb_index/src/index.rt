@@ -21,7 +21,7 @@ ghost use Rattle.deb_index.specs.Keeping.{KeepsAll};
 ghost use Rattle.deb_index.specs.Kept.{line_of, listed_of, spelling_of};
 ghost use Rattle.deb_index.specs.Listing.{ListsAll};
 ghost use Rattle.deb_index.specs.Maps.{numbers_under};
-ghost use Rattle.deb_index.specs.Members.{KeepsGiven, KeepsMembers, ListsMembers, doc_of, member_lines, member_spellings, seen_in};
+ghost use Rattle.deb_index.specs.Members.{KeepsGiven, KeepsMembers, ListsMembers, doc_of, member_lines, member_spellings};
 ghost use Rattle.deb_index.specs.Named.{has_name, numbers_of, package_at, provides};
 ghost use Rattle.deb_index.specs.PackageBuilder.{KeepsVisited};
 ghost use Rattle.deb_index.specs.Stores.{IsStore, lines_in, listed_in, spellings_in};
@@ -118,8 +118,9 @@ impl Index {
             → IfRefused result (λ refusal. refusal_of Doc.Packages text ≡ Some refusal) }
         ensures reads_at_most { (text : List ℕ) → R.left reader.old ≡ Some text
             → TakesNoMore text file_limit (R.left reader.new) }
-        ensures keeps { (text : List ℕ) → R.left reader.old ≡ Some text → K.Keeps keeper.old []
-            → IfOk result (λ _. KeepsAll (K.Keeps keeper.new) text) }
+        ensures keeps { (text : List ℕ) → R.left reader.old ≡ Some text
+            → K.Keeps Members.All keeper.old []
+            → IfOk result (λ _. KeepsAll Doc.Packages (K.Keeps Members.All keeper.new) text) }
 
         // Whether or not the reader's bytes are known.
         ensures fault { IfErr result (λ fault. IsReadersFault fault IsRefusalOfDocument) }
@@ -160,8 +161,8 @@ impl Index {
         Index::read_installed_with(alloc, reader, &mut NoKeeper)
     }
 
-    /// The same, where `keeper` is given the paragraph of each installed package after it has
-    /// passed, in file order.
+    /// The same, where `keeper` is given each paragraph after it has passed, in file order: the
+    /// installed packages by `keep`, and the others by `pass_over`.
     ///
     /// # Errors
     ///
@@ -181,8 +182,9 @@ impl Index {
             → IfRefused result (λ refusal. refusal_of Doc.Status text ≡ Some refusal) }
         ensures reads_at_most { (text : List ℕ) → R.left reader.old ≡ Some text
             → TakesNoMore text file_limit (R.left reader.new) }
-        ensures keeps { (text : List ℕ) → R.left reader.old ≡ Some text → K.Keeps keeper.old []
-            → IfOk result (λ _. KeepsInstalled (K.Keeps keeper.new) text) }
+        ensures keeps { (text : List ℕ) → R.left reader.old ≡ Some text
+            → K.Keeps Members.Installed keeper.old []
+            → IfOk result (λ _. KeepsInstalled (K.Keeps Members.Installed keeper.new) text) }
 
         // Whether or not the reader's bytes are known.
         ensures fault { IfErr result (λ fault. IsReadersFault fault IsRefusalOfDocument) }
@@ -194,8 +196,8 @@ impl Index {
         Index::read_members(alloc, reader, Members::Installed, keeper)
     }
 
-    /// Reads a file as an index of these of its paragraphs. `keeper` is given each of them after it
-    /// has passed, in file order.
+    /// Reads a file as an index of these of its paragraphs. `keeper` is given each paragraph after
+    /// it has passed, in file order: these by `keep`, and the others by `pass_over`.
     ///
     /// # Errors
     ///
@@ -217,8 +219,9 @@ impl Index {
             → IfRefused result (λ refusal. refusal_of (doc_of members) text ≡ Some refusal) }
         ensures reads_at_most { (text : List ℕ) → R.left reader.old ≡ Some text
             → TakesNoMore text file_limit (R.left reader.new) }
-        ensures keeps { (text : List ℕ) → R.left reader.old ≡ Some text → K.Keeps keeper.old []
-            → IfOk result (λ _. KeepsMembers members (K.Keeps keeper.new) text) }
+        ensures keeps { (text : List ℕ) → R.left reader.old ≡ Some text
+            → K.Keeps members keeper.old []
+            → IfOk result (λ _. KeepsMembers members (K.Keeps members keeper.new) text) }
 
         // Whether or not the reader's bytes are known.
         ensures fault { IfErr result (λ fault. IsReadersFault fault IsRefusalOfDocument) }
@@ -338,7 +341,8 @@ impl Index {
     }
 }
 
-/// Keeps the package of one more paragraph, if that is one of the members.
+/// Keeps the package of one more paragraph, if that is one of the members, and what the keeper
+/// keeps of it.
 fn keep_next<K: Keeper>(
     members: Members,
     paragraph: &CheckedView<'_>,
@@ -352,10 +356,11 @@ fn keep_next<K: Keeper>(
         → OnOk result (KeepsGiven members store.new (given ++ seen ∷ [])) }
     ensures keeps { (given : List Seen) (seen : Seen)
         → VisitsValues KeepsVisited builder.now (doc_of members) seen
-        → (passing_judged paragraph.now).seen ≡ seen → K.Keeps keeper.old (seen_in members given)
-        → OnOk result (K.Keeps keeper.new (seen_in members (given ++ seen ∷ []))) }
+        → (passing_judged paragraph.now).seen ≡ seen → K.Keeps members keeper.old given
+        → OnOk result (K.Keeps members keeper.new (given ++ seen ∷ [])) }
 {
     if !members.has(paragraph) {
+        keeper.pass_over(paragraph, &builder.texts)?;
         return Ok(());
     }
     store.push(builder, version_body(paragraph), paragraph.first_line())?;
