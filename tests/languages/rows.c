@@ -127,6 +127,9 @@ static void try_others(void) {
         "conflict 1 aa 1 all Breaks bb by 2 bb 1 all x\n",
         "duplicate 1 aa 1 all with 2 aa 1 all\n",
         "unmet 1 aa 1 all Depends bb by 2 bb 1 all\n",
+        "state 1 aa 1 all\n",
+        "state 1 aa  all unpacked\n",
+        "state - aa 1 all unpacked\n",
     };
     static const uint8_t forms[] = {5, 6, 128, 255};
     uint8_t form;

@@ -220,6 +220,8 @@ static void try_healthy(void) {
          "state 2 bb 1 all half-installed\nunmet 1 cc 2 all Depends aa\n"
          "unmet 1 cc 2 all Recommends bb\n"},
         {5, 0, "amd64", "Package: aa\nStatus: purge ok not-installed\n", DEB_YES, 0, 0, 0, ""},
+        {5, 1, "amd64", "Package: aa\nStatus: not-installed\n", DEB_NO, 0, 0, 0,
+         "state 1 aa - - -\n"},
         {5, 1, "amd64", "", DEB_YES, 0, 0, 0, ""},
         {5, 0, "any", "x", DEB_REFUSED, DEB_BAD_ENVIRONMENT, 0, 0, NULL},
         {5, 0, "amd64", set, DEB_REFUSED, DEB_MISSING_FIELD, 1, 0, NULL},
