@@ -361,8 +361,9 @@ struct deb_answer deb_unmet(uint8_t kind, uint8_t recommends,
  * or may exclude, and for two of one name that can't be installed together. They are the lines that
  * the program `debctl healthy` writes. `kind` is that of the file `index`: the set is all packages of
  * an index (DEB_PACKAGES), or the installed ones of a status file (DEB_STATUS), which the program
- * reads with `--installed`. Pre-Depends and Depends are asked, and Recommends too unless `recommends`
- * is 0.
+ * reads with `--installed`. Of a status file there is also a line for each package that is neither
+ * installed nor removed; its number counts all paragraphs, others the packages of the set. Pre-Depends
+ * and Depends are asked, and Recommends too unless `recommends` is 0.
  * DEB_YES: there is no line, the set is healthy; DEB_NO: there is one; both with the number of
  * packages of the set. DEB_REFUSED: the target (DEB_BAD_ENVIRONMENT) or the file, in this order;
  * DEB_NO_ROOM; DEB_NO_MEMORY; DEB_NO_KIND: `kind` is neither of these two. */
