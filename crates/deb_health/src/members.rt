@@ -53,7 +53,7 @@ use std::alloc::{AllocError, Global};
 ///   with a code from 1 to 21 and a line of the file, counted from 1. Nothing was written.
 /// - `Fault::Read`: a read failed in this call. Nothing was written.
 /// - `Fault::Memory`: a growth of memory was refused. Nothing was written, or the lines of the
-///   first packages of an accepted file.
+///   first paragraphs of an accepted file.
 /// - `Fault::Write`: a write failed in this call. A prefix of the lines of an accepted file was
 ///   written.
 pub fn healthy<R: Source, W: Sink>(
