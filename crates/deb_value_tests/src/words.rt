@@ -88,13 +88,13 @@ const LINES: [(&str, &str); 42] = [
     (
         "query --arch amd64 --profiles a,,b aa x",
         "Ok(Run(Call { job: Query { arch: \"amd64\", profiles: [\"a\", \"\", \"b\"], \
-        relation: \"aa\", detail: Verdicts, versions: Canonical }, first: Some(\"x\"), \
-        second: None }))",
+        relation: \"aa\", members: All, detail: Verdicts, versions: Canonical }, \
+        first: Some(\"x\"), second: None }))",
     ),
     (
-        "query --arch amd64 --why --spelled --relation-from f x",
-        "Ok(Run(Call { job: QueryFrom { arch: \"amd64\", profiles: [], detail: Reasons, \
-        versions: Spelled }, first: Some(\"f\"), second: Some(\"x\") }))",
+        "query --arch amd64 --why --spelled --installed --relation-from f x",
+        "Ok(Run(Call { job: QueryFrom { arch: \"amd64\", profiles: [], members: Installed, \
+        detail: Reasons, versions: Spelled }, first: Some(\"f\"), second: Some(\"x\") }))",
     ),
     (
         "version-key 1 2",
@@ -102,13 +102,13 @@ const LINES: [(&str, &str); 42] = [
     ),
     (
         "unmet --arch amd64 --recommends x",
-        "Ok(Run(Call { job: Unmet { arch: \"amd64\", profiles: [], \
+        "Ok(Run(Call { job: Unmet { arch: \"amd64\", profiles: [], members: All, \
         dependents: Index(Recommends), versions: Canonical }, first: Some(\"x\"), second: None }))",
     ),
     (
-        "unmet --arch amd64 --spelled --kind sources x -",
-        "Ok(Run(Call { job: Unmet { arch: \"amd64\", profiles: [], dependents: Sources, \
-        versions: Spelled }, first: Some(\"x\"), second: Some(\"-\") }))",
+        "unmet --arch amd64 --installed --spelled --kind sources x -",
+        "Ok(Run(Call { job: Unmet { arch: \"amd64\", profiles: [], members: Installed, \
+        dependents: Sources, versions: Spelled }, first: Some(\"x\"), second: Some(\"-\") }))",
     ),
     (
         "unmet --arch amd64 -k source x",
@@ -124,13 +124,13 @@ const LINES: [(&str, &str); 42] = [
     ),
     (
         "healthy --arch amd64 x",
-        "Ok(Run(Call { job: Healthy { arch: \"amd64\", strength: Depends }, first: Some(\"x\"), \
-        second: None }))",
+        "Ok(Run(Call { job: Healthy { arch: \"amd64\", members: All, strength: Depends }, \
+        first: Some(\"x\"), second: None }))",
     ),
     (
-        "healthy --recommends --arch=amd64",
-        "Ok(Run(Call { job: Healthy { arch: \"amd64\", strength: Recommends }, first: None, \
-        second: None }))",
+        "healthy --recommends --installed --arch=amd64",
+        "Ok(Run(Call { job: Healthy { arch: \"amd64\", members: Installed, strength: Recommends }, \
+        first: None, second: None }))",
     ),
     ("compare 1 xx 2", "Err(Usage(\"usage: unknown operator\"))"),
     ("check --kind foo", "Err(Usage(\"usage: unknown kind\"))"),
