@@ -8,15 +8,18 @@ use Rattle.clap.specs.Walk.{Text}
 use Rattle.clap.specs.declared.error.kind.ErrorKind.TheVariants as kind
 use Rattle.debctl_args.specs.Asked.{debctl_app, asked_of, asks, asks_help, canonicalises, checks, checks_all, checks_whole, comma_pieces, compares, finds_changes, finds_unmet, first_or_whole, keys, kind_asked, kind_of_path, no_names, no_number, no_recommends, no_relations, no_status, normalises, number_named, profiles_asked, queries, queries_from, relation_or_file, sorts, compares_files, unknown_command, unknown_kind, unknown_operator, standard_input_twice, operator_named, Asked}
 use Rattle.deb_base.specs.declared.doc.Doc.TheVariants.{Any, Binary, Packages, Source, Sources, Status}
+use Rattle.deb_base.specs.declared.version_text.VersionText.{VersionText}
 use Rattle.deb_base.specs.declared.version_text.VersionText.TheVariants.{Canonical, Spelled}
 use Rattle.debctl_args.specs.declared.jobs.Cmp.TheVariants as cmp
 use Rattle.debctl_args.specs.declared.jobs.Dependents.{Dependents}
 use Rattle.debctl_args.specs.declared.jobs.Dependents.TheVariants as dependents
+use Rattle.debctl_args.specs.declared.jobs.Detail.{Detail}
 use Rattle.debctl_args.specs.declared.jobs.Detail.TheVariants.{Verdicts, Reasons}
 use Rattle.debctl_args.specs.declared.jobs.DiffDetail.{DiffDetail}
 use Rattle.debctl_args.specs.declared.jobs.DiffDetail.TheVariants.{Fields, Values}
 use Rattle.debctl_args.specs.declared.jobs.DiffKind.{DiffKind}
 use Rattle.debctl_args.specs.declared.jobs.DiffKind.TheVariants as diffed
+use Rattle.debctl_args.specs.declared.jobs.Members.{Members}
 use Rattle.debctl_args.specs.declared.jobs.Members.TheVariants as members
 use Rattle.debctl_args.specs.declared.jobs.Strength.TheVariants.{Depends, Recommends}
 
@@ -392,57 +395,51 @@ query_of_nothing : asked_of (query_line []) ≡ Some relation_or_file
 unfolding clap_on_literals
 query_of_nothing = refl
 
-query_with_reasons : asked_of (query_line (codes "aa" ∷ codes "--why" ∷ []))
-    ≡ Some (asks (record {
-      wanted = queries (codes "amd64") [] (codes "aa") members.All Reasons Canonical;
+-- for aa, and for the relation of the file f over x: of these packages, with this detail and these
+-- texts of versions
+abbrev asks_aa : Members → Detail → VersionText → Option Asked
+asks_aa packages detail versions =
+    Some (asks (record {
+      wanted = queries (codes "amd64") [] (codes "aa") packages detail versions;
       first = None;
       second = None;
     }))
+
+abbrev asks_f : Members → Detail → VersionText → Option Asked
+asks_f packages detail versions =
+    Some (asks (record {
+      wanted = queries_from (codes "amd64") [] packages detail versions;
+      first = Some (codes "f");
+      second = Some (codes "x");
+    }))
+
+query_with_reasons : asked_of (query_line (codes "aa" ∷ codes "--why" ∷ []))
+    ≡ asks_aa members.All Reasons Canonical
 unfolding clap_on_literals
 query_with_reasons = refl
 
 query_of_a_file_with_reasons : asked_of
     (query_line (codes "--why" ∷ codes "--relation-from" ∷ codes "f" ∷ codes "x" ∷ []))
-    ≡ Some (asks (record {
-      wanted = queries_from (codes "amd64") [] members.All Reasons Canonical;
-      first = Some (codes "f");
-      second = Some (codes "x");
-    }))
+    ≡ asks_f members.All Reasons Canonical
 unfolding clap_on_literals
 query_of_a_file_with_reasons = refl
 
 query_with_spelled_versions : asked_of (query_line (codes "--spelled" ∷ codes "aa" ∷ []))
-    ≡ Some (asks (record {
-      wanted = queries (codes "amd64") [] (codes "aa") members.All Verdicts Spelled;
-      first = None;
-      second = None;
-    }))
+    ≡ asks_aa members.All Verdicts Spelled
 unfolding clap_on_literals
 query_with_spelled_versions = refl
 
 query_of_a_file_with_spelled_versions : asked_of (query_line
     (codes "--relation-from" ∷ codes "f" ∷ codes "--why" ∷ codes "x" ∷ codes "--spelled" ∷ []))
-    ≡ Some (asks (record {
-      wanted = queries_from (codes "amd64") [] members.All Reasons Spelled;
-      first = Some (codes "f");
-      second = Some (codes "x");
-    }))
+    ≡ asks_f members.All Reasons Spelled
 unfolding clap_on_literals
 query_of_a_file_with_spelled_versions = refl
 
 query_of_installed_packages : map (λ words. asked_of (query_line words))
     ((codes "--installed" ∷ codes "aa" ∷ [])
     ∷ (codes "--relation-from=f" ∷ codes "x" ∷ codes "--installed" ∷ []) ∷ [])
-    ≡ Some (asks (record {
-      wanted = queries (codes "amd64") [] (codes "aa") members.Installed Verdicts Canonical;
-      first = None;
-      second = None;
-    }))
-    ∷ Some (asks (record {
-      wanted = queries_from (codes "amd64") [] members.Installed Verdicts Canonical;
-      first = Some (codes "f");
-      second = Some (codes "x");
-    })) ∷ []
+    ≡ asks_aa members.Installed Verdicts Canonical
+    ∷ asks_f members.Installed Verdicts Canonical ∷ []
 unfolding clap_on_literals
 query_of_installed_packages = refl
 
