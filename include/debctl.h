@@ -361,8 +361,9 @@ struct deb_answer deb_unmet(uint8_t kind, uint8_t recommends,
  * or may exclude, and for two of one name that can't be installed together. They are the lines that
  * the program `debctl healthy` writes. `kind` is that of the file `index`: the set is all packages of
  * an index (DEB_PACKAGES), or the installed ones of a status file (DEB_STATUS), which the program
- * reads with `--installed`. Pre-Depends and Depends are asked, and Recommends too unless `recommends`
- * is 0.
+ * reads with `--installed`. Of a status file there is also a line for each package that is neither
+ * installed nor removed; its number counts all paragraphs, others the packages of the set. Pre-Depends
+ * and Depends are asked, and Recommends too unless `recommends` is 0.
  * DEB_YES: there is no line, the set is healthy; DEB_NO: there is one; both with the number of
  * packages of the set. DEB_REFUSED: the target (DEB_BAD_ENVIRONMENT) or the file, in this order;
  * DEB_NO_ROOM; DEB_NO_MEMORY; DEB_NO_KIND: `kind` is neither of these two. */
@@ -514,8 +515,9 @@ enum deb_row_kind {
     DEB_ROW_UNSURE_NEED = 21,   /* the same */
     DEB_ROW_CONFLICT = 22,      /* the same; number, name, version, architecture of the excluded one */
     DEB_ROW_UNSURE_CONFLICT = 23, /* the same */
-    DEB_ROW_DUPLICATE = 24      /* number, package, version, architecture; number, version,
+    DEB_ROW_DUPLICATE = 24,     /* number, package, version, architecture; number, version,
                                  * architecture of the later one */
+    DEB_ROW_STATE = 25          /* number, package, version, architecture, status; `-` for none */
 };
 
 /* A line of a text. `fields` is one cell, with a space between two names. */

@@ -221,8 +221,9 @@ def healthy(
 ) -> HealthReport:
     """Finds why a set of packages isn't consistent, for this architecture: the lines that the
     program `debctl healthy` writes. `kind` is that of the file: of `packages` the set is all
-    packages of an index, and of `status` the installed packages of a status file of dpkg.
-    Pre-Depends and Depends are asked, with `recommends` Recommends too.
+    packages of an index, and of `status` the installed packages of a status file of dpkg; then a
+    package that is neither installed nor removed is a reason, too. Pre-Depends and Depends are
+    asked, with `recommends` Recommends too.
 
         >>> import debctl
         >>> aa = "Package: aa\\nVersion: 1\\nArchitecture: all\\nConflicts: bb\\n\\n"
@@ -236,6 +237,10 @@ def healthy(
         >>> installed = "Status: install ok installed\\n" + bb
         >>> bool(debctl.healthy(removed + installed, "amd64", kind="status"))
         True
+        >>> half = installed.replace("ok installed", "ok half-installed")
+        >>> report = debctl.healthy(removed + half, "amd64", kind="status")
+        >>> [(it.verdict, it.package.number, it.status) for it in report.reasons]
+        [('state', 2, 'half-installed')]
 
     Raises Refused if the architecture or the file is refused, and ValueError for another kind.
     """

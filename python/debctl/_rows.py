@@ -10,8 +10,8 @@ REPORT, UNMET_LINES, DIFF_LINES, EXPLANATION, HEALTH_LINES = range(5)
 (
     MET, UNMET, IGNORED, PACKAGE, REASON, PACKAGE_REASON, UNMET_GROUP, UNSURE_GROUP, REMOVED,
     CHANGED, UPGRADED, ADDED, OLD_LINE, NEW_LINE, KEY, END, OK, SUMMARY, VALID,
-    DOWNGRADED, UNMET_NEED, UNSURE_NEED, CONFLICT, UNSURE_CONFLICT, DUPLICATE,
-) = range(25)
+    DOWNGRADED, UNMET_NEED, UNSURE_NEED, CONFLICT, UNSURE_CONFLICT, DUPLICATE, STATE,
+) = range(26)
 _ROW = struct.Struct("@BB6x20N")  # its kind, how many cells it has, and where they are
 
 Row = Tuple[int, List[str]]
@@ -82,13 +82,20 @@ class UnmetGroup(NamedTuple):
 class HealthReason(NamedTuple):
     """Why a set of packages isn't healthy: a package, and the name of its field and the canonical
     text of a group that no package of the set meets or, if there is a package `by`, that excludes
-    it. A duplicate has no field and no group; `by` is then a later package of the same name."""
+    it. A duplicate has no field and no group; `by` is then a later package of the same name.
 
-    verdict: Literal["unmet", "conflict", "unsure", "duplicate"]
+    A state has only a package of a status file, which is neither installed nor removed, and its
+    `status`, such as "half-installed". The number of the package then counts all paragraphs of the
+    file. A version, an architecture or a status that the paragraph lacks is "-", as in the text, so
+    that a package has the same types everywhere; "-" is no version and no architecture.
+    """
+
+    verdict: Literal["unmet", "conflict", "unsure", "duplicate", "state"]
     package: NumberedPackage
     field: Optional[str]
     group: Optional[str]
     by: Optional[NumberedPackage]
+    status: Optional[str] = None
 
 
 class Change(NamedTuple):
@@ -153,6 +160,8 @@ def _health_reason(kind: int, cells: List[str]) -> HealthReason:
     if kind == DUPLICATE:
         later = _package([cells[4], package.name, *cells[5:]])
         return HealthReason("duplicate", package, None, None, later)
+    if kind == STATE:
+        return HealthReason("state", package, None, None, None, cells[4])
     by = _package(cells[6:]) if kind in (CONFLICT, UNSURE_CONFLICT) else None
     return HealthReason(_HEALTH[kind], package, cells[4], cells[5], by)
 

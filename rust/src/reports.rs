@@ -98,7 +98,7 @@ pub struct UnmetGroup {
 pub struct HealthReport {
     /// Whether the set is healthy: there is no reason in the report.
     pub healthy: bool,
-    /// Why the set isn't healthy, in the order of the packages.
+    /// Why the set isn't healthy, in the order of the lines.
     pub reasons: Vec<HealthReason>,
     /// The lines of the report.
     pub text: String,
@@ -108,7 +108,8 @@ pub struct HealthReport {
 #[derive(Clone, Debug, PartialEq, Eq, Hash)]
 #[non_exhaustive]
 pub struct HealthReason {
-    /// The package.
+    /// The package. That of a [`HealthFault::State`] isn't in the set: its number counts all
+    /// paragraphs of the status file, and a version or an architecture that it lacks is `-`.
     pub package: Package,
     /// What is wrong about it.
     pub fault: HealthFault,
@@ -142,6 +143,11 @@ pub enum HealthFault {
     Duplicate {
         /// The later package.
         with: Package,
+    },
+    /// The package of a status file is neither installed nor removed.
+    State {
+        /// Its status, such as `half-installed`; `-` if Status hasn't three words.
+        status: String,
     },
 }
 
@@ -249,6 +255,9 @@ fn health_reason(row: Row) -> HealthReason {
                 architecture: row.text(6),
             },
         },
+        texts::STATE => HealthFault::State {
+            status: row.text(4),
+        },
         texts::CONFLICT | texts::UNSURE_CONFLICT => HealthFault::Conflict {
             field: row.text(4),
             group: row.text(5),
@@ -352,10 +361,11 @@ pub fn unmet(
 
 /// Finds why a set of packages isn't consistent, for a target architecture: the lines that the
 /// program `debctl healthy` writes. The set is the packages of an index, or the installed ones of a
-/// status file. With `recommends` a package needs what it recommends, too.
+/// status file; then a package that is neither installed nor removed is a reason, too. With
+/// `recommends` a package needs what it recommends.
 ///
 /// ```
-/// use debctl::{healthy, Members};
+/// use debctl::{healthy, HealthFault, Members};
 ///
 /// let index = "Package: aa\nVersion: 1\nArchitecture: all\nConflicts: bb\n\n\
 ///     Package: bb\nVersion: 2\nArchitecture: all\n";
@@ -368,6 +378,12 @@ pub fn unmet(
 ///     Architecture: all\nConflicts: bb\n\n\
 ///     Package: bb\nStatus: install ok installed\nVersion: 2\nArchitecture: all\n";
 /// assert!(healthy(Members::Installed, false, "amd64", status)?.healthy);
+///
+/// let status = status.replace("ok installed", "ok unpacked");
+/// let report = healthy(Members::Installed, false, "amd64", status)?;
+/// assert_eq!(report.text, "state 2 bb 2 all unpacked\n");
+/// let fault = &report.reasons[0].fault;
+/// assert!(matches!(fault, HealthFault::State { status } if status == "unpacked"));
 /// # Ok::<(), debctl::Error>(())
 /// ```
 pub fn healthy(

@@ -95,6 +95,7 @@ pub(crate) const UNMET_NEED: u8 = 20;
 pub(crate) const CONFLICT: u8 = 22;
 pub(crate) const UNSURE_CONFLICT: u8 = 23;
 pub(crate) const DUPLICATE: u8 = 24;
+pub(crate) const STATE: u8 = 25;
 
 impl Row<'_> {
     /// Returns the number in a cell.

@@ -140,12 +140,13 @@ fn a_set_has_the_installed_packages_of_a_status_file() -> Result<(), Error> {
     ]
     .concat();
     let (aa, bb) = (
-        "unmet 1 cc 1 all Depends aa\n",
+        "state 2 bb 1 all half-installed\nunmet 1 cc 1 all Depends aa\n",
         "unmet 1 cc 1 all Recommends bb\n",
     );
     let report = healthy(Members::Installed, false, "amd64", &status)?;
     assert_eq!((report.healthy, report.text.as_str()), (false, aa));
-    assert_eq!(report.reasons[0].package.number, 1);
+    let numbers: Vec<u64> = report.reasons.iter().map(|it| it.package.number).collect();
+    assert_eq!(numbers, [2, 1]);
     let report = healthy(Members::Installed, true, "amd64", status.as_bytes())?;
     assert_eq!(report.text, format!("{aa}{bb}"));
     assert!(healthy(Members::Installed, true, "amd64", "")?.healthy);

@@ -134,6 +134,36 @@ fn a_report_on_a_set_has_reasons() -> Result<(), Error> {
 }
 
 #[test]
+fn a_report_on_a_status_file_has_states() -> Result<(), Error> {
+    let status = "Package: aa\nStatus: purge ok not-installed\n\n\
+        Package: bb\nStatus: install ok unpacked\nVersion: 02\nArchitecture: all\n\n\
+        Package: cc\nStatus: unpacked\n";
+    let report = healthy(Members::Installed, false, "amd64", status)?;
+    assert_eq!(report.text, "state 2 bb 2 all unpacked\nstate 3 cc - - -\n");
+    let found: Vec<_> = report
+        .reasons
+        .iter()
+        .map(|it| {
+            let status = match &it.fault {
+                HealthFault::State { status } => status.as_str(),
+                other => panic!("{other:?}"),
+            };
+            let package = &it.package;
+            let words = [&package.name, &package.version, &package.architecture];
+            (package.number, words.map(String::as_str), status)
+        })
+        .collect();
+    assert_eq!(
+        found,
+        [
+            (2, ["bb", "2", "all"], "unpacked"),
+            (3, ["cc", "-", "-"], "-")
+        ]
+    );
+    Ok(())
+}
+
+#[test]
 fn changes_have_versions_and_lines() -> Result<(), Error> {
     let new = "Package: aa\nVersion: 1.5-1\nArchitecture: amd64\nMulti-Arch: foreign\n\
         Provides: mta, virt (= 2)\n\nPackage: bb\nVersion: 3\nArchitecture: all\n\n\

@@ -134,6 +134,8 @@ int main() {
                   "1 duplicate 1 hello 1.0 amd64 with 2 1.0 amd64\n";
     const std::string removed = text + "Status: deinstall ok config-files\n\n";
     failed += unhealthy(removed + text + "Status: install ok installed\n", DEB_STATUS) != "0 " ||
+              unhealthy(removed + text + "Status: install ok unpacked\n", DEB_STATUS) !=
+                  "1 state 2 hello 1.0 amd64 unpacked\n" ||
               unhealthy(text, DEB_STATUS) != "2 " || unhealthy(text, DEB_ANY) != "6 ";
     std::printf("cpp: %d passed, %d failed\n", 13 - failed, failed);
     return failed != 0;

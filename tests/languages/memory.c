@@ -64,6 +64,7 @@ static const char *unhealthy =
 
 static const char *installed =
     "Package: aa\nStatus: deinstall ok config-files\nVersion: 1\nArchitecture: all\n\n"
+    "Package: dd\nStatus: install ok half-configured\nVersion: 3\nArchitecture: all\n\n"
     "Package: bb\nStatus: install ok installed\nVersion: 2\nArchitecture: all\nDepends: aa | cc\n";
 
 static uint8_t out[1024];

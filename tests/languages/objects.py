@@ -86,6 +86,22 @@ def health():
     )
 
 
+def states():
+    """Whether a package that is neither installed nor removed has its state."""
+    report = debctl.healthy(
+        "Package: aa\nStatus: purge ok not-installed\n\nPackage: bb\nStatus: install ok unpacked\n"
+        "Version: 02\nArchitecture: all\n\nPackage: cc\nStatus: unpacked\n",
+        "amd64", kind="status",
+    )
+    return (
+        not report and printed(report) == report.text.encode()
+        and report.reasons == [
+            HealthReason("state", NumberedPackage(2, "bb", "2", "all"), None, None, None, "unpacked"),
+            HealthReason("state", NumberedPackage(3, "cc", "-", "-"), None, None, None, "-"),
+        ]
+    )
+
+
 def changes():
     """Whether changes say what the lines of a comparison say."""
     old = HELLO + "\n" + HELLO.replace("hello", "up") + "\n" + HELLO.replace("hello", "gone")
@@ -315,9 +331,9 @@ def texts():
 
 
 TESTS = {
-    "groups": groups(), "reports": reports(), "health": health(), "changes": changes(),
-    "explanations": explanations(), "parts": parts(), "versions and texts": versions_and_texts(),
-    "spelled": spelled(),
+    "groups": groups(), "reports": reports(), "health": health(), "states": states(),
+    "changes": changes(), "explanations": explanations(), "parts": parts(),
+    "versions and texts": versions_and_texts(), "spelled": spelled(),
     "profiles": profiles(), "one alternative": one_alternative(), "details": details(),
     "pieces": pieces(), "texts": texts(),
     "a missing field": next(debctl.paragraphs(HELLO)).relations("Depends") == [],

@@ -182,19 +182,23 @@ def healthy():
 
 
 def healthy_status():
-    """Whether a status file has the lines of its installed packages, which alone are numbered."""
+    """Whether a status file has the lines of its installed packages, whose numbers count them alone,
+    and those of packages that are neither installed nor removed, whose numbers count all."""
     removed = "Package: aa\nStatus: deinstall ok config-files\nVersion: 1\nArchitecture: all\n\n"
     half = removed.replace("deinstall ok config-files", "install ok half-installed")
     last = "Package: cc\nStatus: install ok installed\nVersion: 02\nArchitecture: all\nDepends: aa\n"
     text = removed + half + last + "Recommends: ee\n"
     ask = functools.partial(debctl.healthy, text, "amd64")
-    lines = ["unmet 1 cc 2 all Depends aa", "unmet 1 cc 2 all Recommends ee"]
+    state = "state 2 aa 1 all half-installed"
+    lines = [state, "unmet 1 cc 2 all Depends aa", "unmet 1 cc 2 all Recommends ee"]
     return (
-        ask(kind="status").text.splitlines() == lines[:1]
+        ask(kind="status").text.splitlines() == lines[:2]
         and ask(kind="status", recommends=True).text.splitlines() == lines
-        and [it.package.number for it in ask(kind="status").reasons] == [1]
+        and [(it.verdict, it.package.number, it.status) for it in ask(kind="status").reasons]
+        == [("state", 2, "half-installed"), ("unmet", 1, None)]
         and ask() == ask(kind="packages") == (False, "duplicate 1 aa 1 all with 2 1 all\n")
-        and debctl.healthy(removed + half, "amd64", kind="status") == (True, "")
+        and debctl.healthy(removed + half, "amd64", kind="status") == (False, f"{state}\n")
+        and debctl.healthy(removed, "amd64", kind="status") == (True, "")
     )
 
 

@@ -16,6 +16,7 @@ static const char *const rules[] = {
     "downgraded | | | | | |",
     "unmet | | | | | |", "unsure | | | | | |",
     "conflict | | | | | | by | | | |", "unsure | | | | | | by | | | |", "duplicate | | | | with | | |",
+    "state | | | | |",
 };
 
 /* Appends a row to `to`, with the newline, and returns its end; NULL if the row isn't one of its

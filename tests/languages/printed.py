@@ -32,6 +32,8 @@ def of_health(reason):
     if reason.verdict == "duplicate":
         by = reason.by
         return " ".join([*line, "with", str(by.number), by.version, by.architecture])
+    if reason.verdict == "state":
+        return " ".join([*line, reason.status])
     line += [reason.field, reason.group]
     return " ".join(line if reason.by is None else [*line, "by", of_package(reason.by)])
 

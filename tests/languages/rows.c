@@ -48,13 +48,14 @@ static const struct lined all[] = {
      "unmet 1 aa 1 amd64 Depends bb | by (>= 1) [by x]\nunsure 1 aa 1 amd64 Depends x [any] | by\n"
      "conflict 1 aa 1 amd64 Conflicts mm by 2 by 2 all\n"
      "unsure 2 by 2 all Breaks by (<< 2) [3 by linux-any] by 1 aa 1 amd64\n"
-     "duplicate 1 aa 1 amd64 with 3 1.1 amd64\nconflict 4 dd 1 all Breaks by by 5 by 6 all\n",
-     6,
+     "duplicate 1 aa 1 amd64 with 3 1.1 amd64\nconflict 4 dd 1 all Breaks by by 5 by 6 all\n"
+     "state 7 ee - all x:\n",
+     7,
      {DEB_ROW_UNMET_NEED, DEB_ROW_UNSURE_NEED, DEB_ROW_CONFLICT, DEB_ROW_UNSURE_CONFLICT,
-      DEB_ROW_DUPLICATE, DEB_ROW_CONFLICT},
+      DEB_ROW_DUPLICATE, DEB_ROW_CONFLICT, DEB_ROW_STATE},
      "1/aa/1/amd64/Depends/bb | by (>= 1) [by x]/1/aa/1/amd64/Depends/x [any] | by/"
      "1/aa/1/amd64/Conflicts/mm/2/by/2/all/2/by/2/all/Breaks/by (<< 2) [3 by linux-any]/1/aa/1/amd64/"
-     "1/aa/1/amd64/3/1.1/amd64/4/dd/1/all/Breaks/by/5/by/6/all/"},
+     "1/aa/1/amd64/3/1.1/amd64/4/dd/1/all/Breaks/by/5/by/6/all/7/ee/-/all/x:/"},
     {DEB_EXPLANATION, "ok 12\nok\n", 2, {DEB_ROW_OK, DEB_ROW_VALID}, "12/"},
 };
 
@@ -126,6 +127,9 @@ static void try_others(void) {
         "conflict 1 aa 1 all Breaks bb by 2 bb 1 all x\n",
         "duplicate 1 aa 1 all with 2 aa 1 all\n",
         "unmet 1 aa 1 all Depends bb by 2 bb 1 all\n",
+        "state 1 aa 1 all\n",
+        "state 1 aa  all unpacked\n",
+        "state - aa 1 all unpacked\n",
     };
     static const uint8_t forms[] = {5, 6, 128, 255};
     uint8_t form;

@@ -16,6 +16,7 @@ from laws.spelling import planted, respelled, spoiled
 SECONDS = 10
 REASON_LINE = re.compile(rb"^(name|place|reason): (.*)$", re.M)
 GROUP_LINE = re.compile(rb"^(?:met|unmet|ignored) (.+)$", re.M)
+LINE = re.compile(rb"[^\n]*\n")
 STATUS = re.compile(rb"^status:(.*(?:\n[ \t].*)*)", re.M | re.I)
 KINDS = tuple(REQUIRED)
 
@@ -250,9 +251,9 @@ class Asked:
 
     def of_installed(self, normal):
         """With `--installed` a status file has the answers that its installed packages have as an
-        index, and its own refusals."""
-        random = self.case.random
-        kept = file_of([it for it in paragraphs_of(normal.out) if is_installed(it)])
+        index, and its own refusals. Of the others `healthy` has the lines of their states, too."""
+        random, paragraphs = self.case.random, paragraphs_of(normal.out)
+        kept = file_of([it for it in paragraphs if is_installed(it)])
         relation = b", ".join(alternative(random) for _ in range(random.randint(1, 4)))
         for call, *more in (["healthy"], ["healthy", "--recommends"], ["unmet"], ["query", relation]):
             words = [call, "--arch", "amd64", *more]
@@ -262,6 +263,8 @@ class Asked:
                 wanted = Answer(b"", side + normal.err, 2)
             else:
                 wanted = self.program.run(words, [kept])
+                if call == "healthy" and wanted.status in (0, 1):
+                    wanted = with_states(wanted, paragraphs)
             if answer != wanted:
                 yield f"{words!r} with --installed: {shown(answer)}, and not {shown(wanted)}"
 
@@ -319,12 +322,37 @@ def paragraphs_of(text: bytes):
     return text[:-1].split(b"\n\n") if text else []
 
 
-def is_installed(paragraph: bytes) -> bool:
-    """Whether a paragraph of a status file is that of an installed package, as `--installed` reads it."""
+def status_of(paragraph: bytes) -> bytes:
+    """The third word of Status, if that has three; else a hyphen."""
     status = STATUS.search(paragraph)
     words = SPACES.split(status[1].strip(b" \t\n")) if status else []
+    return words[2] if len(words) == 3 else b"-"
+
+
+def is_installed(paragraph: bytes) -> bool:
+    """Whether a paragraph of a status file is that of an installed package, as `--installed` reads it."""
     has = [re.search(rb"(?im)^%s:" % name, paragraph) for name in (b"version", b"architecture")]
-    return len(words) == 3 and words[2] == b"installed" and all(has)
+    return status_of(paragraph) == b"installed" and all(has)
+
+
+def state_of(paragraph: bytes) -> bytes:
+    """What the line of a package that is neither installed nor removed has after its number."""
+    fields = b"package", b"version", b"architecture"
+    found = [re.search(rb"(?im)^%s: (.*)$" % name, paragraph) for name in fields]
+    return b" ".join([*(it[1] if it else b"-" for it in found), status_of(paragraph)])
+
+
+def with_states(answer: Answer, paragraphs) -> Answer:
+    """The answer of `healthy` for the installed packages of a status file, with the lines of those
+    that are neither installed nor removed, each where its paragraph is; their numbers count all."""
+    lines, out, count = LINE.findall(answer.out), [], 0
+    for number, paragraph in enumerate(paragraphs, 1):
+        if is_installed(paragraph):
+            count += 1
+            out += [line for line in lines if line.split(b" ")[1] == b"%d" % count]
+        elif status_of(paragraph) not in (b"not-installed", b"config-files"):
+            out.append(b"state %d %s\n" % (number, state_of(paragraph)))
+    return Answer(b"".join(out), answer.err, int(bool(out)))
 
 
 def file_of(paragraphs) -> bytes:

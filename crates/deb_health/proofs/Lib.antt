@@ -5,3 +5,4 @@ pub mod Rearranged
 pub mod Growing
 pub mod SameReasons
 pub mod AddedPackage
+pub mod Unsettled

@@ -1,4 +1,4 @@
--- There is no line exactly if the set is healthy.
+-- There is no line exactly if the set is healthy, and each package of the file is in it or removed.
 use Rattle.std.proofs.Common.{◌≡◌, ℕ, ◌+◌, ◌<◌, ◌≤◌, ltb, Bool, true, false, cond, not, ◌&&◌, ◌||◌, is_none, List, [], ◌∷◌, ◌++◌, length, codes, append_assoc, refl, sym, ap, ◌∙◌, arith}
 use Rattle.std.specs.List.{filter, flat_map, list_all, list_any}
 use Rattle.std.specs.Option.{option_map_or}
@@ -6,6 +6,7 @@ use Rattle.std.proofs.lemmas.List.{length_push}
 use Rattle.deb_relation.specs.Applying.{Environment}
 use Rattle.deb_relation.specs.Meaning.{Alternative}
 use Rattle.deb_relation.specs.Texts.{group_text}
+use Rattle.deb_syntax.specs.Fields.{Field}
 use Rattle.deb_field.specs.Values.{ValueMeaning}
 use Rattle.deb_control.specs.Documents.{Meaning}
 use Rattle.deb_control.specs.FieldWords.{groups_of, value_under, word_under}
@@ -13,27 +14,30 @@ use Rattle.deb_control.specs.Pairs.{Pairwise}
 use Rattle.deb_control.specs.ValueFiles.{ValueEntries}
 use Rattle.deb_index.specs.Listed.{Listed}
 use Rattle.deb_index.specs.Listing.{Lists}
+use Rattle.deb_index.specs.Installed.{is_member}
 use Rattle.deb_index.specs.Members.{has_values}
 use Rattle.deb_index.specs.declared.members.Members.{Members}
+use Rattle.deb_index.specs.declared.members.Members.TheVariants.{All, Installed}
 use Rattle.deb_index.specs.Named.{numbers_from, numbers_of}
 use Rattle.deb_index.specs.Reports.{Numbered}
 use Rattle.deb_index.proofs.Numbered.{at-front}
 use Rattle.deb_unmet.specs.Asked.{fields_with}
 use Rattle.deb_unmet.specs.Fields.{environment_for, heading, paragraph_lines}
-use Rattle.deb_unmet.specs.Files.{Asks, is_nothing, lines_from}
-use Rattle.deb_unmet.specs.Own.{asks_over}
+use Rattle.deb_unmet.specs.Files.{Asks, is_nothing, lines_of}
+use Rattle.deb_unmet.specs.Own.{OwnAsks, asks_over, other_line, parts_from}
 use Rattle.deb_unmet.specs.Readings.{applies_by, may}
+use Rattle.deb_unmet.specs.Spelled.{fields_after}
 use Rattle.deb_unmet.specs.Troubles.{group_lines as needed_lines, trouble}
 use Rattle.deb_unmet.specs.declared.applying.Applies.{Applies}
 use Rattle.deb_unmet.specs.declared.applying.Applies.TheVariants.{Surely, Maybe, Never}
 use Rattle.deb_unmet.specs.declared.asked.Asked.TheVariants.{Packages}
 use Rattle.deb_unmet.specs.declared.asked.Strength.{Strength}
 use Rattle.deb_unmet.proofs.Groups.{nothing-group}
-use Rattle.deb_unmet.proofs.SpelledVersions.{canonical_members}
 use Rattle.deb_health.specs.Excluding.{excludes}
-use Rattle.deb_health.specs.Health.{are_apart, asks_healthy, is_abundant, is_peaceful}
+use Rattle.deb_health.specs.Health.{are_apart, asks_healthy, is_abundant, is_healthy, is_peaceful}
 use Rattle.deb_health.specs.Laws.{NoLineIfHealthy}
 use Rattle.deb_health.specs.Lines.{alternative_lines, duplicate_line, duplicate_lines, exclusion_front, exclusion_line, exclusion_lines, group_lines, line_at, negative_fields}
+use Rattle.deb_health.specs.States.{are_settled, is_removed, state_text, state_words, status_word}
 use Rattle.deb_health.specs.Together.{rules_out}
 
 pub nothing-both : (xs ys : List ℕ) → is_nothing (xs ++ ys) ≡ (is_nothing xs && is_nothing ys)
@@ -111,9 +115,45 @@ regroup true true false true rest = refl
 regroup true true false false rest = refl
 regroup true true true more rest = refl
 
+-- the lines of the other paragraphs come before the rest, or among it
+among : (a settled more : Bool) → (a && (settled && more)) ≡ (settled && (a && more))
+among true settled more = refl
+among false true more = refl
+among false false more = refl
+
+between : (a settled more : Bool) → (a && (settled && more)) ≡ ((a && settled) && more)
+between true settled more = refl
+between false settled more = refl
+
+-- a package that isn't removed has a line
+nothing-state : (number : ℕ) (values : ValueEntries ValueMeaning) → is_nothing (other_line number (state_text values)) ≡ is_removed (status_word values)
+nothing-state number values = go (is_removed (status_word values))
+  where
+    go : (t : Bool) → is_nothing (other_line number (cond t [] (state_words values))) ≡ t
+    go true = refl
+    go false = refl
+
+-- the paragraph is of a member, or of a package that is removed
+abbrev pub is_known : Members → ValueEntries ValueMeaning → Bool
+is_known members values = has_values members values || is_removed (status_word values)
+
+pub settled-known : (members : Members) (meaning : Meaning) → are_settled members meaning ≡ list_all (is_known members) meaning
+settled-known All [] = refl
+settled-known All (values ∷ meaning) = settled-known All meaning
+settled-known Installed [] = refl
+settled-known Installed (values ∷ meaning) = ap (λ b. b && are_settled Installed meaning) (go (is_member values) (is_removed (status_word values))) ∙ ap (λ b. is_known Installed values && b) (settled-known Installed meaning)
+  where
+    go : (member removed : Bool) → not (not member && not removed) ≡ (member || removed)
+    go true removed = refl
+    go false true = refl
+    go false false = refl
+
 module _ (members : Members) (strength : Strength) (environment : Environment) (packages : List Listed) (text : List ℕ) where
+  abbrev own : OwnAsks
+  own = asks_healthy members strength environment
+
   abbrev asks : Asks
-  asks = asks_over (asks_healthy members strength environment) packages
+  asks = asks_over own packages
 
   nothing-needs : (number : ℕ) (version : List ℕ) (values : ValueEntries ValueMeaning) → is_nothing (paragraph_lines (Packages strength) environment packages number version values) ≡ is_abundant strength environment packages values
   nothing-needs number version values =
@@ -142,27 +182,53 @@ module _ (members : Members) (strength : Strength) (environment : Environment) (
       ∙ ap (λ l. is_nothing (flat_map (line_at (duplicate_line h) l) (numbers_from (n + 1 + 1) (rules_out target p) more))) (sym (append_assoc front (p ∷ []) more))
       ∙ nothing-from (duplicate_line h) (λ q. refl) (rules_out target p) (front ++ p ∷ []) more (n + 1 + 1) (omega (arith, is, long))
 
-  nothing-rest : (front rest : List Listed) (n : ℕ) (meaning : Meaning) → n ≡ length front → packages ≡ front ++ rest → Pairwise Lists meaning rest → is_nothing (lines_from asks text n meaning) ≡ (list_all (λ values. is_abundant strength environment packages values && is_peaceful strength environment packages values) meaning && are_apart environment.target rest)
-  nothing-rest front [] n [] is all lists = refl
-  nothing-rest front (p ∷ rest) n [] is all lists = absurd lists
-  nothing-rest front [] n (values ∷ meaning) is all lists = absurd lists
-  nothing-rest front (p ∷ rest) n (values ∷ meaning) is all lists =
+  abbrev good : ValueEntries ValueMeaning → Bool
+  good values = is_abundant strength environment packages values && is_peaceful strength environment packages values
+
+  -- no line of a member, and none after them
+  nothing-member : (front more : List Listed) (p : Listed) (n : ℕ) (values : ValueEntries ValueMeaning) (lines : List ℕ) (settled rest : Bool) → n ≡ length front → packages ≡ front ++ p ∷ more → is_nothing lines ≡ (settled && (rest && are_apart environment.target more)) → (fields : List Field) → is_nothing (lines_of asks (n + 1) fields values ++ lines) ≡ (settled && ((good values && rest) && are_apart environment.target (p ∷ more)))
+  nothing-member front more p n values lines settled rest is all later fields =
       let v = word_under (codes "Version") values in
       let h = heading (Packages strength) (n + 1) v values in
       let needs = paragraph_lines (Packages strength) environment packages (n + 1) v values in
       let others = exclusion_lines (environment_for (Packages strength) environment values) environment.target packages h values in
       let repeats = duplicate_lines environment.target packages h (n + 1) in
-      let long = length_push front p in
-      let good = list_all (λ values. is_abundant strength environment packages values && is_peaceful strength environment packages values) meaning in
-      nothing-both (needs ++ (others ++ repeats)) (lines_from asks text (n + 1) meaning)
-      ∙ ap (λ b. b && is_nothing (lines_from asks text (n + 1) meaning)) (nothing-both needs (others ++ repeats) ∙ ap (λ b. is_nothing needs && b) (nothing-both others repeats))
-      ∙ ap (λ b. (b && (is_nothing others && is_nothing repeats)) && is_nothing (lines_from asks text (n + 1) meaning)) (nothing-needs (n + 1) v values)
-      ∙ ap (λ b. (is_abundant strength environment packages values && (b && is_nothing repeats)) && is_nothing (lines_from asks text (n + 1) meaning)) (nothing-excludes h values)
-      ∙ ap (λ b. (is_abundant strength environment packages values && (is_peaceful strength environment packages values && b)) && is_nothing (lines_from asks text (n + 1) meaning)) (nothing-repeats h front rest p n is all)
-      ∙ ap (λ b. (is_abundant strength environment packages values && (is_peaceful strength environment packages values && not (list_any (rules_out environment.target p) rest))) && b) (nothing-rest (front ++ p ∷ []) rest (n + 1) meaning (omega (arith, is, long)) (all ∙ sym (append_assoc front (p ∷ []) rest)) lists.1)
-      ∙ regroup (is_abundant strength environment packages values) (is_peaceful strength environment packages values) (not (list_any (rules_out environment.target p) rest)) good (are_apart environment.target rest)
+      let abundant = is_abundant strength environment packages values in
+      let peaceful = is_peaceful strength environment packages values in
+      let alone = not (list_any (rules_out environment.target p) more) in
+      nothing-both (needs ++ (others ++ repeats)) lines
+      ∙ ap (λ b. b && is_nothing lines) (nothing-both needs (others ++ repeats) ∙ ap (λ b. is_nothing needs && b) (nothing-both others repeats))
+      ∙ ap (λ b. (b && (is_nothing others && is_nothing repeats)) && is_nothing lines) (nothing-needs (n + 1) v values)
+      ∙ ap (λ b. (abundant && (b && is_nothing repeats)) && is_nothing lines) (nothing-excludes h values)
+      ∙ ap (λ b. (abundant && (peaceful && b)) && is_nothing lines) (nothing-repeats h front more p n is all)
+      ∙ ap (λ b. (abundant && (peaceful && alone)) && b) later
+      ∙ among (abundant && (peaceful && alone)) settled (rest && are_apart environment.target more)
+      ∙ ap (λ b. settled && b) (regroup abundant peaceful alone rest (are_apart environment.target more))
+
+  -- there is no line of the paragraphs that are left
+  abbrev IsNoneLeft : Meaning → Type 0
+  IsNoneLeft meaning = (front rest : List Listed) (n k : ℕ) → k ≡ length front → packages ≡ front ++ rest → Pairwise Lists (filter (has_values members) meaning) rest → is_nothing (parts_from own packages text n k meaning) ≡ (list_all (is_known members) meaning && (list_all good (filter (has_values members) meaning) && are_apart environment.target rest))
+
+  nothing-rest : (meaning : Meaning) → IsNoneLeft meaning
+  nothing-rest [] front [] n k is all lists = refl
+  nothing-rest [] front (p ∷ rest) n k is all lists = absurd lists
+  nothing-rest (values ∷ meaning) front rest n k is all lists = go (has_values members values) rest all lists (nothing-rest meaning)
+    where
+      go : (t : Bool) (rest : List Listed) → packages ≡ front ++ rest → Pairwise Lists (cond t (values ∷ filter (has_values members) meaning) (filter (has_values members) meaning)) rest → IsNoneLeft meaning
+          → is_nothing (cond t (lines_of asks (k + 1) (fields_after text n) values) (other_line (n + 1) (state_text values)) ++ parts_from own packages text (n + 1) (cond t (k + 1) k) meaning)
+          ≡ (((t || is_removed (status_word values)) && list_all (is_known members) meaning) && (list_all good (cond t (values ∷ filter (has_values members) meaning) (filter (has_values members) meaning)) && are_apart environment.target rest))
+      go true [] all lists later = absurd lists
+      go true (p ∷ more) all lists later =
+          let long = length_push front p in
+          nothing-member front more p k values (parts_from own packages text (n + 1) (k + 1) meaning) (list_all (is_known members) meaning) (list_all good (filter (has_values members) meaning)) is all
+          (later (front ++ p ∷ []) more (n + 1) (k + 1) (omega (arith, is, long)) (all ∙ sym (append_assoc front (p ∷ []) more)) lists.1) (fields_after text n)
+      go false rest all lists later =
+          nothing-both (other_line (n + 1) (state_text values)) (parts_from own packages text (n + 1) k meaning)
+          ∙ ap (λ b. b && is_nothing (parts_from own packages text (n + 1) k meaning)) (nothing-state (n + 1) values)
+          ∙ ap (λ b. is_removed (status_word values) && b) (later front rest (n + 1) k is all lists)
+          ∙ between (is_removed (status_word values)) (list_all (is_known members) meaning) (list_all good (filter (has_values members) meaning) && are_apart environment.target rest)
 
 pub no_line : NoLineIfHealthy
 no_line members strength environment text meaning packages lists =
-    ap is_nothing (canonical_members (asks_over (asks_healthy members strength environment) packages) refl members text text 0 0 meaning)
-    ∙ nothing-rest members strength environment packages text [] packages 0 (filter (has_values members) meaning) refl refl lists
+    nothing-rest members strength environment packages text meaning [] packages 0 0 refl refl lists
+    ∙ ap (λ b. b && is_healthy strength environment packages (filter (has_values members) meaning)) (sym (settled-known members meaning))

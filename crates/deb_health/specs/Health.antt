@@ -8,7 +8,7 @@ use Rattle.deb_base.specs.declared.version_text.VersionText.TheVariants.{Canonic
 use Rattle.deb_relation.specs.Applying.{Environment}
 use Rattle.deb_relation.specs.Environments.{environment_with}
 use Rattle.deb_relation.specs.Texts.{group_text}
-use Rattle.deb_field.specs.Values.{ValueMeaning, RelationMeans}
+use Rattle.deb_field.specs.Values.{ValueMeaning, NameMeans, RelationMeans, TextMeans}
 use Rattle.deb_control.specs.Documents.{Meaning}
 use Rattle.deb_control.specs.FieldWords.{groups_of, value_under, word_under}
 use Rattle.deb_control.specs.ValueFiles.{ValueEntries}
@@ -18,7 +18,7 @@ use Rattle.deb_index.specs.declared.members.Members.{Members}
 use Rattle.deb_index.specs.declared.members.Members.TheVariants.{Installed}
 use Rattle.deb_unmet.specs.Asked.{fields_with}
 use Rattle.deb_unmet.specs.Fields.{environment_for}
-use Rattle.deb_unmet.specs.Own.{OwnAsks}
+use Rattle.deb_unmet.specs.Own.{OwnAsks, own_lines}
 use Rattle.deb_unmet.specs.Readings.{applies_by, may}
 use Rattle.deb_unmet.specs.Troubles.{trouble}
 use Rattle.deb_unmet.specs.declared.asked.Asked.TheVariants.{Packages}
@@ -26,15 +26,17 @@ use Rattle.deb_unmet.specs.declared.asked.Strength.{Strength}
 use Rattle.deb_unmet.specs.declared.asked.Strength.TheVariants.{Depends, Recommends}
 use Rattle.deb_health.specs.Excluding.{excludes}
 use Rattle.deb_health.specs.Lines.{listed, member_lines, negative_fields, packages as several, values as those_of_bb}
+use Rattle.deb_health.specs.States.{state_text}
 use Rattle.deb_health.specs.Together.{rules_out}
 
--- what is written of each package of a set
+-- what is written of each package of a set, and of one of a status file that is none
 abbrev pub asks_healthy : Members → Strength → Environment → OwnAsks
 asks_healthy members strength environment =
     record {
       members = members;
       versions = Canonical;
       lines = member_lines strength environment;
+      others = state_text;
     }
 
 -- Each group that the package needs is met by a package of the set, or ignored, however its
@@ -109,3 +111,14 @@ worked-asks : (asks_healthy Installed Depends for_amd64).lines [] 3 (codes "1")
     (alone_in (codes "Depends")) ≡ codes "unmet 3  1  Depends ee\n"
 unfolding group_text digits
 worked-asks = refl
+
+-- a status file of packages without a version, of which the second is removed
+abbrev named : List ℕ → ValueEntries ValueMeaning
+named status = (codes "Package", NameMeans (codes "bb")) ∷ (codes "Status", TextMeans status) ∷ []
+
+worked-states : own_lines (asks_healthy Installed Depends for_amd64) [] []
+    (named (codes "install ok installed") ∷ named (codes "purge ok not-installed")
+    ∷ named (codes "install ok triggers-pending") ∷ [])
+    ≡ codes "state 1 bb - - installed\nstate 3 bb - - triggers-pending\n"
+unfolding digits
+worked-states = refl

@@ -1,7 +1,7 @@
--- Laws of the lines of a set: there is none exactly if the set is healthy, those of a package begin
--- as `unmet` writes them, and canonical text changes none. Debian Policy 5.1 and 7.2 to 7.5; the
--- canonical text is this project's own.
-use Rattle.std.specs.Prelude.{◌≡◌, ℕ, List, ◌++◌}
+-- Laws of the lines of a set: there is none exactly if the set is healthy and each package is in it
+-- or removed, those of a package begin as `unmet` writes them, and canonical text changes none.
+-- Debian Policy 5.1 and 7.2 to 7.5; the canonical text is this project's own.
+use Rattle.std.specs.Prelude.{◌≡◌, ◌&&◌, ℕ, List, ◌++◌}
 use Rattle.std.specs.List.{filter}
 use Rattle.deb_base.specs.declared.version_text.VersionText.TheVariants.{Canonical}
 use Rattle.deb_syntax.specs.Fields.{Field}
@@ -18,15 +18,18 @@ use Rattle.deb_unmet.specs.Files.{is_nothing, lines_of}
 use Rattle.deb_unmet.specs.Own.{asks_own, asks_over, own_lines}
 use Rattle.deb_unmet.specs.declared.asked.Strength.{Strength}
 use Rattle.deb_health.specs.Health.{asks_healthy, is_healthy}
+use Rattle.deb_health.specs.States.{are_settled}
 
--- No line is written exactly if the set is healthy.
+-- No line is written exactly if the set is healthy, and each package of a status file is either in
+-- it or removed.
 abbrev pub NoLineIfHealthy : Type 0
 NoLineIfHealthy =
     (members : Members) (strength : Strength) (environment : Environment) (text : List ℕ)
     (meaning : Meaning) (packages : List Listed)
     → Pairwise Lists (filter (has_values members) meaning) packages
     → is_nothing (own_lines (asks_healthy members strength environment) packages text meaning)
-    ≡ is_healthy strength environment packages (filter (has_values members) meaning)
+    ≡ (are_settled members meaning
+    && is_healthy strength environment packages (filter (has_values members) meaning))
 
 -- The lines of a package begin with those that `unmet` writes of it in the same file.
 abbrev pub BeginsAsUnmet : Type 0

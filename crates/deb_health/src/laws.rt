@@ -3,8 +3,9 @@
 ghost use Rattle.deb_health.specs.Changes.{AddingRemovesUnmetAtMost, RearrangingChangesNoReason};
 ghost use Rattle.deb_health.specs.Laws.{BeginsAsUnmet, CanonicalTextChangesNoLine, NoLineIfHealthy};
 
-/// No line is written exactly if the set is healthy: each group that a package needs is met or
-/// ignored, none excludes another, and those of one name can be installed together.
+/// No line is written exactly if the set is healthy and no package of a status file is neither
+/// installed nor removed. A set is healthy if each group that a package needs is met or ignored,
+/// none excludes another, and those of one name can be installed together.
 pub fn no_line_if_healthy()
     ensures { NoLineIfHealthy }
 {}

@@ -1,5 +1,5 @@
 //! Whether a set of packages is consistent: what each depends on is there, and none excludes
-//! another (Debian Policy 7.2 to 7.5).
+//! another (Debian Policy 7.2 to 7.5); and that no package of a status file is installed in part.
 //!
 //! ```text
 //! let environment = Env::new(alloc, b"amd64", &[])?;
@@ -16,6 +16,7 @@ mod kept;
 pub mod laws;
 mod lines;
 mod members;
+mod state;
 mod together;
 
 pub use members::healthy;

@@ -14,11 +14,13 @@ ghost use Rattle.deb_index.specs.Members.{doc_of};
 ghost use Rattle.deb_relation.specs.Environments.{environment_of};
 ghost use Rattle.deb_unmet.specs.Own.{StopsOwn, WritesOwn};
 ghost use Rattle.deb_unmet.specs.Paragraphs.{fields_in};
+ghost use Rattle.deb_unmet.specs.Parts.{GivesValues, IsOther};
 ghost use Rattle.deb_health.specs.Health.{asks_healthy};
 ghost use Rattle.deb_health.specs.Kept.{HoldsMember};
 
 use crate::kept::Kept;
 use crate::lines::{Set, append_member};
+use crate::state::state_text;
 use deb_base::{Fault, Sink, Source};
 use deb_control::{CheckedView, FieldTexts};
 use deb_index::{Index, Members};
@@ -36,9 +38,11 @@ use std::alloc::{AllocError, Global};
 ///   name that an alternative of Conflicts or Breaks excludes. Without a qualifier and with `any`
 ///   it speaks of packages of every architecture.
 /// - `duplicate`: a later package of the same name that can't be installed together with this one.
+/// - `state`: a package of a status file that is neither in the set nor removed (dpkg(1)), as one
+///   that is installed in part, or without a version or an architecture.
 ///
-/// The lines are in the order of the packages. None is written before the whole file has been read
-/// and has no refusal.
+/// The lines are in the order of the paragraphs. None is written before the whole file has been
+/// read and has no refusal.
 ///
 /// At most 4,295,032,831 bytes are read: a file of the most bytes, and one piece. Promises about
 /// the text of the file hold for a reader whose bytes are known.
@@ -49,7 +53,7 @@ use std::alloc::{AllocError, Global};
 ///   with a code from 1 to 21 and a line of the file, counted from 1. Nothing was written.
 /// - `Fault::Read`: a read failed in this call. Nothing was written.
 /// - `Fault::Memory`: a growth of memory was refused. Nothing was written, or the lines of the
-///   first packages of an accepted file.
+///   first paragraphs of an accepted file.
 /// - `Fault::Write`: a write failed in this call. A prefix of the lines of an accepted file was
 ///   written.
 pub fn healthy<R: Source, W: Sink>(
@@ -122,6 +126,19 @@ impl OwnLines for SetLines<'_> {
             → IfOk result (HoldsMember (fields_in paragraph.now) values) }
     {
         Kept::of(alloc, paragraph, texts)
+    }
+
+    fn keep_other(
+        alloc: Global,
+        paragraph: &CheckedView<'_>,
+        texts: &FieldTexts,
+    ) -> Result<Vec<u8>, AllocError>
+        ensures { (values : ValueEntries ValueMeaning) → GivesValues paragraph.now texts.now values
+            → IfOk result (λ text. IsOther (λ (lines : SetLines).
+            asks_healthy lines.members lines.strength (environment_of lines.environment.now)) values
+            text.items) }
+    {
+        state_text(alloc, paragraph, texts)
     }
 
     fn append(

@@ -25,10 +25,10 @@ use Rattle.deb_index.proofs.Filters.{filter-all, filter-skips, filter-takes}
 use Rattle.deb_index.proofs.Installed.{member_passes, one_list_of, same_has}
 use Rattle.deb_index.proofs.Stored.{no_packages}
 
--- While a file is read: what is kept of its first paragraphs, and what a keeper keeps of the members among these if it kept nothing before.
+-- While a file is read: what is kept of its first paragraphs, and what a keeper keeps of these if it kept nothing before.
 pub record ReadGiven {K : Type 0} (members : Members) (Keeps : K → List Seen → Type 0) (first now : K) (store : Store) (given : List Seen) : Type 0 where
   pub keeps_given : KeepsGiven members store given
-  pub keeps : Keeps first [] → Keeps now (seen_in members given)
+  pub keeps : Keeps first [] → Keeps now given
 
 pub none_kept : (members : Members) (store : Store) → store.entries.items ≡ [] → store.records.items ≡ [] → KeepsGiven members store []
 none_kept members store entries records = record {
@@ -98,20 +98,22 @@ lists_members Installed text given store shown keeps = record {
 }
 
 -- and what is kept of them
-pub keeps_members : (members : Members) (Keeps : List Seen → Type 0) (text : List ℕ) (given : List Seen) (store : Store) → ShownAll (doc_of members) text given → KeepsGiven members store given → Keeps (seen_in members given) → KeepsMembers members Keeps text
+pub keeps_members : (members : Members) (Keeps : List Seen → Type 0) (text : List ℕ) (given : List Seen) (store : Store) → ShownAll (doc_of members) text given → KeepsGiven members store given → Keeps given → KeepsMembers members Keeps text
 keeps_members All Keeps text given store shown keeps kept = record {
   given = given;
   next = shown.next;
   accepted = λ values are. accepted-given Packages text given values shown are;
-  keeps = subst Keeps (filter-all (has_seen All) (λ seen. refl) given) kept;
+  keeps = kept;
 }
 keeps_members Installed Keeps text given store shown keeps kept = record {
-  given = given;
-  next = shown.next;
+  all = record {
+    given = given;
+    next = shown.next;
+    accepted = λ values are. accepted-given Status text given values shown are;
+    keeps = kept;
+  };
   meaning = keeps.meaning;
   are = keeps.are;
-  accepted = accepted-given Status text given keeps.meaning shown keeps.are;
   same = keeps.same;
   members = keeps.passing;
-  keeps = kept;
 }

@@ -81,7 +81,7 @@ module _ (seen : Seen) (fields : are_fields seen.fields ≡ true) (values : Valu
   passes = ap is_ok are.passes
 
   -- the text of Status
-  status_is : text_of (value_under (codes "Status") values) ≡ body_or_nothing (field_named (codes "Status") seen.fields)
+  pub status_is : text_of (value_under (codes "Status") values) ≡ body_or_nothing (field_named (codes "Status") seen.fields)
   status_is = go (field_named (codes "Status") seen.fields) refl
     where
       under : (o : Option ValueMeaning) → HasValue Status seen (codes "Status") o → find byte_order (codes "Status") values ≡ o

@@ -15,6 +15,7 @@ use Rattle.deb_base.specs.Kinds.{kind_at, known_row, kind_of, required, row_coun
 use Rattle.deb_field.specs.ValueLaws.{value_law}
 use Rattle.deb_field.specs.Values.{ValueMeaning, NameMeans, VersionMeans, ArchitectureMeans, MultiArchMeans, RelationMeans, value_text, SpellsValue}
 use Rattle.deb_field.specs.declared.flag.MultiArch.{MultiArch}
+use Rattle.deb_base.specs.declared.doc.Doc.{Doc}
 use Rattle.deb_base.specs.declared.doc.Doc.TheVariants.{Packages}
 use Rattle.deb_control.specs.Acceptance.{has_values}
 use Rattle.deb_control.specs.Checking.{is_judged}
@@ -155,8 +156,8 @@ lists-read seen name version architecture multi_arch provisions named versioned 
     under name o has = ap (find byte_order (canonical_name name)) (one_list_of_values seen named.values has.values named.are has.are) ∙ sym has.found
 
 -- the words and relations among what is kept
-pub visits-texts : (kept : PackageBuilder) (seen : Seen) → VisitsValues KeepsVisited kept Packages seen → VisitsValues KeepsTexts kept.texts Packages seen
-visits-texts kept seen keeps = record { passes = keeps.passes; fields = keeps.fields; visited = keeps.visited; all = keeps.all; spelled = keeps.spelled; visits = keeps.visits.texts }
+pub visits-texts : (doc : Doc) (kept : PackageBuilder) (seen : Seen) → VisitsValues KeepsVisited kept doc seen → VisitsValues KeepsTexts kept.texts doc seen
+visits-texts doc kept seen keeps = record { passes = keeps.passes; fields = keeps.fields; visited = keeps.visited; all = keeps.all; spelled = keeps.spelled; visits = keeps.visits.texts }
 
 -- what was kept of its fields are the texts of that package
 pub record ListsKept (kept : PackageBuilder) (seen : Seen) : Type 0 where

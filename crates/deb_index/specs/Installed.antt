@@ -19,12 +19,12 @@ use Rattle.deb_field.specs.Values.{ValueMeaning, NameMeans, VersionMeans, Archit
 use Rattle.deb_field.specs.Words.{words_of}
 use Rattle.deb_control.specs.Acceptance.{has_values}
 use Rattle.deb_control.specs.Documents.{Meaning, Accepted}
-use Rattle.deb_control.specs.GivenParagraphs.{AreNext}
 use Rattle.deb_control.specs.Pairs.{Pairwise}
 use Rattle.deb_control.specs.Paragraphs.{AreValuesOf}
 use Rattle.deb_control.specs.ValueFiles.{ValueEntries}
 use Rattle.deb_base.specs.declared.doc.Doc.TheVariants.{Packages}
 use Rattle.deb_index.specs.FirstLines.{first_line}
+use Rattle.deb_index.specs.Keeping.{KeepsAll}
 use Rattle.deb_index.specs.Listed.{Listed}
 use Rattle.deb_index.specs.Listing.{Lists, value_under}
 use Rattle.deb_index.specs.VersionSpellings.{body_or_nothing, version_spelling}
@@ -97,19 +97,16 @@ installed_lines text = map first_line (filter is_member_in (paragraphs_of text))
 abbrev pub installed_spellings : List ℕ → List (List ℕ)
 installed_spellings text = map version_spelling (filter is_member_in (paragraphs_of text))
 
--- These are the paragraphs of the status file, in its order; with their values it is accepted; they
--- have the same members by their fields and by their values; each member has the values of a
--- paragraph of an index of packages; and this is kept of the members.
+-- This is kept of all paragraphs of the status file; they have these values; they have the same
+-- members by their fields and by their values; and each member has the values of a paragraph of an
+-- index of packages.
 pub record KeepsInstalled (Keeps : List Seen → Type 0) (text : List ℕ) : Type 0 where
-  pub given : List Seen
-  pub next : AreNext text 0 given
+  pub all : KeepsAll Status Keeps text
   pub meaning : Meaning
-  pub are : Pairwise (AreValuesOf Status) given meaning
-  pub accepted : Accepted Status text meaning
-  pub same : Pairwise (λ seen values. is_seen_member seen ≡ is_member values) given meaning
-  pub members : Pairwise (AreValuesOf Packages) (filter is_seen_member given)
+  pub are : Pairwise (AreValuesOf Status) all.given meaning
+  pub same : Pairwise (λ seen values. is_seen_member seen ≡ is_member values) all.given meaning
+  pub members : Pairwise (AreValuesOf Packages) (filter is_seen_member all.given)
       (filter is_member meaning)
-  pub keeps : Keeps (filter is_seen_member given)
 
 -- Other states, and words that aren't three. White space is spaces, tabs and newlines; a word is
 -- compared byte by byte.

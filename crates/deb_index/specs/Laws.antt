@@ -30,7 +30,7 @@ CanonicalTextLists =
     (text : List ℕ) (meaning : Meaning) (packages : List Listed) → Accepted Packages text meaning
     → ListsAll text packages → ListsAll (canonical_text meaning) packages
 
--- A status file lists one list of installed packages at most, and its canonical text the same.
+-- A status file lists at most one list of installed packages, and its canonical text the same.
 pub record InstalledPackagesAreMeant : Type 0 where
   pub once : (text : List ℕ) (packages others : List Listed) → ListsInstalled text packages
       → ListsInstalled text others → packages ≡ others

@@ -60,9 +60,9 @@ abbrev pub member_spellings : Members → List ℕ → List (List ℕ)
 member_spellings All = version_spellings
 member_spellings Installed = installed_spellings
 
--- This is kept of them.
+-- This is kept of all paragraphs of the file.
 abbrev pub KeepsMembers : Members → (List Seen → Type 0) → List ℕ → Type 0
-KeepsMembers All = KeepsAll
+KeepsMembers All = KeepsAll docs.Packages
 KeepsMembers Installed = KeepsInstalled
 
 -- by its fields and by its values a paragraph is a member, or isn't

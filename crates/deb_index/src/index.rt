@@ -16,12 +16,10 @@ ghost use Rattle.deb_relation.specs.Views.{alternative_of};
 ghost use Rattle.deb_syntax.specs.Answers.{Seen};
 ghost use Rattle.deb_index.specs.Crowds.{AreCrowds, AreMeeting};
 ghost use Rattle.deb_index.specs.FirstLines.{first_lines, line_at};
-ghost use Rattle.deb_index.specs.Installed.{KeepsInstalled, ListsInstalled, installed_lines, installed_spellings};
-ghost use Rattle.deb_index.specs.Keeping.{KeepsAll};
 ghost use Rattle.deb_index.specs.Kept.{line_of, listed_of, spelling_of};
 ghost use Rattle.deb_index.specs.Listing.{ListsAll};
 ghost use Rattle.deb_index.specs.Maps.{numbers_under};
-ghost use Rattle.deb_index.specs.Members.{KeepsGiven, KeepsMembers, ListsMembers, doc_of, member_lines, member_spellings, seen_in};
+ghost use Rattle.deb_index.specs.Members.{KeepsGiven, KeepsMembers, ListsMembers, doc_of, member_lines, member_spellings};
 ghost use Rattle.deb_index.specs.Named.{has_name, numbers_of, package_at, provides};
 ghost use Rattle.deb_index.specs.PackageBuilder.{KeepsVisited};
 ghost use Rattle.deb_index.specs.Stores.{IsStore, lines_in, listed_in, spellings_in};
@@ -95,107 +93,11 @@ impl Index {
         ensures fault_iff_read_failed { ReadFaultIffFailed (R.failures reader.old)
             (R.failures reader.new) result }
     {
-        Index::read_with(alloc, reader, &mut NoKeeper)
+        Index::read_members(alloc, reader, Members::All, &mut NoKeeper)
     }
 
-    /// The same, where `keeper` is given each paragraph after it has passed, in file order.
-    ///
-    /// # Errors
-    ///
-    /// Those of [`Index::read`]; `Fault::Memory` also where the keeper ran out of memory.
-    pub fn read_with<R: Source, K: Keeper>(
-        alloc: Global,
-        reader: &mut R,
-        keeper: &mut K,
-    ) -> Result<Index, Fault>
-        ensures ok { (text : List ℕ) → R.left reader.old ≡ Some text
-            → IfOk result (λ index. ListsAll text (packages_of index)) }
-        ensures lines { (text : List ℕ) → R.left reader.old ≡ Some text
-            → IfOk result (λ index. lines_of index ≡ first_lines text) }
-        ensures spellings { (text : List ℕ) → R.left reader.old ≡ Some text
-            → IfOk result (λ index. spellings_of index ≡ version_spellings text) }
-        ensures refused { (text : List ℕ) → R.left reader.old ≡ Some text
-            → IfRefused result (λ refusal. refusal_of Doc.Packages text ≡ Some refusal) }
-        ensures reads_at_most { (text : List ℕ) → R.left reader.old ≡ Some text
-            → TakesNoMore text file_limit (R.left reader.new) }
-        ensures keeps { (text : List ℕ) → R.left reader.old ≡ Some text → K.Keeps keeper.old []
-            → IfOk result (λ _. KeepsAll (K.Keeps keeper.new) text) }
-
-        // Whether or not the reader's bytes are known.
-        ensures fault { IfErr result (λ fault. IsReadersFault fault IsRefusalOfDocument) }
-        ensures counts_read_failure { R.failures reader.new ≡ read_failures_after
-            (R.failures reader.old) result }
-        ensures fault_iff_read_failed { ReadFaultIffFailed (R.failures reader.old)
-            (R.failures reader.new) result }
-    {
-        Index::read_members(alloc, reader, Members::All, keeper)
-    }
-
-    /// Reads a status file (dpkg(1)) as an index of its installed packages: of the paragraphs whose
-    /// Status has three words, of which the third is `installed`, and which have Version and
-    /// Architecture. Numbers count these alone.
-    ///
-    /// # Errors
-    ///
-    /// Those of [`Index::read`], for a status file.
-    pub fn read_installed<R: Source>(alloc: Global, reader: &mut R) -> Result<Index, Fault>
-        ensures ok { (text : List ℕ) → R.left reader.old ≡ Some text
-            → IfOk result (λ index. ListsInstalled text (packages_of index)) }
-        ensures lines { (text : List ℕ) → R.left reader.old ≡ Some text
-            → IfOk result (λ index. lines_of index ≡ installed_lines text) }
-        ensures spellings { (text : List ℕ) → R.left reader.old ≡ Some text
-            → IfOk result (λ index. spellings_of index ≡ installed_spellings text) }
-        ensures refused { (text : List ℕ) → R.left reader.old ≡ Some text
-            → IfRefused result (λ refusal. refusal_of Doc.Status text ≡ Some refusal) }
-        ensures reads_at_most { (text : List ℕ) → R.left reader.old ≡ Some text
-            → TakesNoMore text file_limit (R.left reader.new) }
-
-        // Whether or not the reader's bytes are known.
-        ensures fault { IfErr result (λ fault. IsReadersFault fault IsRefusalOfDocument) }
-        ensures counts_read_failure { R.failures reader.new ≡ read_failures_after
-            (R.failures reader.old) result }
-        ensures fault_iff_read_failed { ReadFaultIffFailed (R.failures reader.old)
-            (R.failures reader.new) result }
-    {
-        Index::read_installed_with(alloc, reader, &mut NoKeeper)
-    }
-
-    /// The same, where `keeper` is given the paragraph of each installed package after it has
-    /// passed, in file order.
-    ///
-    /// # Errors
-    ///
-    /// Those of [`Index::read_installed`]; `Fault::Memory` also where the keeper ran out of memory.
-    pub fn read_installed_with<R: Source, K: Keeper>(
-        alloc: Global,
-        reader: &mut R,
-        keeper: &mut K,
-    ) -> Result<Index, Fault>
-        ensures ok { (text : List ℕ) → R.left reader.old ≡ Some text
-            → IfOk result (λ index. ListsInstalled text (packages_of index)) }
-        ensures lines { (text : List ℕ) → R.left reader.old ≡ Some text
-            → IfOk result (λ index. lines_of index ≡ installed_lines text) }
-        ensures spellings { (text : List ℕ) → R.left reader.old ≡ Some text
-            → IfOk result (λ index. spellings_of index ≡ installed_spellings text) }
-        ensures refused { (text : List ℕ) → R.left reader.old ≡ Some text
-            → IfRefused result (λ refusal. refusal_of Doc.Status text ≡ Some refusal) }
-        ensures reads_at_most { (text : List ℕ) → R.left reader.old ≡ Some text
-            → TakesNoMore text file_limit (R.left reader.new) }
-        ensures keeps { (text : List ℕ) → R.left reader.old ≡ Some text → K.Keeps keeper.old []
-            → IfOk result (λ _. KeepsInstalled (K.Keeps keeper.new) text) }
-
-        // Whether or not the reader's bytes are known.
-        ensures fault { IfErr result (λ fault. IsReadersFault fault IsRefusalOfDocument) }
-        ensures counts_read_failure { R.failures reader.new ≡ read_failures_after
-            (R.failures reader.old) result }
-        ensures fault_iff_read_failed { ReadFaultIffFailed (R.failures reader.old)
-            (R.failures reader.new) result }
-    {
-        Index::read_members(alloc, reader, Members::Installed, keeper)
-    }
-
-    /// Reads a file as an index of these of its paragraphs. `keeper` is given each of them after it
-    /// has passed, in file order.
+    /// Reads a file as an index of these of its paragraphs. `keeper` is given each paragraph after
+    /// it has passed, in file order: these by `keep`, and the others by `pass_over`.
     ///
     /// # Errors
     ///
@@ -217,8 +119,9 @@ impl Index {
             → IfRefused result (λ refusal. refusal_of (doc_of members) text ≡ Some refusal) }
         ensures reads_at_most { (text : List ℕ) → R.left reader.old ≡ Some text
             → TakesNoMore text file_limit (R.left reader.new) }
-        ensures keeps { (text : List ℕ) → R.left reader.old ≡ Some text → K.Keeps keeper.old []
-            → IfOk result (λ _. KeepsMembers members (K.Keeps keeper.new) text) }
+        ensures keeps { (text : List ℕ) → R.left reader.old ≡ Some text
+            → K.Keeps members keeper.old []
+            → IfOk result (λ _. KeepsMembers members (K.Keeps members keeper.new) text) }
 
         // Whether or not the reader's bytes are known.
         ensures fault { IfErr result (λ fault. IsReadersFault fault IsRefusalOfDocument) }
@@ -338,7 +241,8 @@ impl Index {
     }
 }
 
-/// Keeps the package of one more paragraph, if that is one of the members.
+/// Keeps the package of one more paragraph, if that is one of the members, and what the keeper
+/// keeps of it.
 fn keep_next<K: Keeper>(
     members: Members,
     paragraph: &CheckedView<'_>,
@@ -352,10 +256,11 @@ fn keep_next<K: Keeper>(
         → OnOk result (KeepsGiven members store.new (given ++ seen ∷ [])) }
     ensures keeps { (given : List Seen) (seen : Seen)
         → VisitsValues KeepsVisited builder.now (doc_of members) seen
-        → (passing_judged paragraph.now).seen ≡ seen → K.Keeps keeper.old (seen_in members given)
-        → OnOk result (K.Keeps keeper.new (seen_in members (given ++ seen ∷ []))) }
+        → (passing_judged paragraph.now).seen ≡ seen → K.Keeps members keeper.old given
+        → OnOk result (K.Keeps members keeper.new (given ++ seen ∷ [])) }
 {
     if !members.has(paragraph) {
+        keeper.pass_over(paragraph, &builder.texts)?;
         return Ok(());
     }
     store.push(builder, version_body(paragraph), paragraph.first_line())?;

@@ -49,7 +49,7 @@ pub use answer::{Answer, Answers, Found, FoundPackages};
 pub use fault::QueryFault;
 pub use index::Index;
 pub use keeper::{Keeper, NoKeeper};
-pub use members::Members;
+pub use members::{Members, status_in};
 pub use package::Package;
 pub use pieces::{cut_group, next_alternative, only_alternative};
 pub use question::Question;

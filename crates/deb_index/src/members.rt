@@ -1,9 +1,10 @@
 //! Which paragraphs of a file are packages of an index.
 
 ghost use Rattle.std.specs.Prelude.{◌≡◌, codes, is_some};
+ghost use Rattle.std.specs.Option.{option_map};
 ghost use Rattle.deb_control.specs.CheckedStates.{passing_judged};
 ghost use Rattle.deb_syntax.specs.Raw.{field_named};
-ghost use Rattle.deb_index.specs.Installed.{has_member_fields, is_installed, is_member_by};
+ghost use Rattle.deb_index.specs.Installed.{has_member_fields, is_installed, is_member_by, status_in};
 ghost use Rattle.deb_index.specs.Members.{doc_of, has_seen};
 ghost use Rattle.deb_index.specs.VersionSpellings.{body_or_nothing};
 
@@ -82,12 +83,24 @@ fn status_body<'a>(paragraph: &CheckedView<'a>) -> &'a [u8]
 fn is_installed(text: &[u8]) -> bool
     ensures { result ≡ is_installed text.now }
 {
+    match status_in(text) {
+        Some(status) => status == b"installed".as_slice(),
+        None => false,
+    }
+}
+
+/// Returns the status in the text of Status (dpkg(1)): the last of its three words, or `None` if
+/// there are fewer words or more.
+pub fn status_in(text: &[u8]) -> Option<&[u8]>
+    ensures { option_map (λ status. status.now) result ≡ status_in text.now }
+{
     let mut words = Folded::new(text).words();
     if words.next().is_none() || words.next().is_none() {
-        return false;
+        return None;
     }
+    let status = words.next()?;
     match words.next() {
-        Some(status) => status == b"installed".as_slice() && words.next().is_none(),
-        None => false,
+        Some(_) => None,
+        None => Some(status),
     }
 }

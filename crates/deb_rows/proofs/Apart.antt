@@ -73,7 +73,7 @@ unsure_kind text =
 abbrev pub health_kind : List ℕ → RowKind
 health_kind text =
     cond (get_or text 0 0 == 99) kind.Conflict
-    (cond (get_or text 0 0 == 100) kind.Duplicate (cond (get_or text 2 0 == 109) kind.UnmetNeed (unsure_kind (drop 7 text))))
+    (cond (get_or text 0 0 == 100) kind.Duplicate (cond (get_or text 0 0 == 115) kind.State (cond (get_or text 2 0 == 109) kind.UnmetNeed (unsure_kind (drop 7 text)))))
 
 abbrev pub text_kind : Form → List ℕ → RowKind
 text_kind form.Report text = report_kind text
@@ -395,3 +395,4 @@ line_kind kind.UnsureNeed cells more e = unsure_need_kind cells more e
 line_kind kind.Conflict cells more e = refl
 line_kind kind.UnsureConflict cells more e = unsure_conflict_kind cells more e
 line_kind kind.Duplicate cells more e = refl
+line_kind kind.State cells more e = refl

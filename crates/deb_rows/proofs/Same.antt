@@ -99,6 +99,7 @@ line_bytes kind.UnsureNeed cells e = refl
 line_bytes kind.Conflict cells e = refl
 line_bytes kind.UnsureConflict cells e = refl
 line_bytes kind.Duplicate cells e = refl
+line_bytes kind.State cells e = refl
 
 some_bytes : (text : List ℕ) → has_bytes text ≡ true → 1 ≤ length text
 some_bytes [] e = absurd (false≢true e)

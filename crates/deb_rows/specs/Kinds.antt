@@ -44,6 +44,7 @@ front_of kind.UnsureNeed = codes "unsure "
 front_of kind.Conflict = codes "conflict "
 front_of kind.UnsureConflict = codes "unsure "
 front_of kind.Duplicate = codes "duplicate "
+front_of kind.State = codes "state "
 
 -- a number, name, version and architecture, each with a space after it, and more
 abbrev pub package_and : List Piece → List Piece
@@ -102,6 +103,7 @@ pieces_of kind.UnsureNeed = package_and field_and_group
 pieces_of kind.Conflict = package_and field_and_excluded
 pieces_of kind.UnsureConflict = package_and field_and_excluded
 pieces_of kind.Duplicate = package_twice
+pieces_of kind.State = package_and any_text
 
 -- the number of a kind in a table
 abbrev pub number_of : RowKind → ℕ
@@ -130,6 +132,7 @@ number_of kind.UnsureNeed = 21
 number_of kind.Conflict = 22
 number_of kind.UnsureConflict = 23
 number_of kind.Duplicate = 24
+number_of kind.State = 25
 
 -- the form of the texts that have a kind
 abbrev pub form_of : RowKind → Form
@@ -158,6 +161,7 @@ form_of kind.UnsureNeed = form.HealthLines
 form_of kind.Conflict = form.HealthLines
 form_of kind.UnsureConflict = form.HealthLines
 form_of kind.Duplicate = form.HealthLines
+form_of kind.State = form.HealthLines
 
 -- the kinds of a form
 abbrev pub kinds_of : Form → List RowKind
@@ -169,7 +173,8 @@ kinds_of form.DiffLines =
     ∷ kind.Downgraded ∷ []
 kinds_of form.Explanation = kind.Key ∷ kind.End ∷ kind.Count ∷ kind.Summary ∷ kind.Valid ∷ []
 kinds_of form.HealthLines =
-    kind.UnmetNeed ∷ kind.UnsureNeed ∷ kind.Conflict ∷ kind.UnsureConflict ∷ kind.Duplicate ∷ []
+    kind.UnmetNeed ∷ kind.UnsureNeed ∷ kind.Conflict ∷ kind.UnsureConflict ∷ kind.Duplicate
+    ∷ kind.State ∷ []
 
 -- Worked cases.
 
@@ -192,19 +197,20 @@ pieces_of_sets : (pieces_of kind.UnmetNeed ≡ (Number, codes " ") ∷ (Word, co
     × (pieces_of kind.UnsureConflict ≡ pieces_of kind.Conflict)
     × (pieces_of kind.Duplicate ≡ (Number, codes " ") ∷ (Word, codes " ") ∷ (Word, codes " ")
     ∷ (Word, codes " with ") ∷ (Number, codes " ") ∷ (Word, codes " ") ∷ (Word, codes "\n") ∷ [])
-pieces_of_sets = (refl, refl, refl, refl, refl)
+    × (pieces_of kind.State ≡ pieces_of kind.Changed)
+pieces_of_sets = (refl, refl, refl, refl, refl, refl)
 
 -- the kinds have the numbers of `deb_row_kind` in `include/debctl.h`
 numbers : map (map number_of)
     (kinds_of form.Report ∷ kinds_of form.UnmetLines ∷ kinds_of form.DiffLines
     ∷ kinds_of form.Explanation ∷ kinds_of form.HealthLines ∷ [])
     ≡ (0 ∷ 1 ∷ 2 ∷ 3 ∷ 4 ∷ 5 ∷ []) ∷ (6 ∷ 7 ∷ []) ∷ (8 ∷ 9 ∷ 10 ∷ 11 ∷ 12 ∷ 13 ∷ 19 ∷ [])
-    ∷ (14 ∷ 15 ∷ 16 ∷ 17 ∷ 18 ∷ []) ∷ (20 ∷ 21 ∷ 22 ∷ 23 ∷ 24 ∷ []) ∷ []
+    ∷ (14 ∷ 15 ∷ 16 ∷ 17 ∷ 18 ∷ []) ∷ (20 ∷ 21 ∷ 22 ∷ 23 ∷ 24 ∷ 25 ∷ []) ∷ []
 numbers = refl
 
 forms : map (map form_of)
     (kinds_of form.Report ∷ kinds_of form.UnmetLines ∷ kinds_of form.DiffLines
     ∷ kinds_of form.Explanation ∷ kinds_of form.HealthLines ∷ [])
     ≡ replicate 6 form.Report ∷ replicate 2 form.UnmetLines ∷ replicate 7 form.DiffLines
-    ∷ replicate 5 form.Explanation ∷ replicate 5 form.HealthLines ∷ []
+    ∷ replicate 5 form.Explanation ∷ replicate 6 form.HealthLines ∷ []
 forms = refl

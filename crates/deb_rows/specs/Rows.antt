@@ -175,7 +175,10 @@ conflicts : (row_line (row kind.Conflict
     × (row_line (row kind.Duplicate
     (codes "1" ∷ codes "aa" ∷ codes "1" ∷ codes "amd64" ∷ codes "3" ∷ codes "1.1" ∷ codes "i386"
     ∷ [])) ≡ codes "duplicate 1 aa 1 amd64 with 3 1.1 i386\n")
-conflicts = (refl, refl, refl)
+    × (row_line (row kind.State
+    (codes "3" ∷ codes "dd" ∷ codes "-" ∷ codes "all" ∷ codes "installed" ∷ []))
+    ≡ codes "state 3 dd - all installed\n")
+conflicts = (refl, refl, refl, refl)
 
 lines : rows_text (row kind.Met (codes "a" ∷ []) ∷ row kind.Unmet (codes "b" ∷ []) ∷ [])
     ≡ codes "met a\nunmet b\n"

@@ -56,6 +56,7 @@ pub(crate) fn kinds_of(form: Form) -> &'static [RowKind]
             RowKind::Conflict,
             RowKind::UnsureConflict,
             RowKind::Duplicate,
+            RowKind::State,
         ],
     }
 }

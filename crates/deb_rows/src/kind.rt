@@ -62,6 +62,9 @@ pub enum RowKind {
     /// A package of the same name that can't be installed together with an earlier one: number,
     /// package, version, architecture of the earlier one; number, version, architecture.
     Duplicate = 24,
+    /// A package of a status file that is neither in the set nor removed: number, package, version,
+    /// architecture, status.
+    State = 25,
 }
 
 /// The text before the first cell of a line of this kind.
@@ -76,6 +79,7 @@ pub(crate) fn front_of(kind: RowKind) -> &'static [u8]
         RowKind::UnsureGroup | RowKind::UnsureNeed | RowKind::UnsureConflict => b"unsure ",
         RowKind::Conflict => b"conflict ",
         RowKind::Duplicate => b"duplicate ",
+        RowKind::State => b"state ",
         RowKind::Removed => b"removed ",
         RowKind::Changed => b"changed ",
         RowKind::Upgraded => b"upgraded ",
@@ -176,7 +180,7 @@ pub(crate) fn pieces_of(kind: RowKind) -> Pieces
         RowKind::Package | RowKind::Removed | RowKind::Added => PACKAGE_LAST,
         RowKind::Reason => REASON,
         RowKind::PackageReason => PACKAGE_REASON,
-        RowKind::Changed => PACKAGE_AND_TEXT,
+        RowKind::Changed | RowKind::State => PACKAGE_AND_TEXT,
         RowKind::UnmetGroup | RowKind::UnsureGroup | RowKind::Upgraded | RowKind::Downgraded => {
             PACKAGE_WORD_AND_TEXT
         }

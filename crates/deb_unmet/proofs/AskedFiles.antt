@@ -66,7 +66,7 @@ pub record HasAsked (asks : Asks) (old new : Option (List ℕ)) (empty : Bool) (
 pub none_asked : (asks : Asks) (held : Option (List ℕ)) → HasAsked asks held held true []
 none_asked asks held = record { values = []; are = tt; written = Appends-nil held; is_empty = refl }
 
-nothing-both : (xs ys : List ℕ) → is_nothing (xs ++ ys) ≡ (is_nothing xs && is_nothing ys)
+pub nothing-both : (xs ys : List ℕ) → is_nothing (xs ++ ys) ≡ (is_nothing xs && is_nothing ys)
 nothing-both [] ys = refl
 nothing-both (x ∷ xs) ys = refl
 

@@ -7,5 +7,5 @@ pub mod Decided
 pub mod ParagraphLines
 pub mod SpelledVersions
 pub mod KeptParagraphs
-pub mod OwnMembers
+pub mod OwnParts
 pub mod OwnFiles

@@ -1,58 +1,40 @@
--- What is known of the lines of an index over its own packages that were written so far, and at
--- their end.
-use Rattle.std.proofs.Common.{inl, inr, ◌≡◌, ℕ, ◌+◌, ◌<◌, ◌≤◌, Bool, true, ◌&&◌, List, [], ◌∷◌, ◌++◌, drop, get_or, length, Option, Result, Ok, Err, refl, sym, ap, ◌∙◌, subst, append_assoc, append-nil, length-append, arith, drop_of_length-le}
-use Rattle.std.proofs.lemmas.List.{drop_more}
+-- What is known of the lines of a file over its own packages that were written so far, and at their
+-- end.
+use Rattle.std.proofs.Common.{inl, inr, ◌≡◌, ℕ, ◌+◌, ◌<◌, ◌≤◌, Bool, true, false, cond, ◌&&◌, List, [], ◌∷◌, ◌++◌, drop, get_or, length, Option, Result, Ok, Err, Some, refl, sym, ap, ◌∙◌, subst, append_assoc, append-nil, arith, drop_of_length-le}
+use Rattle.std.proofs.lemmas.List.{drop_more, length_push}
+use Rattle.std.proofs.KnownBytes.{Appends-nil, Appends-trans}
 use Rattle.std.specs.List.{filter}
 use Rattle.std.specs.Io.KnownBytes.{Appends}
 use Rattle.deb_base.specs.Devices.{AppendsFront, WriteFaultIffFailed, read_failures_after, write_failures_after}
 use Rattle.deb_base.specs.Faults.{IsReadersFault}
 use Rattle.deb_base.specs.declared.fault.Fault.{Fault}
 use Rattle.deb_base.specs.declared.fault.Fault.TheVariants.{Refused, Memory, Read, Write}
-use Rattle.deb_base.specs.declared.doc.Doc.TheVariants as docs
 use Rattle.deb_base.specs.declared.refusal.Refusal.{Refusal}
 use Rattle.deb_base.proofs.Writes.{AppendsFront-more, AppendsFront-then}
-use Rattle.deb_syntax.specs.Answers.{Seen}
+use Rattle.deb_syntax.specs.Answers.{Seen, next_answer}
 use Rattle.deb_syntax.specs.Fields.{Field}
 use Rattle.deb_field.specs.Values.{ValueMeaning}
 use Rattle.deb_control.specs.Calls.{IfRefused}
-use Rattle.deb_control.specs.CheckedStates.{passing_judged}
 use Rattle.deb_control.specs.Documents.{Meaning, Accepted}
-use Rattle.deb_control.specs.FieldTexts.{HasTexts, KeepsTexts}
 use Rattle.deb_control.specs.GivenParagraphs.{AreNext}
+use Rattle.deb_control.specs.Pairs.{Pairwise}
 use Rattle.deb_control.specs.Paragraphs.{AreValuesOf}
 use Rattle.deb_control.specs.ValueFiles.{ValueEntries}
-use Rattle.deb_control.specs.Visiting.{VisitsValues}
-use Rattle.deb_control.specs.declared.checked_view.CheckedView.{CheckedView}
-use Rattle.deb_control.specs.declared.field_texts.FieldTexts.{FieldTexts}
-use Rattle.deb_control.proofs.GivenValues.{pairwise-length}
-use Rattle.deb_control.proofs.KeptTexts.{has-texts}
-use Rattle.deb_control.proofs.PassingParagraphs.{values-passing}
+use Rattle.deb_control.proofs.GivenValues.{pairwise-length, pairwise-push}
+use Rattle.deb_index.specs.Keeping.{KeepsAll}
 use Rattle.deb_index.specs.Listed.{Listed}
-use Rattle.deb_index.specs.Members.{ListsMembers, doc_of, has_values}
+use Rattle.deb_index.specs.Members.{KeepsMembers, ListsMembers, doc_of, has_values}
+use Rattle.deb_index.specs.declared.members.Members.{Members}
+use Rattle.deb_index.specs.declared.members.Members.TheVariants.{All, Installed}
+use Rattle.deb_index.proofs.Filters.{filter-skips, filter-takes}
 use Rattle.deb_unmet.specs.Asking.{IsWritersFault, PutsLines}
-use Rattle.deb_unmet.specs.Files.{Asks, is_nothing, lines_of}
-use Rattle.deb_unmet.specs.Paragraphs.{fields_in}
-use Rattle.deb_unmet.specs.Own.{AreKept, IsKept, OwnAsks, StopsOwn, WritesOwn, asks_over, own_lines}
-use Rattle.deb_unmet.proofs.AskedFiles.{HasAsked, lines_given, lines_given-append, none_asked, one_asked}
-use Rattle.deb_unmet.proofs.OwnMembers.{AreMembers, Packaged, kept_values, members-lines, one_packaged, up-to}
-
--- what is kept of a paragraph that was given
-pub is_kept : {Kept : Type 0} (Holds : List Field → ValueEntries ValueMeaning → Kept → Type 0) (texts : FieldTexts) (view : CheckedView) (seen : Seen) (kept : Kept) → ((values : ValueEntries ValueMeaning) → HasTexts texts values → Holds (fields_in view) values kept) → VisitsValues KeepsTexts texts docs.Packages seen → (passing_judged view).seen ≡ seen → IsKept Holds seen kept
-is_kept Holds texts view seen kept holds visits same =
-    let found = values-passing docs.Packages seen visits.passes in
-    let has = has-texts texts docs.Packages seen visits found.0 found.1 in
-    record { values = found.0; are = found.1; holds = rw (ap (λ s. s.fields) same) at holds found.0 has }
-
-packaged-append : (given more : List Seen) (values others : Meaning) → Packaged given values → Packaged more others → Packaged (given ++ more) (values ++ others)
-packaged-append [] more [] others are rest = rest
-packaged-append [] more (v ∷ values) others are rest = absurd are
-packaged-append (seen ∷ given) more [] others are rest = absurd are
-packaged-append (seen ∷ given) more (v ∷ values) others are rest = (are.0, packaged-append given more values others are.1 rest)
-
--- the first of the next ones
-next-front : (text : List ℕ) (n : ℕ) (first more : List Seen) → AreNext text n (first ++ more) → AreNext text n first
-next-front text n [] more all = tt
-next-front text n (seen ∷ first) more all = (all.0, next-front text (n + 1) first more all.1)
+use Rattle.deb_unmet.specs.Files.{is_nothing}
+use Rattle.deb_unmet.specs.Own.{OwnAsks, StopsOwn, WritesOwn, counted, own_lines, part_lines, parts_from}
+use Rattle.deb_unmet.specs.Parts.{AreParts, HoldsPart, IsPart, is_of_member}
+use Rattle.deb_unmet.specs.Spelled.{fields_after, fields_of_seen}
+use Rattle.deb_unmet.specs.declared.own_lines.Part.{Part}
+use Rattle.deb_unmet.specs.declared.own_lines.Part.TheVariants.{Member, Other}
+use Rattle.deb_unmet.proofs.AskedFiles.{nothing-both}
 
 -- what a call that only writes answers of reads, refusals and writes
 pub unrefused : {T : Type 0} (r : Result T Fault) (P : Refusal → Type 0) → IsWritersFault r → IfRefused r P
@@ -83,127 +65,201 @@ unstarted Memory P own text held is = inl refl
 unstarted Read P own text held is = refl
 unstarted Write P own text held is = absurd is
 
-module _ (own : OwnAsks) (packages : List Listed) {Kept : Type 0} (Holds : List Field → ValueEntries ValueMeaning → Kept → Type 0) (kept : List Kept) (given : List Seen) (old : Option (List ℕ)) where
-  abbrev asks : Asks
-  asks = asks_over own packages
+-- what is kept of all paragraphs
+pub all_kept : (members : Members) (Keeps : List Seen → Type 0) (text : List ℕ) → KeepsMembers members Keeps text → KeepsAll (doc_of members) Keeps text
+all_kept All Keeps text keeps = keeps
+all_kept Installed Keeps text keeps = keeps.all
 
-  -- the lines of the members are those of what was given
-  own_lines_given : (text : List ℕ) (are : AreMembers own.members text given) → own_lines own packages text are.meaning ≡ lines_given asks 0 given (filter (has_values own.members) are.meaning)
-  own_lines_given text are =
-      members-lines own.members asks text 0 0 are.given are.meaning are.next are.same
-      ∙ ap (λ g. lines_given asks 0 g (filter (has_values own.members) are.meaning)) are.are_own
+-- nothing is kept of no paragraph
+pub none_given : (members : Members) {Kept : Type 0} (Holds : List Field → ValueEntries ValueMeaning → Kept → Type 0) (IsText : ValueEntries ValueMeaning → List ℕ → Type 0) (parts : List (Part Kept)) → parts ≡ [] → AreParts members Holds IsText parts []
+none_given members Holds IsText parts is = subst (λ p. AreParts members Holds IsText p []) (sym is) tt
 
-  -- The lines of so many paragraphs were written, and these are left.
-  pub record HasOwn (held : Option (List ℕ)) (empty : Bool) (i : ℕ) : Type 0 where
-    pub done : List Seen
-    pub more : List Seen
-    pub all : given ≡ done ++ more
-    pub numbered : length done ≡ i
-    pub asked : HasAsked asks old held empty done
-    pub left : AreKept Holds (drop i kept) more
+-- the next one after those that were given
+next-at : (text : List ℕ) (n : ℕ) (done : List Seen) (seen : Seen) (more : List Seen) (m : ℕ) → m ≡ n + length done → AreNext text n (done ++ seen ∷ more) → next_answer text m ≡ Ok (Some seen)
+next-at text n [] seen more m is next = ap (next_answer text) (omega (arith, is)) ∙ next.0
+next-at text n (first ∷ done) seen more m is next = next-at text (n + 1) done seen more m (omega (arith, is)) next.1
 
-  pub none_own : AreKept Holds kept given → HasOwn old true 0
-  none_own are = record { done = []; more = given; all = refl; numbered = refl; asked = none_asked asks old; left = are }
+pairwise-append : {A B : Type 0} (R : A → B → Type 0) (xs more : List A) (ys others : List B) → Pairwise R xs ys → Pairwise R more others → Pairwise R (xs ++ more) (ys ++ others)
+pairwise-append R [] more [] others are rest = rest
+pairwise-append R [] more (y ∷ ys) others are rest = absurd are
+pairwise-append R (x ∷ xs) more [] others are rest = absurd are
+pairwise-append R (x ∷ xs) more (y ∷ ys) others are rest = (are.0, pairwise-append R xs more ys others are.1 rest)
 
-  -- The next one, and those after it.
-  pub record NextOwn (held : Option (List ℕ)) (empty : Bool) (i : ℕ) (k : Kept) : Type 0 where
-    pub done : List Seen
-    pub seen : Seen
-    pub more : List Seen
-    pub all : given ≡ done ++ seen ∷ more
-    pub numbered : length done ≡ i
-    pub asked : HasAsked asks old held empty done
-    pub is : IsKept Holds seen k
-    pub left : AreKept Holds (drop (i + 1) kept) more
+-- how many of a list pass a test
+count-first : {X : Type 0} (test : X → Bool) (x : X) (xs : List X) (k m : ℕ) (t : Bool) → test x ≡ t → m ≡ k + length (filter test (x ∷ xs)) → m ≡ cond t (k + 1) k + length (filter test xs)
+count-first test x xs k m true is long =
+    let one : length (filter test (x ∷ xs)) ≡ length (x ∷ filter test xs) = ap (λ b. length (cond b (x ∷ filter test xs) (filter test xs))) is in
+    omega (arith, long, one)
+count-first test x xs k m false is long = long ∙ ap (λ b. k + length (cond b (x ∷ filter test xs) (filter test xs))) is
 
-  pub next_own : {held : Option (List ℕ)} {empty : Bool} (i : ℕ) (k : Kept) → HasOwn held empty i → i < length kept → k ≡ get_or kept i k → NextOwn held empty i k
-  next_own {held} {empty} i k has within is = go has.more has.all (subst (λ l. AreKept Holds l has.more) (drop_more kept i k within ∙ ap (λ first. first ∷ drop (i + 1) kept) (sym is)) has.left)
-    where
-      go : (more : List Seen) → given ≡ has.done ++ more → AreKept Holds (k ∷ drop (i + 1) kept) more → NextOwn held empty i k
-      go [] all left = absurd left
-      go (seen ∷ more) all left = record { done = has.done; seen = seen; more = more; all = all; numbered = has.numbered; asked = has.asked; is = left.0; left = left.1 }
+count-last : {X : Type 0} (test : X → Bool) (xs : List X) (x : X) (t : Bool) → test x ≡ t → length (filter test (xs ++ x ∷ [])) ≡ cond t (length (filter test xs) + 1) (length (filter test xs))
+count-last test xs x true is = ap length (filter-takes test xs x is) ∙ length_push (filter test xs) x
+count-last test xs x false is = ap length (filter-skips test xs x is)
 
-  module _ {held : Option (List ℕ)} {empty : Bool} {i : ℕ} {k : Kept} (next : NextOwn held empty i k) where
-    abbrev line : List ℕ
-    line = lines_of asks (i + 1) next.seen.fields next.is.values
+pub count-within : (t : Bool) (k n now : ℕ) → now ≡ cond t (k + 1) k → k ≤ n → now ≤ n + 1
+count-within true k n now is within = omega (arith, is, within)
+count-within false k n now is within = omega (arith, is, within)
 
-    pub one_own : (writes : Option (List ℕ)) (one all : Bool) → PutsLines line (Ok one) held writes → all ≡ (empty && one) → HasOwn writes all (i + 1)
-    one_own writes one all puts all_is = record {
-      done = next.done ++ next.seen ∷ [];
-      more = next.more;
-      all = next.all ∙ sym (append_assoc next.done (next.seen ∷ []) next.more);
-      numbered = omega (arith, next.numbered, length-append next.done (next.seen ∷ []));
-      asked = one_asked next.asked next.seen next.is.values next.is.are i next.numbered writes one all puts all_is;
-      left = next.left;
+-- the lines of more paragraphs
+parts-append : (own : OwnAsks) (packages : List Listed) (text : List ℕ) (n k : ℕ) (first more : Meaning) (i j : ℕ) → i ≡ n + length first → j ≡ k + length (filter (has_values own.members) first) → parts_from own packages text n k (first ++ more) ≡ parts_from own packages text n k first ++ parts_from own packages text i j more
+parts-append own packages text n k [] more i j long count =
+    ap (λ a. parts_from own packages text a k more) (omega (arith, long)) ∙ ap (λ b. parts_from own packages text i b more) (omega (arith, count))
+parts-append own packages text n k (v ∷ first) more i j long count =
+    ap (λ l. part_lines own packages (fields_after text n) n k v ++ l)
+    (parts-append own packages text (n + 1) (counted own.members k v) first more i j (omega (arith, long)) (count-first (has_values own.members) v first k j (has_values own.members v) refl count))
+    ∙ sym (append_assoc (part_lines own packages (fields_after text n) n k v) (parts_from own packages text (n + 1) (counted own.members k v) first) (parts_from own packages text i j more))
+
+module _ (own : OwnAsks) (packages : List Listed) {Kept : Type 0} (Holds : List Field → ValueEntries ValueMeaning → Kept → Type 0) (IsText : ValueEntries ValueMeaning → List ℕ → Type 0) where
+  abbrev pub Kept_of : List (Part Kept) → List Seen → Type 0
+  Kept_of = AreParts own.members Holds IsText
+
+  abbrev Meant : List Seen → Meaning → Type 0
+  Meant = Pairwise (AreValuesOf (doc_of own.members))
+
+  -- values of paragraphs of which something is kept
+  part_values : (given : List Seen) (parts : List (Part Kept)) → Kept_of parts given → (values : Meaning) × Meant given values
+  part_values [] [] are = ([], tt)
+  part_values [] (part ∷ parts) are = absurd are
+  part_values (seen ∷ given) [] are = absurd are
+  part_values (seen ∷ given) (part ∷ parts) are =
+      let more = part_values given parts are.1 in
+      (are.0.values ∷ more.0, (are.0.are, more.1))
+
+  is_member : (fields : List Field) (values : ValueEntries ValueMeaning) (part : Part Kept) → HoldsPart own.members Holds IsText fields values part → has_values own.members values ≡ is_of_member part
+  is_member fields values (Member kept) holds = holds.0
+  is_member fields values (Other text) holds = holds.0
+
+  module _ (parts : List (Part Kept)) (text : List ℕ) (old : Option (List ℕ)) (lists : ListsMembers own.members text packages) (keeps : KeepsAll (doc_of own.members) (Kept_of parts) text) where
+    abbrev lines : Meaning → List ℕ
+    lines = own_lines own packages text
+
+    -- The lines of so many paragraphs were written, of which so many are members, and these are left.
+    pub record HasOwn (held : Option (List ℕ)) (empty : Bool) (n k : ℕ) : Type 0 where
+      pub done : List Seen
+      pub more : List Seen
+      pub all : keeps.given ≡ done ++ more
+      pub first : Meaning
+      pub are : Meant done first
+      pub long : length first ≡ n
+      pub count : length (filter (has_values own.members) first) ≡ k
+      pub written : Appends old held (lines first)
+      pub is_empty : empty ≡ is_nothing (lines first)
+      pub left : Kept_of (drop n parts) more
+
+    pub none_own : HasOwn old true 0 0
+    none_own = record {
+      done = [];
+      more = keeps.given;
+      all = refl;
+      first = [];
+      are = tt;
+      long = refl;
+      count = refl;
+      written = Appends-nil old;
+      is_empty = refl;
+      left = keeps.keeps;
     }
 
-    -- a front of its lines is one of all lines
-    module _ (others : Meaning) (rest : Packaged next.more others) where
-      abbrev meaning : Meaning
-      meaning = next.asked.values ++ next.is.values ∷ others
+    module _ {held : Option (List ℕ)} {empty : Bool} {n k : ℕ} (has : HasOwn held empty n k) where
+      -- the next one, and those after it
+      pub record NextOwn (part : Part Kept) : Type 0 where
+        pub seen : Seen
+        pub after : List Seen
+        pub more_is : has.more ≡ seen ∷ after
+        pub is : IsPart own.members Holds IsText seen part
+        pub left : Kept_of (drop (n + 1) parts) after
 
-      are_all : Packaged given meaning
-      are_all = subst (λ g. Packaged g meaning) (sym next.all)
-          (packaged-append next.done (next.seen ∷ next.more) next.asked.values (next.is.values ∷ others) next.asked.are (next.is.are, rest))
+      pub next_own : (part : Part Kept) → n < length parts → part ≡ get_or parts n part → NextOwn part
+      next_own part within is = go has.more refl (subst (λ l. Kept_of l has.more) (drop_more parts n part within ∙ ap (λ p. p ∷ drop (n + 1) parts) (sym is)) has.left)
+        where
+          go : (more : List Seen) → has.more ≡ more → Kept_of (part ∷ drop (n + 1) parts) more → NextOwn part
+          go [] more_is left = absurd left
+          go (seen ∷ after) more_is left = record { seen = seen; after = after; more_is = more_is; is = left.0; left = left.1 }
 
-      lines_all : lines_given asks 0 given meaning ≡ lines_given asks 0 next.done next.asked.values ++ (line ++ lines_given asks (i + 1) next.more others)
-      lines_all =
-          ap (λ g. lines_given asks 0 g meaning) next.all
-          ∙ lines_given-append asks 0 next.done next.asked.values (next.seen ∷ next.more) (next.is.values ∷ others) (pairwise-length (AreValuesOf docs.Packages) next.done next.asked.values next.asked.are)
-          ∙ ap (λ n. lines_given asks 0 next.done next.asked.values ++ lines_given asks n (next.seen ∷ next.more) (next.is.values ∷ others)) (omega (arith, next.numbered))
+      module _ {part : Part Kept} (next : NextOwn part) where
+        abbrev line : List ℕ
+        line = part_lines own packages next.seen.fields n k next.is.values
 
-      front_of : (writes : Option (List ℕ)) → AppendsFront held writes line → AppendsFront old writes (lines_given asks 0 given meaning)
-      front_of writes put =
-          subst (AppendsFront old writes) (sym lines_all)
-          (AppendsFront-then old held writes _ _ next.asked.written (AppendsFront-more held writes line (lines_given asks (i + 1) next.more others) put))
+        all_is : keeps.given ≡ has.done ++ next.seen ∷ next.after
+        all_is = has.all ∙ ap (λ l. has.done ++ l) next.more_is
 
-    pub stopped_own : (text : List ℕ) (writes : Option (List ℕ)) (fault : Fault) → PutsLines line (Err fault) held writes → ListsMembers own.members text packages → AreMembers own.members text given → StopsOwn fault own text old writes
-    stopped_own text writes (Refused refusal) puts lists are = absurd puts
-    stopped_own text writes Read puts lists are = absurd puts
-    stopped_own text writes Memory puts lists are =
-        let rest = kept_values Holds next.more (drop (i + 1) kept) next.left in
-        let long = pairwise-length (AreValuesOf docs.Packages) next.done next.asked.values next.asked.are in
-        let meant = one_packaged given (filter (has_values own.members) are.meaning) (meaning rest.0 rest.1) are.passing (are_all rest.0 rest.1) in
-        let up = up-to own.members are.given are.meaning are.same next.done (next.seen ∷ next.more) next.asked.values (next.is.values ∷ rest.0) (are.are_own ∙ next.all) meant long in
-        let first_next : AreNext text 0 up.first = next-front text 0 up.first up.behind (subst (AreNext text 0) up.all are.next) in
-        let lines : own_lines own packages text up.meant ≡ lines_given asks 0 next.done next.asked.values =
-        members-lines own.members asks text 0 0 up.first up.meant first_next up.same ∙ ap (λ g. lines_given asks 0 g (filter (has_values own.members) up.meant)) up.are_done ∙ ap (lines_given asks 0 next.done) up.are_values in
-        inr (record {
-          packages = packages;
-          lists = lists;
-          first = up.meant;
-          more = up.more;
-          accepted = subst (Accepted (doc_of own.members) text) up.all_meant are.accepted;
-          written = subst (λ lines. Appends old writes lines) (sym lines) (subst (λ now. Appends old now (lines_given asks 0 next.done next.asked.values)) puts next.asked.written);
-        })
-    stopped_own text writes Write puts lists are =
-        let rest = kept_values Holds next.more (drop (i + 1) kept) next.left in
-        let meant = one_packaged given (filter (has_values own.members) are.meaning) (meaning rest.0 rest.1) are.passing (are_all rest.0 rest.1) in
-        record {
-          packages = packages;
-          lists = lists;
-          meaning = are.meaning;
-          accepted = are.accepted;
-          written = subst (AppendsFront old writes) (sym (own_lines_given text are ∙ ap (lines_given asks 0 given) meant)) (front_of rest.0 rest.1 writes puts);
-        }
+        fields_are : fields_after text n ≡ next.seen.fields
+        fields_are =
+            let many = pairwise-length (AreValuesOf (doc_of own.members)) has.done has.first has.are in
+            ap fields_of_seen (next-at text 0 has.done next.seen next.after n (omega (arith, many, has.long)) (subst (AreNext text 0) all_is keeps.next))
 
-  -- there is no further paragraph
-  pub end_own : {held : Option (List ℕ)} {empty : Bool} {i : ℕ} → HasOwn held empty i → length kept ≤ i → AreKept Holds kept given → (text : List ℕ) → ListsMembers own.members text packages → AreMembers own.members text given → WritesOwn own text (record { paragraphs = length kept; is_empty = empty }) old held
-  end_own {held} {empty} {i} has past are_kept text lists are =
-      let done = given_done has.more (subst (λ l. AreKept Holds l has.more) (drop_of_length-le kept past) has.left) has.all in
-      let asked = subst (HasAsked asks old held empty) (sym done) has.asked in
-      let meant = one_packaged given (filter (has_values own.members) are.meaning) asked.values are.passing asked.are in
-      let lines = own_lines_given text are ∙ ap (lines_given asks 0 given) meant in
-      record {
+        -- its lines come after the others
+        lines_with : (others : Meaning) → lines (has.first ++ next.is.values ∷ others) ≡ lines has.first ++ (line ++ parts_from own packages text (n + 1) (counted own.members k next.is.values) others)
+        lines_with others =
+            parts-append own packages text 0 0 has.first (next.is.values ∷ others) n k (omega (arith, has.long)) (omega (arith, has.count))
+            ∙ ap (λ f. lines has.first ++ (part_lines own packages f n k next.is.values ++ parts_from own packages text (n + 1) (counted own.members k next.is.values) others)) fields_are
+
+        pub one_own : (writes : Option (List ℕ)) (one all : Bool) (now : ℕ) → PutsLines line (Ok one) held writes → all ≡ (empty && one) → now ≡ cond (is_of_member part) (k + 1) k → HasOwn writes all (n + 1) now
+        one_own writes one all now puts all_empty now_is =
+            let values = next.is.values in
+            let lines_one : lines (has.first ++ values ∷ []) ≡ lines has.first ++ line = lines_with [] ∙ ap (λ l. lines has.first ++ l) (append-nil line) in
+            let member = is_member next.seen.fields values part next.is.holds in
+            record {
+              done = has.done ++ next.seen ∷ [];
+              more = next.after;
+              all = all_is ∙ sym (append_assoc has.done (next.seen ∷ []) next.after);
+              first = has.first ++ values ∷ [];
+              are = pairwise-push (AreValuesOf (doc_of own.members)) has.done has.first next.seen values has.are next.is.are;
+              long = length_push has.first values ∙ ap (λ m. m + 1) has.long;
+              count = count-last (has_values own.members) has.first values (is_of_member part) member ∙ ap (λ c. cond (is_of_member part) (c + 1) c) has.count ∙ sym now_is;
+              written = subst (Appends old writes) (sym lines_one) (Appends-trans old held writes _ _ has.written puts.0);
+              is_empty = all_empty ∙ ap (λ b. b && one) has.is_empty ∙ ap (λ b. is_nothing (lines has.first) && b) puts.1
+                  ∙ sym (nothing-both (lines has.first) line) ∙ ap is_nothing (sym lines_one);
+              left = next.left;
+            }
+
+        -- the whole file, with values of the paragraphs that are left
+        rest : (others : Meaning) × Meant next.after others
+        rest = part_values next.after (drop (n + 1) parts) next.left
+
+        accepted : Accepted (doc_of own.members) text (has.first ++ next.is.values ∷ rest.0)
+        accepted =
+            keeps.accepted (has.first ++ next.is.values ∷ rest.0)
+            (subst (λ g. Meant g (has.first ++ next.is.values ∷ rest.0)) (sym all_is)
+            (pairwise-append (AreValuesOf (doc_of own.members)) has.done (next.seen ∷ next.after) has.first (next.is.values ∷ rest.0) has.are (next.is.are, rest.1)))
+
+        pub stopped_own : (writes : Option (List ℕ)) (fault : Fault) → PutsLines line (Err fault) held writes → StopsOwn fault own text old writes
+        stopped_own writes (Refused refusal) puts = absurd puts
+        stopped_own writes Read puts = absurd puts
+        stopped_own writes Memory puts =
+            inr (record {
+              packages = packages;
+              lists = lists;
+              first = has.first;
+              more = next.is.values ∷ rest.0;
+              accepted = accepted;
+              written = subst (λ now. Appends old now (lines has.first)) puts has.written;
+            })
+        stopped_own writes Write puts =
+            let others = parts_from own packages text (n + 1) (counted own.members k next.is.values) rest.0 in
+            record {
+              packages = packages;
+              lists = lists;
+              meaning = has.first ++ next.is.values ∷ rest.0;
+              accepted = accepted;
+              written = subst (AppendsFront old writes) (sym (lines_with rest.0)) (AppendsFront-then old held writes _ _ has.written (AppendsFront-more held writes line others puts));
+            }
+
+      -- there is no further paragraph
+      pub end_own : length parts ≤ n → WritesOwn own text (record { paragraphs = k; is_empty = empty }) old held
+      end_own past = record {
         packages = packages;
         lists = lists;
-        meaning = are.meaning;
-        accepted = are.accepted;
-        count = ap length meant ∙ pairwise-length (AreValuesOf docs.Packages) given asked.values asked.are ∙ sym (pairwise-length (IsKept Holds) given kept are_kept);
-        written = subst (Appends old held) (sym lines) asked.written;
-        is_empty = asked.is_empty ∙ ap is_nothing (sym lines);
+        meaning = has.first;
+        accepted = keeps.accepted has.first (subst (λ g. Meant g has.first) (sym (has.all ∙ ap (λ l. has.done ++ l) none_left ∙ append-nil has.done)) has.are);
+        count = has.count;
+        written = has.written;
+        is_empty = has.is_empty;
       }
-    where
-      given_done : (more : List Seen) → AreKept Holds [] more → given ≡ has.done ++ more → given ≡ has.done
-      given_done [] none all = all ∙ append-nil has.done
-      given_done (seen ∷ more) none all = absurd none
+        where
+          go : (more : List Seen) → Kept_of [] more → more ≡ []
+          go [] left = refl
+          go (seen ∷ more) left = absurd left
+
+          none_left : has.more ≡ []
+          none_left = go has.more (subst (λ l. Kept_of l has.more) (drop_of_length-le parts past) has.left)

@@ -2,7 +2,7 @@
 use Rattle.std.proofs.Common.{◌≡◌, ℕ, suc, ◌+◌, ◌≤◌, codes, Bool, true, false, ◌&&◌, cond, is_some, IsTrue, List, [], ◌∷◌, ◌++◌, length, drop, map, Option, None, Some, Ok, refl, sym, ap, ◌∙◌, subst}
 use Rattle.std.proofs.lemmas.Bool.{false≢true}
 use Rattle.std.specs.FinMap.{find}
-use Rattle.std.specs.List.{AllByRecursion, filter}
+use Rattle.std.specs.List.{AllByRecursion}
 use Rattle.std.specs.Str.{bytes_eq}
 use Rattle.deb_base.specs.Bodies.{paragraph_limit, file_limit}
 use Rattle.deb_base.specs.Kinds.{kind_at, kind_of, known_row, required}
@@ -42,9 +42,9 @@ use Rattle.deb_unmet.specs.Asked.{doc_of}
 use Rattle.deb_control.specs.FieldWords.{word_in, word_of, word_under}
 use Rattle.deb_unmet.specs.Fields.{paragraph_lines}
 use Rattle.deb_unmet.specs.Files.{Asks, lines_from, lines_of}
+use Rattle.deb_index.specs.Listed.{Listed}
 use Rattle.deb_index.specs.Members.{has_values as has_member_values}
-use Rattle.deb_index.specs.declared.members.Members.{Members}
-use Rattle.deb_unmet.specs.Own.{members_from}
+use Rattle.deb_unmet.specs.Own.{OwnAsks, counted, other_line, part_lines, parts_from}
 use Rattle.deb_unmet.specs.Laws.{SpelledVersionsAreEqual, SpellsVersions, lines_with}
 use Rattle.deb_unmet.specs.Spelled.{fields_after, fields_of_seen, spelled_in, text_in, version_word}
 use Rattle.deb_unmet.specs.declared.asked.Asked.{Asked}
@@ -58,18 +58,14 @@ canonical_lines asks is text other n (values ∷ more) =
     ∙ ap (λ v. asks.lines (n + 1) (version_word v (fields_after other n) values) values ++ lines_from asks text (n + 1) more) (sym is)
     ∙ ap (λ l. lines_of asks (n + 1) (fields_after other n) values ++ l) (canonical_lines asks is text other (n + 1) more)
 
--- and neither do those of members, which are those of a file that has only these
-pub canonical_members : (asks : Asks) → asks.versions ≡ Canonical → (members : Members) (text other : List ℕ) (n k : ℕ) (meaning : Meaning) → members_from members asks text n k meaning ≡ lines_from asks other k (filter (has_member_values members) meaning)
-canonical_members asks is members text other n k [] = refl
-canonical_members asks is members text other n k (values ∷ more) = go (has_member_values members values) (canonical_members asks is members text other (n + 1) (k + 1) more) (canonical_members asks is members text other (n + 1) k more)
-  where
-    go : (t : Bool) → members_from members asks text (n + 1) (k + 1) more ≡ lines_from asks other (k + 1) (filter (has_member_values members) more) → members_from members asks text (n + 1) k more ≡ lines_from asks other k (filter (has_member_values members) more)
-        → cond t (lines_of asks (k + 1) (fields_after text n) values ++ members_from members asks text (n + 1) (k + 1) more) (members_from members asks text (n + 1) k more) ≡ lines_from asks other k (cond t (values ∷ filter (has_member_values members) more) (filter (has_member_values members) more))
-    go true with_it without_it =
-        ap (λ v. asks.lines (k + 1) (version_word v (fields_after text n) values) values ++ members_from members asks text (n + 1) (k + 1) more) is
-        ∙ ap (λ v. asks.lines (k + 1) (version_word v (fields_after other k) values) values ++ members_from members asks text (n + 1) (k + 1) more) (sym is)
-        ∙ ap (λ l. lines_of asks (k + 1) (fields_after other k) values ++ l) with_it
-    go false with_it without_it = without_it
+-- and neither do those of a file over its own packages
+pub canonical_own : (own : OwnAsks) → own.versions ≡ Canonical → (packages : List Listed) (text other : List ℕ) (n k : ℕ) (meaning : Meaning) → parts_from own packages text n k meaning ≡ parts_from own packages other n k meaning
+canonical_own own is packages text other n k [] = refl
+canonical_own own is packages text other n k (values ∷ more) =
+    let with : List ℕ → List ℕ = λ version. cond (has_member_values own.members values) (own.lines packages (k + 1) version values) (other_line (n + 1) (own.others values)) in
+    ap (λ v. with (version_word v (fields_after text n) values) ++ parts_from own packages text (n + 1) (counted own.members k values) more) is
+    ∙ ap (λ v. with (version_word v (fields_after other n) values) ++ parts_from own packages text (n + 1) (counted own.members k values) more) (sym is)
+    ∙ ap (λ l. part_lines own packages (fields_after other n) n k values ++ l) (canonical_own own is packages text other (n + 1) (counted own.members k values) more)
 
 some_of : {A : Type 0} (o : Option A) → is_some o ≡ true → (a : A) × (o ≡ Some a)
 some_of None there = absurd (false≢true there)

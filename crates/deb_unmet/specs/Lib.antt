@@ -11,4 +11,5 @@ pub mod Files
 pub mod KeptParagraphs
 pub mod Asking
 pub mod Own
+pub mod Parts
 pub mod Laws

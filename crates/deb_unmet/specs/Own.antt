@@ -1,8 +1,8 @@
--- What is written of an index over its own packages, and what is kept of its paragraphs until they
--- are known. Debian Policy 5.1, 7.1 and 7.2.
-use Rattle.std.specs.Prelude.{◌≡◌, ◌⊎◌, ℕ, ◌+◌, cond, List, [], ◌∷◌, ◌++◌, length, Option, None, codes, refl}
-use Rattle.std.specs.Fmt.{digits}
-use Rattle.std.specs.List.{filter}
+-- What is written of a file over its own packages. Debian Policy 5.1, 7.1 and 7.2; the form of the
+-- lines is this project's own.
+use Rattle.std.specs.Prelude.{◌≡◌, ◌⊎◌, ℕ, ◌+◌, cond, List, [], ◌∷◌, ◌++◌, length, map, Option, None, codes, refl}
+use Rattle.std.specs.Fmt.{decimal, digits}
+use Rattle.std.specs.List.{concat, filter}
 use Rattle.std.specs.Str.{is_utf8, chars}
 use lib.Utf8.{encode}
 use Rattle.std.specs.Io.KnownBytes.{Appends}
@@ -13,7 +13,6 @@ use Rattle.deb_base.specs.declared.fault.Fault.{Fault}
 use Rattle.deb_base.specs.declared.fault.Fault.TheVariants as faults
 use Rattle.deb_base.specs.declared.version_text.VersionText.{VersionText}
 use Rattle.deb_base.specs.declared.version_text.VersionText.TheVariants.{Canonical, Spelled}
-use Rattle.deb_syntax.specs.Answers.{Seen}
 use Rattle.deb_syntax.specs.Fields.{Field}
 use Rattle.deb_version.specs.Places.{version_in}
 use Rattle.deb_relation.specs.Applying.{Environment}
@@ -21,8 +20,6 @@ use Rattle.deb_relation.specs.Environments.{environment_with}
 use Rattle.deb_relation.specs.Texts.{group_text}
 use Rattle.deb_field.specs.Values.{ValueMeaning, NameMeans, VersionMeans, ArchitectureMeans, RelationMeans, TextMeans}
 use Rattle.deb_control.specs.Documents.{Meaning, Accepted}
-use Rattle.deb_control.specs.Pairs.{Pairwise}
-use Rattle.deb_control.specs.Paragraphs.{AreValuesOf}
 use Rattle.deb_control.specs.ValueFiles.{ValueEntries}
 use Rattle.deb_index.specs.Alternatives.{alone}
 use Rattle.deb_index.specs.Listed.{Listed}
@@ -40,25 +37,27 @@ use Rattle.deb_unmet.specs.declared.asked.Strength.TheVariants.{Depends, Recomme
 use Rattle.deb_unmet.specs.declared.asking.Summary.{Summary}
 use Rattle.deb_unmet.specs.declared.own.OwnRequest.{OwnRequest}
 
--- what is asked of an index over its own packages: which paragraphs of its file are these, which
--- text of a version the lines have, and the lines of a paragraph over the packages that the index
--- lists
+-- what is asked of a file over its own packages: which of its paragraphs are these, which text of a
+-- version the lines have, the lines of a member over the packages that the file lists, and what the
+-- line of another paragraph has after its number; nothing if that has no line
 pub record OwnAsks : Type 0 where
   pub members : Members
   pub versions : VersionText
   pub lines : List Listed → ℕ → List ℕ → ValueEntries ValueMeaning → List ℕ
+  pub others : ValueEntries ValueMeaning → List ℕ
 
 abbrev pub asks_over : OwnAsks → List Listed → Asks
 asks_over own packages =
     record { doc = docs.Packages; versions = own.versions; lines = own.lines packages }
 
--- the lines of its groups, as `unmet` writes them
+-- the lines of its groups, as `unmet` writes them; another paragraph has none
 abbrev pub asks_own : Members → Strength → VersionText → Environment → OwnAsks
 asks_own members strength versions environment =
     record {
       members = members;
       versions = versions;
       lines = paragraph_lines (Packages strength) environment;
+      others = λ values. [];
     }
 
 -- the same, as the code holds what is asked
@@ -70,23 +69,37 @@ abbrev pub own_asked : OwnRequest → Environment → OwnAsks
 own_asked request environment =
     asks_own request.members request.strength request.versions environment
 
--- the lines of the members among a file's paragraphs that come after so many, of which so many are
--- members: numbers count these alone
-abbrev pub members_from : Members → Asks → List ℕ → (n k : ℕ) → Meaning → List ℕ
-members_from members asks text n k [] = []
-members_from members asks text n k (values ∷ more) =
-    cond (has_values members values)
-    (lines_of asks (k + 1) (fields_after text n) values
-    ++ members_from members asks text (n + 1) (k + 1) more)
-    (members_from members asks text (n + 1) k more)
+-- `state NUMBER` and a text; nothing if that is empty
+abbrev pub other_line : ℕ → List ℕ → List ℕ
+other_line number [] = []
+other_line number (b ∷ bs) = concat (codes "state " ∷ decimal number ∷ (b ∷ bs) ∷ [])
 
--- The lines of a file's members over the packages that it lists.
+-- The lines of a paragraph that comes after so many, of which so many are members. The number of a
+-- member counts the members alone, and that of another paragraph all.
+abbrev pub part_lines : OwnAsks → List Listed → List Field → (n k : ℕ) → ValueEntries ValueMeaning
+    → List ℕ
+part_lines own packages fields n k values =
+    cond (has_values own.members values)
+    (lines_of (asks_over own packages) (k + 1) fields values)
+    (other_line (n + 1) (own.others values))
+
+-- how many members there are with it
+abbrev pub counted : Members → ℕ → ValueEntries ValueMeaning → ℕ
+counted members k values = cond (has_values members values) (k + 1) k
+
+-- the lines of a file's paragraphs that come after so many, of which so many are members
+abbrev pub parts_from : OwnAsks → List Listed → List ℕ → (n k : ℕ) → Meaning → List ℕ
+parts_from own packages text n k [] = []
+parts_from own packages text n k (values ∷ more) =
+    part_lines own packages (fields_after text n) n k values
+    ++ parts_from own packages text (n + 1) (counted own.members k values) more
+
+-- The lines of a file over the packages that it lists, in the order of its paragraphs.
 abbrev pub own_lines : OwnAsks → List Listed → List ℕ → Meaning → List ℕ
-own_lines own packages text meaning =
-    members_from own.members (asks_over own packages) text 0 0 meaning
+own_lines own packages text meaning = parts_from own packages text 0 0 meaning
 
--- The file is accepted, exactly the lines of its members over the packages that it lists were
--- written, and the summary says how many members it has and whether there is no line.
+-- The file is accepted, exactly its lines over the packages that it lists were written, and the
+-- summary says how many members it has and whether there is no line.
 pub record WritesOwn (own : OwnAsks) (text : List ℕ) (summary : Summary)
     (old new : Option (List ℕ)) : Type 0 where
   pub packages : List Listed
@@ -105,7 +118,7 @@ pub record BeginsOwn (own : OwnAsks) (text : List ℕ) (old new : Option (List �
   pub accepted : Accepted (doc_of own.members) text meaning
   pub written : AppendsFront old new (own_lines own packages text meaning)
 
--- The same, where exactly the lines of the members among the first paragraphs were written.
+-- The same, where exactly the lines of the first paragraphs were written.
 pub record WritesFirst (own : OwnAsks) (text : List ℕ) (old new : Option (List ℕ)) : Type 0 where
   pub packages : List Listed
   pub lists : ListsMembers own.members text packages
@@ -121,18 +134,6 @@ StopsOwn (faults.Refused refusal) own text old new = old ≡ new
 StopsOwn faults.Memory own text old new = (old ≡ new) ⊎ WritesFirst own text old new
 StopsOwn faults.Read own text old new = old ≡ new
 StopsOwn faults.Write own text old new = BeginsOwn own text old new
-
--- This is kept of a paragraph that passes. `Holds` says what is kept of fields and their values.
-pub record IsKept {Kept : Type 0} (Holds : List Field → ValueEntries ValueMeaning → Kept → Type 0)
-    (seen : Seen) (kept : Kept) : Type 0 where
-  pub values : ValueEntries ValueMeaning
-  pub are : AreValuesOf docs.Packages seen values
-  pub holds : Holds seen.fields values kept
-
--- This is kept of these paragraphs.
-abbrev pub AreKept : {Kept : Type 0} → (List Field → ValueEntries ValueMeaning → Kept → Type 0)
-    → List Kept → List Seen → Type 0
-AreKept Holds kept given = Pairwise (IsKept Holds) given kept
 
 -- An index of two packages, of which the first depends on the second and on bb, and recommends cc;
 -- it spells its version otherwise than the canonical text does.
@@ -236,7 +237,21 @@ worked-installed : (own_lines (asks_own Installed Depends Canonical for_amd64) p
 unfolding group_text digits file_limit paragraph_limit is_utf8 chars encode
 worked-installed = (refl, refl, refl)
 
--- nothing is kept of no paragraph, and no paragraph is left out
-worked-kept : {Kept : Type 0} (Holds : List Field → ValueEntries ValueMeaning → Kept → Type 0)
-    (kept : Kept) → AreKept Holds [] [] × (AreKept Holds (kept ∷ []) [] → ⊥)
-worked-kept Holds kept = (tt, λ none. none)
+worked-others : (map (λ text. other_line 12 text) ([] ∷ codes " aa\n" ∷ [])
+    ≡ [] ∷ codes "state 12 aa\n" ∷ [])
+    × (map (counted Installed 4) installed ≡ 4 ∷ 5 ∷ 5 ∷ [])
+    × (map (counted All 4) installed ≡ 5 ∷ 5 ∷ 5 ∷ [])
+unfolding digits
+worked-others = (refl, refl, refl)
+
+-- the lines of other paragraphs are among those of members, and their numbers count all
+worked-parts : own_lines
+    (record {
+      members = Installed;
+      versions = Canonical;
+      lines = paragraph_lines (Packages Depends) for_amd64;
+      others = λ values. codes " - \n";
+    }) packages status_file installed
+    ≡ codes "state 1 - \nunmet 1 xx 1.0 amd64 Depends bb\nunmet 2 aa 2 all Depends rr\n"
+unfolding group_text digits
+worked-parts = refl

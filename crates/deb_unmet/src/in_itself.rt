@@ -1,6 +1,6 @@
-//! Writes lines of each package of an index over all of its packages.
+//! Writes lines of the paragraphs of a file over all of its packages.
 
-ghost use Rattle.std.specs.Prelude.{◌≡◌, ℕ, List, Some, IfOk, IfErr};
+ghost use Rattle.std.specs.Prelude.{◌≡◌, ◌++◌, ◌-◌, ◌<◌, ◌^◌, ◌≤◌, ℕ, List, Some, IfOk, IfErr, OnOk};
 ghost use Rattle.deb_base.specs.Bodies.{file_limit};
 ghost use Rattle.deb_base.specs.Devices.{read_failures_after, write_failures_after, ReadFaultIffFailed, WriteFaultIffFailed};
 ghost use Rattle.deb_base.specs.Reading.{TakesNoMore};
@@ -13,19 +13,23 @@ ghost use Rattle.deb_index.specs.Indexes.{packages_of};
 ghost use Rattle.deb_index.specs.Members.{KeepsMembers, ListsMembers, doc_of};
 ghost use Rattle.deb_syntax.specs.Fields.{Field};
 ghost use Rattle.deb_unmet.specs.Asking.{IsWritersFault, PutsLines};
-ghost use Rattle.deb_unmet.specs.Files.{lines_of};
-ghost use Rattle.deb_unmet.specs.Own.{AreKept, StopsOwn, WritesOwn, asks_over};
+ghost use Rattle.deb_unmet.specs.Own.{StopsOwn, WritesOwn, other_line, part_lines};
+ghost use Rattle.deb_unmet.specs.Parts.{AreParts, HoldsPart, IsOther};
 
 use crate::asking::Summary;
-use crate::own_lines::{KeptLines, OwnLines};
+use crate::own_lines::{KeptLines, OwnLines, Part};
+use crate::paragraph::append_spaced;
 use deb_base::{Fault, Sink, Source, put_all};
 use deb_index::Index;
-use std::alloc::Global;
+use itoa::Buffer;
+use std::alloc::{AllocError, Global};
 
-/// Reads a file once, and writes lines of each of its members, over the packages of all of them.
+/// Reads a file once, and writes the lines of its members, over the packages of all of them, and of
+/// the other paragraphs of a status file.
 ///
 /// No line is written before the whole file has been read and has no refusal: of each member
-/// `L::Kept` is kept until then. The lines are in the order of the members.
+/// `L::Kept` is kept until then, and of each other paragraph its line. The lines are in the order
+/// of the paragraphs.
 ///
 /// At most 4,295,032,831 bytes are read: a file of the most bytes, and one piece. Promises about
 /// the text of the file hold for a reader whose bytes are known.
@@ -49,8 +53,8 @@ pub fn write_in_itself<L: OwnLines, R: Source, W: Sink>(
         → IfOk result (λ summary. WritesOwn (L.asks lines.now) text summary (W.held writer.old)
         (W.held writer.new)) }
     ensures refused { (text : List ℕ) → R.left reader.old ≡ Some text
-        → IfRefused result
-        (λ refusal. refusal_of (doc_of (L.asks lines.now).members) text ≡ Some refusal) }
+        → IfRefused result (λ refusal. refusal_of (doc_of (L.asks lines.now).members) text
+        ≡ Some refusal) }
     ensures stopped { (text : List ℕ) → R.left reader.old ≡ Some text
         → IfErr result (λ fault. StopsOwn fault (L.asks lines.now) text (W.held writer.old)
         (W.held writer.new)) }
@@ -71,10 +75,10 @@ pub fn write_in_itself<L: OwnLines, R: Source, W: Sink>(
 {
     let mut kept = KeptLines::<L>::new(alloc);
     let index = Index::read_members(alloc, reader, lines.members(), &mut kept)?;
-    write_kept(alloc, lines, &index, &kept.paragraphs, writer)
+    write_kept(alloc, lines, &index, &kept.parts, writer)
 }
 
-/// Writes the lines of the paragraphs of an index that are kept, over its packages.
+/// Writes the lines of the paragraphs that are kept, over the packages of the index.
 ///
 /// # Errors
 ///
@@ -83,31 +87,46 @@ fn write_kept<L: OwnLines, W: Sink>(
     alloc: Global,
     lines: &L,
     index: &Index,
-    kept: &[L::Kept],
+    parts: &[Part<L::Kept>],
     writer: &mut W,
 ) -> Result<Summary, Fault>
     ensures ok { (text : List ℕ) → ListsMembers (L.asks lines.now).members text
         (packages_of index.now) → KeepsMembers (L.asks lines.now).members
-        (AreKept L.Holds kept.now) text → IfOk result (λ summary. WritesOwn
-        (L.asks lines.now) text summary (W.held writer.old) (W.held writer.new)) }
+        (AreParts (L.asks lines.now).members L.Holds (IsOther L.asks) parts.now) text
+        → IfOk result (λ summary. WritesOwn (L.asks lines.now) text summary (W.held writer.old)
+        (W.held writer.new)) }
     ensures stopped { (text : List ℕ) → ListsMembers (L.asks lines.now).members text
         (packages_of index.now) → KeepsMembers (L.asks lines.now).members
-        (AreKept L.Holds kept.now) text → IfErr result (λ fault. StopsOwn fault
-        (L.asks lines.now) text (W.held writer.old) (W.held writer.new)) }
+        (AreParts (L.asks lines.now).members L.Holds (IsOther L.asks) parts.now) text
+        → IfErr result (λ fault. StopsOwn fault (L.asks lines.now) text (W.held writer.old)
+        (W.held writer.new)) }
     ensures counts_failure { W.failures writer.new ≡ write_failures_after
         (W.failures writer.old) result }
     ensures fault { IsWritersFault result }
 {
+    let mut members = 0;
     let mut is_empty = true;
-    for count in 0..kept.len() {
-        let number = count as u64 + 1;
-        let has_none = write_lines(alloc, lines, index, number, &kept[count], writer)?;
+    for count in 0..parts.len() {
+        let before = Before {
+            paragraphs: count as u64,
+            members,
+        };
+        let part = &parts[count];
+        let has_none = write_part(alloc, lines, index, before, part, writer)?;
+        members = part.counted(members);
         is_empty = is_empty && has_none;
     }
     Ok(Summary {
-        paragraphs: kept.len() as u64,
+        paragraphs: members,
         is_empty,
     })
+}
+
+/// How many paragraphs of the file come before one, and how many members are among them.
+#[derive(Clone, Copy)]
+struct Before {
+    paragraphs: u64,
+    members: u64,
 }
 
 /// Writes the lines of a paragraph, and returns whether there is none.
@@ -115,24 +134,62 @@ fn write_kept<L: OwnLines, W: Sink>(
 /// # Errors
 ///
 /// Out of memory: nothing was written; or `Fault::Write`: a prefix was.
-fn write_lines<L: OwnLines, W: Sink>(
+fn write_part<L: OwnLines, W: Sink>(
     alloc: Global,
     lines: &L,
     index: &Index,
-    number: u64,
-    kept: &L::Kept,
+    before: Before,
+    part: &Part<L::Kept>,
     writer: &mut W,
 ) -> Result<bool, Fault>
+    requires members { before.members ≤ before.paragraphs }
+    requires paragraphs { before.paragraphs < 2 ^ 64 - 1 }
     ensures puts { (fields : List Field) (values : ValueEntries ValueMeaning)
-        → L.Holds fields values kept.now → PutsLines (lines_of
-        (asks_over (L.asks lines.now) (packages_of index.now)) number fields values) result
-        (W.held writer.old) (W.held writer.new) }
+        → HoldsPart (L.asks lines.now).members L.Holds (IsOther L.asks) fields values part.now
+        → PutsLines (part_lines (L.asks lines.now) (packages_of index.now) fields
+        before.paragraphs before.members values) result (W.held writer.old) (W.held writer.new) }
     ensures counts_failure { W.failures writer.new ≡ write_failures_after
         (W.failures writer.old) result }
     ensures fault { IsWritersFault result }
 {
     let mut text = Vec::new(alloc);
-    lines.append(alloc, &mut text, index, number, kept)?;
+    append_part(alloc, &mut text, lines, index, before, part)?;
     put_all(writer, &text)?;
     Ok(text.is_empty())
+}
+
+/// Appends the lines of a paragraph.
+fn append_part<L: OwnLines>(
+    alloc: Global,
+    out: &mut Vec<u8>,
+    lines: &L,
+    index: &Index,
+    before: Before,
+    part: &Part<L::Kept>,
+) -> Result<(), AllocError>
+    requires members { before.members ≤ before.paragraphs }
+    requires paragraphs { before.paragraphs < 2 ^ 64 - 1 }
+    ensures { (fields : List Field) (values : ValueEntries ValueMeaning)
+        → HoldsPart (L.asks lines.now).members L.Holds (IsOther L.asks) fields values part.now
+        → OnOk result (out.new.items ≡ out.old.items ++ part_lines (L.asks lines.now)
+        (packages_of index.now) fields before.paragraphs before.members values) }
+{
+    match part {
+        Part::Member(kept) => lines.append(alloc, out, index, before.members + 1, kept),
+        Part::Other(text) => append_other(out, before.paragraphs + 1, text),
+    }
+}
+
+/// Appends the line of a paragraph that isn't a member; none if what it ends with is empty.
+fn append_other(out: &mut Vec<u8>, number: u64, text: &[u8]) -> Result<(), AllocError>
+    ensures { OnOk result (out.new.items ≡ out.old.items ++ other_line number text.now) }
+{
+    if text.is_empty() {
+        return Ok(());
+    }
+    let mut buffer = Buffer::new();
+    out.extend_from_slice(b"state")?;
+    append_spaced(out, buffer.format(number).as_bytes())?;
+    out.extend_from_slice(text)?;
+    Ok(())
 }

@@ -1,6 +1,6 @@
 //! Writes the lines of an index in itself.
 
-ghost use Rattle.std.specs.Prelude.{◌≡◌, ℕ, List, Some, IfOk, IfErr};
+ghost use Rattle.std.specs.Prelude.{◌≡◌, ℕ, List, [], Some, IfOk, IfErr};
 ghost use Rattle.deb_base.specs.Bodies.{file_limit};
 ghost use Rattle.deb_base.specs.Devices.{read_failures_after, write_failures_after, ReadFaultIffFailed, WriteFaultIffFailed};
 ghost use Rattle.deb_base.specs.Reading.{TakesNoMore};
@@ -15,6 +15,7 @@ ghost use Rattle.deb_relation.specs.Environments.{environment_of};
 ghost use Rattle.deb_unmet.specs.KeptParagraphs.{HoldsTexts};
 ghost use Rattle.deb_unmet.specs.Own.{StopsOwn, WritesOwn, own_asked};
 ghost use Rattle.deb_unmet.specs.Paragraphs.{fields_in};
+ghost use Rattle.deb_unmet.specs.Parts.{GivesValues, IsOther};
 
 use crate::asked::{Asked, Strength};
 use crate::asking::Summary;
@@ -127,6 +128,18 @@ impl OwnLines for UnmetLines<'_> {
             → IfOk result (HoldsTexts (fields_in paragraph.now) values) }
     {
         KeptParagraph::of(alloc, paragraph, texts)
+    }
+
+    fn keep_other(
+        alloc: Global,
+        paragraph: &CheckedView<'_>,
+        texts: &FieldTexts,
+    ) -> Result<Vec<u8>, AllocError>
+        ensures { (values : ValueEntries ValueMeaning) → GivesValues paragraph.now texts.now values
+            → IfOk result (λ text. IsOther (λ (lines : UnmetLines).
+            own_asked lines.request (environment_of lines.environment.now)) values text.items) }
+    {
+        Ok(Vec::new(alloc))
     }
 
     fn append(

@@ -580,7 +580,10 @@ architectures and of equal versions. A package for `all` counts as one for A.
 architecture list with a wildcard is read: see `debctl help unmet`.
 
 With `--installed` the file is a status file of dpkg, and the set is its installed
-packages. Their numbers count them alone.
+packages. Their numbers count them alone. A package that is neither installed nor
+removed, such as one that is half-configured, has a line in which N counts all
+paragraphs, and `-` replaces what is missing:
+  state N P V A STATUS
 
 Nothing is printed before the whole file has been read.
 

@@ -82,8 +82,8 @@ pub record IsRefusedSet (members : Members) (by : Asker) (answer : Answer) : Typ
 
 -- ---- lines
 
--- The file is accepted, these are the lines of the packages of its set over these packages, and the
--- summary says how many there are and whether there is no line.
+-- The file is accepted, these are its lines over the packages of its set, and the summary says how
+-- many packages there are and whether there is no line.
 pub record HasSetLines (members : Members) (strength : Strength) (environment : Environment)
     (file : List ℕ) (summary : Summary) (bytes : List ℕ) : Type 0 where
   pub packages : List Listed

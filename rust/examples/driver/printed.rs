@@ -94,6 +94,7 @@ impl Printed for HealthReport {
                         with.number, with.version, with.architecture
                     ),
                 ),
+                HealthFault::State { status } => ("state", status.clone()),
                 _ => ("", String::new()),
             };
             text += &format!("{word} {} {more}\n", package(&it.package));

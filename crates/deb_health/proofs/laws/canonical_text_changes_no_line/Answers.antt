@@ -1,15 +1,12 @@
-use Rattle.std.proofs.Common.{List, refl, sym, ap, ◌∙◌}
-use Rattle.std.specs.List.{filter}
+use Rattle.std.proofs.Common.{refl, ap, ◌∙◌}
 use Rattle.deb_field.specs.ValueLaws.{value_law}
 use Rattle.deb_field.specs.Values.{ValueMeaning, value_text, SpellsValue}
 use Rattle.deb_control.specs.Documents.{rules_of, canonical_text}
 use Rattle.deb_control.proofs.Accepting.{accepted_means_one_thing, canonical_text_is_accepted}
-use Rattle.deb_index.specs.Listed.{Listed}
-use Rattle.deb_index.specs.Members.{doc_of, has_values}
+use Rattle.deb_index.specs.Members.{doc_of}
 use Rattle.deb_index.proofs.ListedOnce.{canonical_members_listed, members_once}
-use Rattle.deb_unmet.specs.Files.{Asks, lines_from}
-use Rattle.deb_unmet.specs.Own.{asks_over}
-use Rattle.deb_unmet.proofs.SpelledVersions.{canonical_members}
+use Rattle.deb_unmet.specs.Own.{own_lines}
+use Rattle.deb_unmet.proofs.SpelledVersions.{canonical_own}
 use Rattle.deb_health.specs.Health.{asks_healthy}
 use Rattle.deb_health.proofs.laws.canonical_text_changes_no_line.Goals as goal
 
@@ -20,8 +17,7 @@ returns c = λ members strength environment text meaning other packages others m
     let same_packages = members_once members again others packages listed_again (canonical_members_listed members text meaning packages means lists) in
     let same = accepted_means_one_thing ValueMeaning (SpellsValue doc) value_text (value_law doc) (rules_of doc) again other meaning means_again
     (canonical_text_is_accepted ValueMeaning (SpellsValue doc) value_text (value_law doc) (rules_of doc) text meaning means) in
-    let asks : List Listed → Asks = λ ps. asks_over (asks_healthy members strength environment) ps in
-    canonical_members (asks others) refl members again text 0 0 other
-    ∙ ap (λ ps. lines_from (asks ps) text 0 (filter (has_values members) other)) same_packages
-    ∙ ap (λ m. lines_from (asks packages) text 0 (filter (has_values members) m)) same
-    ∙ sym (canonical_members (asks packages) refl members text text 0 0 meaning)
+    let own = asks_healthy members strength environment in
+    canonical_own own refl others again text 0 0 other
+    ∙ ap (λ ps. own_lines own ps text other) same_packages
+    ∙ ap (own_lines own packages text) same

@@ -1,8 +1,7 @@
-use Rattle.std.proofs.Common.{◌≡◌, ◌++◌, ◌∷◌, [], true, false, ap, sym, subst, ◌∙◌}
-use Rattle.deb_index.specs.Members.{has_seen, seen_in}
+use Rattle.std.proofs.Common.{◌≡◌, ◌++◌, ◌∷◌, [], true, false, ap, sym, ◌∙◌}
+use Rattle.deb_index.specs.Members.{doc_of, has_seen}
 use Rattle.deb_index.specs.Stores.{lines_in, spellings_in}
 use Rattle.deb_index.specs.VersionSpellings.{version_body}
-use Rattle.deb_index.proofs.Filters.{filter-skips, filter-takes}
 use Rattle.deb_index.proofs.Indexed.{member_kept, other_kept}
 use Rattle.deb_index.proofs.Installed.{member_visits}
 use Rattle.deb_index.proofs.ListedValues.{lists-kept, visits-texts}
@@ -18,7 +17,7 @@ pub returns-then-not-has-clause-keeps : goal.returns-then-not-has-clause-keeps
 returns-then-not-has-clause-keeps g c = λ given seen visits same kept.
     let members = c.args.members in
     let has : has_seen members seen ≡ false = ap (has_seen members) (sym same) ∙ sym c.has.ensures ∙ c.if-not-has.true in
-    subst (g.K.Keeper.Keeps c.args.keeper.now) (sym (filter-skips (has_seen members) given seen has)) kept
+    c.in_ok-pass_over.ensures members given seen kept (visits-texts (doc_of members) _ seen visits) same has
 
 pub returns-clause-store : goal.returns-clause-store
 returns-clause-store g c = λ given seen visits same keeps.
@@ -36,5 +35,4 @@ pub returns-clause-keeps : goal.returns-clause-keeps
 returns-clause-keeps g c = λ given seen visits same kept.
     let members = c.args.members in
     let has : has_seen members seen ≡ true = ap (has_seen members) (sym same) ∙ sym c.has.ensures ∙ c.if-not-has.false in
-    subst (g.K.Keeper.Keeps _) (sym (filter-takes (has_seen members) given seen has))
-    (c.in_ok-keep.ensures (seen_in members given) seen kept (visits-texts _ seen (member_visits members _ seen visits has)) same)
+    c.in_ok-keep.ensures members given seen kept (visits-texts (doc_of members) _ seen visits) same has

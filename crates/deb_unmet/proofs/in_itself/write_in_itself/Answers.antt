@@ -1,8 +1,8 @@
 use Rattle.std.proofs.Common.{sym, ◌∙◌, subst}
 use Rattle.std.proofs.lemmas.Result.{err_from_is_err_and}
 use Rattle.deb_index.specs.Members.{KeepsMembers}
-use Rattle.deb_unmet.specs.Own.{AreKept}
-use Rattle.deb_unmet.proofs.OwnFiles.{unread, unrefused, unstarted, write_told}
+use Rattle.deb_unmet.specs.Parts.{AreParts, IsOther}
+use Rattle.deb_unmet.proofs.OwnFiles.{none_given, unread, unrefused, unstarted, write_told}
 use Rattle.deb_unmet.proofs.in_itself.write_in_itself.Goals as goal
 
 pub returns-in_err-index-clause-stopped : goal.returns-in_err-index-clause-stopped
@@ -13,8 +13,9 @@ returns-in_err-index-clause-stopped g c = λ text told.
 pub returns-clause-ok : goal.returns-clause-ok
 returns-clause-ok g c = λ text told.
     let lists = rw c.members.ensures at c.in_ok-index.ensures.ok text told in
-    let keeps = rw c.members.ensures at c.in_ok-index.ensures.keeps text told c.new-kept.ensures in
-    c.write_kept.ensures.ok text lists (subst (λ kept. KeepsMembers (g.L.OwnLines.asks c.args.lines.now).members (AreKept g.L.OwnLines.Holds kept) text) (sym c.deref.ensures.value) keeps)
+    let keeps = (rw c.members.ensures at c.in_ok-index.ensures.keeps text told) (none_given (g.L.OwnLines.asks c.args.lines.now).members g.L.OwnLines.Holds (IsOther g.L.OwnLines.asks) _ c.new-kept.ensures) in
+    let members = (g.L.OwnLines.asks c.args.lines.now).members in
+    c.write_kept.ensures.ok text lists (subst (λ parts. KeepsMembers members (AreParts members g.L.OwnLines.Holds (IsOther g.L.OwnLines.asks) parts) text) (sym c.deref.ensures.value) keeps)
 
 pub returns-clause-refused : goal.returns-clause-refused
 returns-clause-refused g c = λ text told. unrefused c.write_kept.result _ c.write_kept.ensures.fault
@@ -22,8 +23,9 @@ returns-clause-refused g c = λ text told. unrefused c.write_kept.result _ c.wri
 pub returns-clause-stopped : goal.returns-clause-stopped
 returns-clause-stopped g c = λ text told.
     let lists = rw c.members.ensures at c.in_ok-index.ensures.ok text told in
-    let keeps = rw c.members.ensures at c.in_ok-index.ensures.keeps text told c.new-kept.ensures in
-    c.write_kept.ensures.stopped text lists (subst (λ kept. KeepsMembers (g.L.OwnLines.asks c.args.lines.now).members (AreKept g.L.OwnLines.Holds kept) text) (sym c.deref.ensures.value) keeps)
+    let keeps = (rw c.members.ensures at c.in_ok-index.ensures.keeps text told) (none_given (g.L.OwnLines.asks c.args.lines.now).members g.L.OwnLines.Holds (IsOther g.L.OwnLines.asks) _ c.new-kept.ensures) in
+    let members = (g.L.OwnLines.asks c.args.lines.now).members in
+    c.write_kept.ensures.stopped text lists (subst (λ parts. KeepsMembers members (AreParts members g.L.OwnLines.Holds (IsOther g.L.OwnLines.asks) parts) text) (sym c.deref.ensures.value) keeps)
 
 pub returns-clause-unwritten : goal.returns-clause-unwritten
 returns-clause-unwritten g c = unrefused c.write_kept.result _ c.write_kept.ensures.fault

@@ -11,7 +11,7 @@ use Rattle.deb_index.proofs.index.Index.read_members.Goals as goal
 pub loop-count-init : goal.loop-count-init
 loop-count-init g c =
     let s = c.new-store.result in
-    shows-none (ReadGiven c.args.members g.K.Keeper.Keeps _ _ s) (record { keeps_given = none_kept c.args.members s c.new-store.ensures.entries c.new-store.ensures.records; keeps = λ none. none }) (c.new-checked.ensures.doc ∙ c.doc.ensures) c.new-checked.ensures.sound c.new-checked.ensures.none (rw c.doc.ensures at c.new-checked.ensures.fits)
+    shows-none (ReadGiven c.args.members (g.K.Keeper.Keeps c.args.members) _ _ s) (record { keeps_given = none_kept c.args.members s c.new-store.ensures.entries c.new-store.ensures.records; keeps = λ none. none }) (c.new-checked.ensures.doc ∙ c.doc.ensures) c.new-checked.ensures.sound c.new-checked.ensures.none (rw c.doc.ensures at c.new-checked.ensures.fits)
 
 pub returns-in_err-advance-clause-refused : goal.returns-in_err-advance-clause-refused
 returns-in_err-advance-clause-refused g c =
@@ -46,7 +46,7 @@ pub returns-then-not-branch-clause-keeps : goal.returns-then-not-branch-clause-k
 returns-then-not-branch-clause-keeps g c = λ text told none.
     let so_far = c.loop-count.invariant in
     let all = shows-end so_far (rw c.if-not-branch.true at c.in_ok-advance.ensures.passes.checks) text told in
-    keeps_members c.args.members (g.K.Keeper.Keeps _) text so_far.given c.loop-count.store all so_far.holds.keeps_given (so_far.holds.keeps none)
+    keeps_members c.args.members (g.K.Keeper.Keeps c.args.members _) text so_far.given c.loop-count.store all so_far.holds.keeps_given (so_far.holds.keeps none)
 
 pub returns-in_err-of-clause-reads_at_most : goal.returns-in_err-of-clause-reads_at_most
 returns-in_err-of-clause-reads_at_most g c = shows-taken c.loop-count.invariant c.in_ok-advance.ensures.passes.checks
