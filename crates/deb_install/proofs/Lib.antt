@@ -1,0 +1,14 @@
+pub mod Tests
+pub mod Sets
+pub mod GroupRows
+pub mod PackageRows
+pub mod HealthyRows
+pub mod InstallableRows
+pub mod Smaller
+pub mod UnmetLines
+pub mod EveryOne
+pub mod Meanings
+pub mod Adding
+pub mod CanonicalTexts
+pub mod Renumbered
+pub mod Rearranging
