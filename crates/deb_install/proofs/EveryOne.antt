@@ -23,6 +23,7 @@ use Rattle.deb_health.specs.Lines.{negative_fields}
 use Rattle.deb_health.proofs.Growing.{all-grows, and-grows, any-grows, not-grows}
 use Rattle.deb_install.specs.Installable.{can_be_abundant, can_be_peaceful, is_healthy_in}
 use Rattle.deb_install.specs.Laws.{EveryReadingIsOne}
+use Rattle.deb_install.specs.Members.{members_of}
 use Rattle.deb_install.specs.declared.readings.Readings.TheVariants.{Every, One}
 use Rattle.deb_install.proofs.GroupRows.{other-head}
 
@@ -32,9 +33,9 @@ surely-may Maybe is = absurd (false≢true is)
 surely-may Never is = absurd (false≢true is)
 
 not-unmet : {X : Type 0} (a b : X) (unmet other : Bool) → is_none (cond unmet (cond other (Some a) (Some b)) None) ≡ true → unmet ≡ true → ⊥
-not-unmet a b true true is yes = false≢true is
-not-unmet a b true false is yes = false≢true is
-not-unmet a b false other is yes = false≢true yes
+not-unmet a b true true is so = false≢true is
+not-unmet a b true false is so = false≢true is
+not-unmet a b false other is so = false≢true so
 
 module _ (environment : Environment) (packages : List Listed) where
   abbrev sure : Alternative → Bool
@@ -107,5 +108,5 @@ every_one strength environment packages meaning number installable = record {
   set = installable.set;
   contains = installable.contains;
   listed = installable.listed;
-  healthy = healthy-one strength environment _ _ installable.healthy;
+  healthy = healthy-one strength environment (members_of installable.set packages) (members_of installable.set meaning) installable.healthy;
 }

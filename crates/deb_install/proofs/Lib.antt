@@ -7,7 +7,7 @@ pub mod InstallableRows
 pub mod Smaller
 pub mod UnmetLines
 pub mod EveryOne
-pub mod Meanings
+pub mod NameMeanings
 pub mod Adding
 pub mod CanonicalTexts
 pub mod Renumbered

@@ -19,7 +19,7 @@ use Rattle.deb_health.specs.Health.{is_abundant, is_peaceful}
 use Rattle.deb_health.specs.Lines.{negative_fields}
 use Rattle.deb_install.specs.Installable.{can_be_abundant, can_be_peaceful}
 use Rattle.deb_install.specs.Members.{members_of}
-use Rattle.deb_install.specs.Rows.{alternative_excludes, counts, excluded_numbers, group_rows, needed_rows}
+use Rattle.deb_install.specs.Rows.{excluded_by, counts, excluded_numbers, group_rows, needed_rows}
 use Rattle.deb_install.specs.declared.readings.Readings.{Readings}
 use Rattle.deb_install.specs.declared.readings.Readings.TheVariants.{Every, One}
 use Rattle.deb_install.proofs.GroupRows.{every-group, one-group}
@@ -74,7 +74,7 @@ module _ (readings : Readings) (strength : Strength) (environment : Environment)
   none-excluded values =
       let own = environment_for (Packages strength) environment values in
       let name = word_under (codes "Package") values in
-      let row : Alternative → List ℕ = alternative_excludes readings own environment.target name packages in
+      let row : Alternative → List ℕ = excluded_by readings own environment.target name packages in
       let groups : List ℕ → List Group = λ field. groups_of (value_under field values) in
       (λ i. list_all (λ field. list_all (λ group. list_all (λ a. sym (one-excludes (counts readings (applies_by own a)) (excludes environment.target name a)) i) group) (groups field)) negative_fields)
       ∙ (λ i. list_all (λ field. list_all (λ group. sym (none-flat set row group) i) (groups field)) negative_fields)

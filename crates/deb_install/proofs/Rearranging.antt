@@ -68,8 +68,8 @@ rearranging readings strength environment pairs others k moved installable =
     let values : ValueEntries ValueMeaning × Listed → ValueEntries ValueMeaning = λ x. x.0 in
     let ways = in-rearranged (map listed (members_of set pairs)) (map listed (members_of new others)) (IsPermutation-map listed _ _ same) strength environment readings
     (map values (members_of set pairs)) (map values (members_of new others)) (IsPermutation-map values _ _ same) in
-    let long : length (map listed pairs) ≡ length pairs = length-map listed pairs in
-    let other_long : length (map listed others) ≡ length others = length-map listed others in
+    let long : length (map listed pairs) ≡ length pairs = length-map pairs listed in
+    let other_long : length (map listed others) ≡ length others = length-map others listed in
     let within : k < length pairs = omega (arith, installable.listed.1, long) in
     let there = r.within k within in
     let some : 1 ≤ r.to k + 1 = omega arith in

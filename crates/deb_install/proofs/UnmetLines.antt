@@ -44,9 +44,9 @@ not-passing readings strength environment packages meaning k why line fails inst
     fails (passes-more set packages own readings line.group (all-contained passes (groups_of (value_under line.field line.values)) line.group field_passes line.needed))
 
 not-otherwise : (unmet other : Bool) → cond unmet (cond other (Some Unsure) (Some Unmet)) None ≡ Some Unmet → other ≡ true → ⊥
-not-otherwise true true is yes = absurd cc
-not-otherwise true false is yes = false≢true yes
-not-otherwise false other is yes = absurd cc
+not-otherwise true true is so = absurd cc
+not-otherwise true false is so = false≢true so
+not-otherwise false other is so = absurd cc
 
 pub unmet_is_not : UnmetIsNotInstallable
 unmet_is_not = record {

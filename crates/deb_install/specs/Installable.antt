@@ -51,10 +51,10 @@ can_be_healthy strength environment packages meaning =
     && can_be_peaceful strength environment packages values) meaning
     && are_apart environment.target packages
 
--- In every reading a set is healthy if no group of a package can be unmet and no alternative that
--- may apply excludes a package of the set; in one, if each group can be met or ignored and no
--- alternative that surely applies excludes one. Each list is read by itself, so one reading serves
--- all groups (the laws `readings_decide` and `lines_say_readings` of deb_unmet).
+-- A set is healthy in every reading if no group of a package can be unmet, and no alternative that
+-- may apply excludes a package of the set. It is healthy in one if each group can be met or
+-- ignored, and no alternative that surely applies excludes a package of the set. Each list is read
+-- by itself, so one reading serves all groups: `readings_decide` of deb_unmet says it of each.
 abbrev pub is_healthy_in : Readings → Strength → Environment → List Listed → Meaning → Bool
 is_healthy_in Every strength environment packages meaning =
     is_healthy strength environment packages meaning

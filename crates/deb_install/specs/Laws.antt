@@ -28,9 +28,9 @@ use Rattle.deb_install.specs.Rows.{AreRowsOf}
 use Rattle.deb_install.specs.declared.readings.Readings.{Readings}
 use Rattle.deb_install.specs.declared.readings.Readings.TheVariants.{Every, One}
 
--- What rows of numbers decide about listed packages: a set is healthy exactly if it is healthy by
--- rows, and a package is installable exactly if its number is in such a set.
-pub record Decide (readings : Readings) (strength : Strength) (environment : Environment)
+-- What rows of numbers decide about the listed packages. A set is healthy exactly if it is healthy
+-- by rows, and a package is installable exactly if its number is in such a set.
+pub record AreDecidedBy (readings : Readings) (strength : Strength) (environment : Environment)
     (packages : List Listed) (meaning : Meaning) (needs : ℕ → List (List ℕ))
     (excludes : ℕ → List ℕ) : Type 0 where
   pub healthy : (set : ℕ → Bool)
@@ -52,7 +52,7 @@ RowsDecide =
     (packages : List Listed) (meaning : Meaning) (needs : ℕ → List (List ℕ))
     (excludes : ℕ → List ℕ) → Pairwise Lists meaning packages
     → AreRowsOf readings strength environment packages meaning needs excludes
-    → Decide readings strength environment packages meaning needs excludes
+    → AreDecidedBy readings strength environment packages meaning needs excludes
 
 -- A package that is installable in every reading is installable in one.
 abbrev pub EveryReadingIsOne : Type 0
@@ -61,8 +61,8 @@ EveryReadingIsOne =
     (number : ℕ) → IsInstallable Every strength environment packages meaning number
     → IsInstallable One strength environment packages meaning number
 
--- Whatever the names in lists mean: a set that is healthy in every reading is healthy, and one that
--- is healthy is healthy in one reading.
+-- A set that is healthy in every reading is healthy whatever the names in lists mean. A set that is
+-- healthy by some meaning of the names is healthy in one reading.
 pub record ReadingsAreSound : Type 0 where
   pub in_every : (holds : List ℕ → List ℕ → Bool) (strength : Strength) (environment : Environment)
       (packages : List Listed) (meaning : Meaning) → AreMeanings holds
@@ -73,8 +73,8 @@ pub record ReadingsAreSound : Type 0 where
       → is_healthy_by holds strength environment packages meaning ≡ true
       → is_healthy_in One strength environment packages meaning ≡ true
 
--- The package after so many has a line of deb_unmet with this word, about a group that it needs:
--- all listed packages together don't meet the group.
+-- The package after so many has a line of deb_unmet with this word. The line is about a group that
+-- the package needs, and that all listed packages together don't meet.
 pub record HasUnmetLine (strength : Strength) (environment : Environment) (packages : List Listed)
     (meaning : Meaning) (k : ℕ) (why : Trouble) : Type 0 where
   pub values : ValueEntries ValueMeaning
@@ -86,8 +86,8 @@ pub record HasUnmetLine (strength : Strength) (environment : Environment) (packa
   pub line : trouble (environment_for (Packages strength) environment values) packages group
       ≡ Some why
 
--- A package with such a line isn't installable in every reading; one whose line says `unmet` is
--- installable in none.
+-- A package with such a line isn't installable in every reading. One whose line says `unmet` isn't
+-- installable in one.
 pub record UnmetIsNotInstallable : Type 0 where
   pub in_every : (strength : Strength) (environment : Environment) (packages : List Listed)
       (meaning : Meaning) (k : ℕ) (why : Trouble)
@@ -101,7 +101,7 @@ pub record UnmetIsNotInstallable : Type 0 where
 abbrev pub moved : ℕ → ℕ → ℕ
 moved before number = cond (ltb before number) (number + 1) number
 
--- Whatever package is added at any place: each that was installable still is.
+-- Each package that was installable still is, whatever package is added at any place.
 abbrev pub AddingKeepsInstallable : Type 0
 AddingKeepsInstallable =
     (readings : Readings) (strength : Strength) (environment : Environment)
@@ -120,8 +120,8 @@ pub record IsInstallableIn (readings : Readings) (strength : Strength) (environm
   pub installable : IsInstallable readings strength environment (map (λ x. x.1) pairs)
       (map (λ x. x.0) pairs) (index + 1)
 
--- A package that is installable still is if the index is in another order, under the number that it
--- has then. Each pair has the values of a paragraph and the package that it lists.
+-- An installable package stays installable in another order of the packages, under the number that
+-- it has there. Each pair has the values of a paragraph and the package that it lists.
 abbrev pub RearrangingKeepsInstallable : Type 0
 RearrangingKeepsInstallable =
     (readings : Readings) (strength : Strength) (environment : Environment)

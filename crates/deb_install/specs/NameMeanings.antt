@@ -3,6 +3,7 @@
 use Rattle.std.specs.Prelude.{◌≡◌, ℕ, ◌&&◌, Bool, true, false, not, List, [], ◌∷◌, map, codes, refl}
 use Rattle.std.specs.List.{list_all, list_any}
 use Rattle.std.specs.Str.{bytes_eq}
+use Rattle.std.proofs.lemmas.Slice.Eq.{bytes_eq-Decides}
 use Rattle.deb_relation.specs.Applying.{Environment}
 use Rattle.deb_field.specs.Values.{ValueMeaning}
 use Rattle.deb_control.specs.Documents.{Meaning}
@@ -22,7 +23,8 @@ use Rattle.deb_health.specs.Health.{are_apart}
 use Rattle.deb_health.specs.Lines.{negative_fields}
 use Rattle.deb_install.specs.Installable.{for_amd64, needing, of, perhaps_needing}
 
--- For each target, whether a name holds it: such a meaning of names as deb_unmet allows.
+-- For each target, this says which names hold it. deb_unmet says what a name may mean: the target's
+-- own name holds it, a wildcard or another name with a hyphen may, and no other name does.
 abbrev pub AreMeanings : (List ℕ → List ℕ → Bool) → Type 0
 AreMeanings holds = (target : List ℕ) → IsMeaning target (holds target)
 
@@ -63,6 +65,11 @@ all_hold target name = true
 
 abbrev own_holds : List ℕ → List ℕ → Bool
 own_holds target name = bytes_eq name target
+
+-- the second is such a meaning
+worked-own : AreMeanings own_holds
+worked-own target =
+    record { own = (bytes_eq-Decides target target).1 refl; closed = λ name e. refl }
 
 worked-verdicts : map is_not_unmet (Ignored ∷ Met ∷ Unmet ∷ []) ≡ true ∷ true ∷ false ∷ []
 worked-verdicts = refl

@@ -42,10 +42,10 @@ may_be_applying environment group = filter (λ a. may (applies_by environment a)
 abbrev pub some_surely_applies : Environment → Group → Bool
 some_surely_applies environment group = list_any (λ a. surely (applies_by environment a)) group
 
--- A set has to contain a number of each row of a group. In every reading: if an alternative surely
--- applies, a package has to meet such a one; else a package has to meet each that may apply, since
--- it may be the only one. In one reading: if an alternative surely applies, a package has to meet
--- one that may apply; else the group may be ignored.
+-- A set has to contain a number of each row of a group. In every reading, a package has to meet an
+-- alternative that surely applies, if there is one. Else a package has to meet each alternative
+-- that may apply, since that one may be the only one. In one reading, a package has to meet an
+-- alternative that may apply, if there is one that surely applies. Else the group may be ignored.
 abbrev pub group_rows : Readings → Environment → List Listed → Group → List (List ℕ)
 group_rows Every environment packages group =
     cond (some_surely_applies environment group)
@@ -64,16 +64,16 @@ needed_rows readings strength environment packages values =
     (group_rows readings (environment_for (Packages strength) environment values) packages)
     (groups_of (value_under field values))) (fields_with strength)
 
--- An alternative of Conflicts or Breaks counts, if in every reading, if it may apply; if in one, if
--- it surely applies.
+-- An alternative of Conflicts or Breaks counts in every reading if it may apply, and in one reading
+-- if it surely applies.
 abbrev pub counts : Readings → Applies → Bool
 counts Every applies = may applies
 counts One applies = surely applies
 
 -- the numbers of the packages that an alternative excludes, if it counts
-abbrev pub alternative_excludes : Readings → Environment → List ℕ → List ℕ → List Listed
+abbrev pub excluded_by : Readings → Environment → List ℕ → List ℕ → List Listed
     → Alternative → List ℕ
-alternative_excludes readings environment target name packages a =
+excluded_by readings environment target name packages a =
     cond (counts readings (applies_by environment a))
     (numbers_of (excludes target name a) packages) []
 
@@ -82,7 +82,7 @@ abbrev pub excluded_numbers : Readings → Strength → Environment → List Lis
     → ValueEntries ValueMeaning → List ℕ
 excluded_numbers readings strength environment packages values =
     flat_map (λ field. flat_map (flat_map
-    (alternative_excludes readings (environment_for (Packages strength) environment values)
+    (excluded_by readings (environment_for (Packages strength) environment values)
     environment.target (word_under (codes "Package") values) packages))
     (groups_of (value_under field values))) negative_fields
 
@@ -100,8 +100,8 @@ exclusion_row readings strength environment packages number values =
     excluded_numbers readings strength environment packages values
     ++ later_duplicates environment.target packages number
 
--- The functions give each package's rows and what it excludes, by its number, which is counted from
--- 1. What they give for other numbers is nowhere asked.
+-- Two functions of a package's number, which is counted from 1: they give its rows and what it
+-- excludes. For a number that no package has they may give anything.
 pub record AreRowsOf (readings : Readings) (strength : Strength) (environment : Environment)
     (packages : List Listed) (meaning : Meaning) (needs : ℕ → List (List ℕ))
     (excludes : ℕ → List ℕ) : Type 0 where
@@ -190,7 +190,7 @@ worked-needed : (needed_rows Every Depends for_amd64 packages values
 worked-needed = (refl, refl, refl)
 
 worked-alternatives : map (λ readings. map
-    (alternative_excludes readings for_amd64 (codes "amd64") (codes "aa") packages)
+    (excluded_by readings for_amd64 (codes "amd64") (codes "aa") packages)
     (perhaps (codes "bb") ∷ alone (codes "cc") ∷ alone (codes "aa") ∷ [])) (Every ∷ One ∷ [])
     ≡ ((2 ∷ []) ∷ (3 ∷ []) ∷ [] ∷ []) ∷ ([] ∷ (3 ∷ []) ∷ [] ∷ []) ∷ []
 worked-alternatives = refl

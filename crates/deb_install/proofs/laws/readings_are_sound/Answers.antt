@@ -1,4 +1,4 @@
-use Rattle.deb_install.proofs.Meanings.{readings_are_sound}
+use Rattle.deb_install.proofs.NameMeanings.{readings_are_sound}
 use Rattle.deb_install.proofs.laws.readings_are_sound.Goals as goal
 
 pub returns : goal.returns

@@ -40,7 +40,7 @@ other-is Met other = refl
 other-is Unmet other = absurd (other refl)
 
 unmet-is : (v : Verdict) → v ≡ Unmet → is_not_unmet v ≡ true → ⊥
-unmet-is v is yes = false≢true (sym (ap is_not_unmet is) ∙ yes)
+unmet-is v is so = false≢true (sym (ap is_not_unmet is) ∙ so)
 
 none-is : {X : Type 0} (why : Option X) → is_none why ≡ true → why ≡ None
 none-is None is = refl
