@@ -1,17 +1,10 @@
 -- A package that is added outside a set changes nothing for the set.
-use Rattle.std.proofs.Common.{◌≡◌, ℕ, zero, suc, ◌+◌, ◌-◌, ◌<◌, ◌≤◌, ltb, Bool, true, false, cond, ◌&&◌, List, [], ◌∷◌, ◌++◌, length, refl, sym, ap, ◌∙◌, arith}
+use Rattle.std.proofs.Common.{◌≡◌, ℕ, suc, ◌+◌, ◌-◌, ◌<◌, ◌≤◌, ltb, Bool, true, false, cond, ◌&&◌, List, [], ◌∷◌, ◌++◌, length, refl, sym, ap, ◌∙◌, arith}
 use Rattle.std.proofs.lemmas.Bool.{le-ltb, lt-ltb, ltb-false, ltb-true}
 use Rattle.std.proofs.lemmas.List.{length-append}
-use Rattle.deb_relation.specs.Applying.{Environment}
-use Rattle.deb_field.specs.Values.{ValueMeaning}
-use Rattle.deb_control.specs.Documents.{Meaning}
-use Rattle.deb_control.specs.ValueFiles.{ValueEntries}
-use Rattle.deb_index.specs.Listed.{Listed}
-use Rattle.deb_unmet.specs.declared.asked.Strength.{Strength}
-use Rattle.deb_install.specs.Installable.{IsInstallable, is_healthy_in}
+use Rattle.deb_install.specs.Installable.{is_healthy_in}
 use Rattle.deb_install.specs.Laws.{AddingKeepsInstallable, moved}
 use Rattle.deb_install.specs.Members.{members_from, members_of}
-use Rattle.deb_install.specs.declared.readings.Readings.{Readings}
 use Rattle.deb_install.proofs.Sets.{members-same, members-shifted}
 
 members-append : {X : Type 0} (set : ℕ → Bool) (n : ℕ) (xs ys : List X) → members_from set n (xs ++ ys) ≡ members_from set n xs ++ members_from set (n + length xs) ys

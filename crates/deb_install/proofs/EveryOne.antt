@@ -1,7 +1,7 @@
 -- What passes in every reading passes in one.
-use Rattle.std.proofs.Common.{◌≡◌, ℕ, Bool, true, false, cond, not, ◌&&◌, ◌||◌, is_none, List, [], ◌∷◌, None, Some, codes, refl, sym, ap, ◌∙◌}
+use Rattle.std.proofs.Common.{◌≡◌, ℕ, Bool, true, false, cond, not, ◌&&◌, is_none, List, [], ◌∷◌, None, Some, codes, refl, ap}
 use Rattle.std.specs.List.{list_all, list_any}
-use Rattle.std.proofs.lemmas.Bool.{and_from, and_parts, false≢true, or_left, or_right, true_from_ne_false}
+use Rattle.std.proofs.lemmas.Bool.{and_from, false≢true, or_left, or_right, true_from_ne_false}
 use Rattle.deb_relation.specs.Applying.{Environment}
 use Rattle.deb_relation.specs.Meaning.{Alternative, Group}
 use Rattle.deb_field.specs.Values.{ValueMeaning}
@@ -32,7 +32,7 @@ surely-may Surely is = refl
 surely-may Maybe is = absurd (false≢true is)
 surely-may Never is = absurd (false≢true is)
 
-not-unmet : {X : Type 0} (a b : X) (unmet other : Bool) → is_none (cond unmet (cond other (Some a) (Some b)) None) ≡ true → unmet ≡ true → ⊥
+pub not-unmet : {X : Type 0} (a b : X) (unmet other : Bool) → is_none (cond unmet (cond other (Some a) (Some b)) None) ≡ true → unmet ≡ true → ⊥
 not-unmet a b true true is so = false≢true is
 not-unmet a b true false is so = false≢true is
 not-unmet a b false other is so = false≢true so

@@ -1,5 +1,5 @@
 -- A package is installable exactly if its number is in a set that is healthy by rows.
-use Rattle.std.proofs.Common.{◌≡◌, ℕ, ◌+◌, ◌<◌, ◌≤◌, ltb, Bool, true, false, ◌&&◌, List, length, refl, sym, ap, ◌∙◌, arith}
+use Rattle.std.proofs.Common.{◌≡◌, ℕ, ◌+◌, ◌<◌, ◌≤◌, ltb, Bool, true, false, ◌&&◌, List, length, refl, sym, ◌∙◌, arith}
 use Rattle.std.proofs.lemmas.Bool.{and_from, and_parts, lt-ltb, ltb-true}
 use Rattle.deb_relation.specs.Applying.{Environment}
 use Rattle.deb_control.specs.Documents.{Meaning}
@@ -10,7 +10,7 @@ use Rattle.deb_index.specs.Listing.{Lists}
 use Rattle.deb_unmet.specs.declared.asked.Strength.{Strength}
 use Rattle.deb_install.specs.Installable.{IsInstallable, is_healthy_in}
 use Rattle.deb_install.specs.Laws.{RowsDecide}
-use Rattle.deb_install.specs.Members.{HasHealthySet, members_of}
+use Rattle.deb_install.specs.Members.{HasHealthySet}
 use Rattle.deb_install.specs.Rows.{AreRowsOf}
 use Rattle.deb_install.specs.declared.readings.Readings.{Readings}
 use Rattle.deb_install.proofs.HealthyRows.{healthy_by_rows, healthy_from_rows}

@@ -4,6 +4,7 @@ pub mod GroupRows
 pub mod PackageRows
 pub mod HealthyRows
 pub mod InstallableRows
+pub mod BuildRows
 pub mod Smaller
 pub mod UnmetLines
 pub mod EveryOne

@@ -1,7 +1,7 @@
 -- Healthy sets by meanings of names, and in readings.
 use Rattle.std.proofs.Common.{◌≡◌, ℕ, Bool, true, false, cond, not, ◌&&◌, ◌||◌, is_none, List, [], ◌∷◌, Option, None, Some, codes, refl, sym, ap, ◌∙◌}
 use Rattle.std.specs.List.{list_all, list_any}
-use Rattle.std.proofs.lemmas.Bool.{false≢true, false_from_ne_true, true_from_ne_false}
+use Rattle.std.proofs.lemmas.Bool.{false≢true, true_from_ne_false}
 use Rattle.deb_relation.specs.Applying.{Environment}
 use Rattle.deb_relation.specs.Meaning.{Alternative, Group}
 use Rattle.deb_field.specs.Values.{ValueMeaning}
@@ -16,18 +16,16 @@ use Rattle.deb_unmet.specs.Fields.{environment_for}
 use Rattle.deb_unmet.specs.GroupReadings.{IsMeaning, applies_in, verdict_in}
 use Rattle.deb_unmet.specs.Laws.{IsOther}
 use Rattle.deb_unmet.specs.Readings.{applies_by, may, surely}
-use Rattle.deb_unmet.specs.Troubles.{can_be_otherwise, can_be_unmet, is_met, trouble}
+use Rattle.deb_unmet.specs.Troubles.{can_be_otherwise, can_be_unmet, trouble}
 use Rattle.deb_unmet.specs.declared.applying.Applies.{Applies}
 use Rattle.deb_unmet.specs.declared.applying.Applies.TheVariants.{Surely, Maybe, Never}
 use Rattle.deb_unmet.specs.declared.asked.Asked.TheVariants.{Packages}
 use Rattle.deb_unmet.specs.declared.asked.Strength.{Strength}
-use Rattle.deb_unmet.specs.declared.trouble.Trouble.{Trouble}
-use Rattle.deb_unmet.specs.declared.trouble.Trouble.TheVariants as troubles
 use Rattle.deb_unmet.proofs.Meanings.{lines_are_sound}
 use Rattle.deb_health.specs.Excluding.{excludes}
 use Rattle.deb_health.specs.Health.{are_apart, is_abundant, is_peaceful}
 use Rattle.deb_health.specs.Lines.{negative_fields}
-use Rattle.deb_health.proofs.Growing.{all-grows, and-grows, any-grows, not-grows}
+use Rattle.deb_health.proofs.Growing.{all-grows, and-grows, not-grows}
 use Rattle.deb_install.specs.Installable.{can_be_abundant, can_be_peaceful, is_healthy_in}
 use Rattle.deb_install.specs.Laws.{ReadingsAreSound}
 use Rattle.deb_install.specs.NameMeanings.{AreMeanings, is_abundant_by, is_healthy_by, is_not_unmet, is_peaceful_by}
@@ -47,22 +45,22 @@ none-is None is = refl
 none-is (Some why) is = absurd (false≢true is)
 
 -- a group that can't be met or ignored is unmet
-only-unmet : (unmet other : Bool) → (is_none (cond unmet (cond other (Some troubles.Unsure) (Some troubles.Unmet)) None) ≡ true → other ≡ true) → other ≡ false → cond unmet (cond other (Some troubles.Unsure) (Some troubles.Unmet)) None ≡ Some troubles.Unmet
-only-unmet true true back none = absurd (false≢true (sym none))
-only-unmet true false back none = refl
-only-unmet false true back none = absurd (false≢true (sym none))
-only-unmet false false back none = absurd (false≢true (back refl))
+only-unmet : {X : Type 0} (a b : X) (unmet other : Bool) → (is_none (cond unmet (cond other (Some a) (Some b)) None) ≡ true → other ≡ true) → other ≡ false → cond unmet (cond other (Some a) (Some b)) None ≡ Some b
+only-unmet a b true true back none = absurd (false≢true (sym none))
+only-unmet a b true false back none = refl
+only-unmet a b false true back none = absurd (false≢true (sym none))
+only-unmet a b false false back none = absurd (false≢true (back refl))
 
 -- One alternative as a group that no package meets.
-alone-unmet : (x : Applies) → surely x ≡ true → cond (not ((surely x && false) || false) && ((may x && not false) || false)) (cond (((may x && false) || false) || not (surely x || false)) (Some troubles.Unsure) (Some troubles.Unmet)) None ≡ Some troubles.Unmet
-alone-unmet Surely is = refl
-alone-unmet Maybe is = absurd (false≢true is)
-alone-unmet Never is = absurd (false≢true is)
+alone-unmet : {X : Type 0} (a b : X) (x : Applies) → surely x ≡ true → cond (not ((surely x && false) || false) && ((may x && not false) || false)) (cond (((may x && false) || false) || not (surely x || false)) (Some a) (Some b)) None ≡ Some b
+alone-unmet a b Surely is = refl
+alone-unmet a b Maybe is = absurd (false≢true is)
+alone-unmet a b Never is = absurd (false≢true is)
 
-alone-none : (x : Applies) → may x ≡ false → cond (not ((surely x && false) || false) && ((may x && not false) || false)) (cond (((may x && false) || false) || not (surely x || false)) (Some troubles.Unsure) (Some troubles.Unmet)) None ≡ None
-alone-none Surely is = absurd (false≢true (sym is))
-alone-none Maybe is = absurd (false≢true (sym is))
-alone-none Never is = refl
+alone-none : {X : Type 0} (a b : X) (x : Applies) → may x ≡ false → cond (not ((surely x && false) || false) && ((may x && not false) || false)) (cond (((may x && false) || false) || not (surely x || false)) (Some a) (Some b)) None ≡ None
+alone-none a b Surely is = absurd (false≢true (sym is))
+alone-none a b Maybe is = absurd (false≢true (sym is))
+alone-none a b Never is = refl
 
 verdict-alone : (applies : Bool) → cond (applies || false) (cond ((applies && false) || false) Met Unmet) Ignored ≡ Unmet → applies ≡ true
 verdict-alone true is = refl
@@ -74,11 +72,11 @@ verdict-unmet false is = absurd (false≢true is)
 
 module _ (environment : Environment) (holds : List ℕ → Bool) (means : IsMeaning environment.target holds) where
   surely-applies : (a : Alternative) → surely (applies_by environment a) ≡ true → applies_in holds environment a ≡ true
-  surely-applies a is = verdict-alone (applies_in holds environment a) (lines_are_sound.unmet environment [] (a ∷ []) holds means (alone-unmet (applies_by environment a) is))
+  surely-applies a is = verdict-alone (applies_in holds environment a) (lines_are_sound.unmet environment [] (a ∷ []) holds means (alone-unmet _ _ (applies_by environment a) is))
 
   may-apply : (a : Alternative) → applies_in holds environment a ≡ true → may (applies_by environment a) ≡ true
   may-apply a is = true_from_ne_false (may (applies_by environment a)) (λ no.
-      lines_are_sound.none environment [] (a ∷ []) holds means (alone-none (applies_by environment a) no) (verdict-unmet (applies_in holds environment a) is))
+      lines_are_sound.none environment [] (a ∷ []) holds means (alone-none _ _ (applies_by environment a) no) (verdict-unmet (applies_in holds environment a) is))
 
   met-by : (packages : List Listed) (group : Group) → is_none (trouble environment packages group) ≡ true → is_not_unmet (verdict_in holds environment packages group) ≡ true
   met-by packages group is = other-is (verdict_in holds environment packages group) (lines_are_sound.none environment packages group holds means (none-is (trouble environment packages group) is))
@@ -87,7 +85,7 @@ module _ (environment : Environment) (holds : List ℕ → Bool) (means : IsMean
   otherwise-by packages group is = true_from_ne_false (can_be_otherwise environment packages group) (λ none.
       unmet-is (verdict_in holds environment packages group)
       (lines_are_sound.unmet environment packages group holds means
-      (only-unmet (can_be_unmet environment packages group) (can_be_otherwise environment packages group) (otherwise-if-none environment packages group) none)) is)
+      (only-unmet _ _ (can_be_unmet environment packages group) (can_be_otherwise environment packages group) (otherwise-if-none environment packages group) none)) is)
 
 module _ (holds : List ℕ → List ℕ → Bool) (means : AreMeanings holds) (strength : Strength) (environment : Environment) (packages : List Listed) where
   module _ (values : ValueEntries ValueMeaning) where

@@ -1,5 +1,5 @@
 -- A package, the rows of what it needs and those that it excludes.
-use Rattle.std.proofs.Common.{◌≡◌, ℕ, Bool, true, false, cond, not, ◌&&◌, is_none, List, [], ◌∷◌, codes, refl, sym, ap, ◌∙◌}
+use Rattle.std.proofs.Common.{◌≡◌, ℕ, Bool, true, false, cond, not, ◌&&◌, List, [], codes, refl, sym, ap, ◌∙◌}
 use Rattle.std.specs.List.{flat_map, list_all, list_any}
 use Rattle.deb_relation.specs.Applying.{Environment}
 use Rattle.deb_relation.specs.Meaning.{Alternative, Group}
@@ -11,72 +11,69 @@ use Rattle.deb_index.specs.Named.{numbers_of}
 use Rattle.deb_unmet.specs.Asked.{fields_with}
 use Rattle.deb_unmet.specs.Fields.{environment_for}
 use Rattle.deb_unmet.specs.Readings.{applies_by}
-use Rattle.deb_unmet.specs.Troubles.{can_be_otherwise, trouble}
 use Rattle.deb_unmet.specs.declared.asked.Asked.TheVariants.{Packages}
 use Rattle.deb_unmet.specs.declared.asked.Strength.{Strength}
 use Rattle.deb_health.specs.Excluding.{excludes}
-use Rattle.deb_health.specs.Health.{is_abundant, is_peaceful}
 use Rattle.deb_health.specs.Lines.{negative_fields}
-use Rattle.deb_install.specs.Installable.{can_be_abundant, can_be_peaceful}
+use Rattle.deb_install.specs.Buildable.{fields_pass, fields_spare, group_passes}
 use Rattle.deb_install.specs.Members.{members_of}
-use Rattle.deb_install.specs.Rows.{excluded_by, counts, excluded_numbers, group_rows, needed_rows}
+use Rattle.deb_install.specs.Rows.{counts, excluded_by, excluded_by_fields, excluded_numbers, group_rows, needed_rows, rows_of_fields}
 use Rattle.deb_install.specs.declared.readings.Readings.{Readings}
 use Rattle.deb_install.specs.declared.readings.Readings.TheVariants.{Every, One}
 use Rattle.deb_install.proofs.GroupRows.{every-group, one-group}
 use Rattle.deb_install.proofs.Sets.{any-members}
 use Rattle.deb_install.proofs.Tests.{all-flat, none-flat}
 
--- the two conditions on a package, by readings
-abbrev pub group_passes : Readings → Environment → List Listed → Group → Bool
-group_passes Every environment packages group = is_none (trouble environment packages group)
-group_passes One environment packages group = can_be_otherwise environment packages group
-
+-- the two conditions on a package
 abbrev pub is_abundant_in : Readings → Strength → Environment → List Listed → ValueEntries ValueMeaning → Bool
 is_abundant_in readings strength environment packages values =
-    list_all (λ field. list_all
-    (group_passes readings (environment_for (Packages strength) environment values) packages)
-    (groups_of (value_under field values))) (fields_with strength)
+    fields_pass readings (environment_for (Packages strength) environment values) packages values (fields_with strength)
 
 abbrev pub is_peaceful_in : Readings → Strength → Environment → List Listed → ValueEntries ValueMeaning → Bool
 is_peaceful_in readings strength environment packages values =
-    list_all (λ field. list_all (λ group. list_all
-    (λ a. not (counts readings (applies_by (environment_for (Packages strength) environment values) a)
-    && list_any (excludes environment.target (word_under (codes "Package") values) a) packages))
-    group) (groups_of (value_under field values))) negative_fields
+    fields_spare readings (environment_for (Packages strength) environment values) environment.target (word_under (codes "Package") values) packages values negative_fields
 
-module _ (readings : Readings) (strength : Strength) (environment : Environment) (set : ℕ → Bool) (packages : List Listed) where
+module _ (readings : Readings) (set : ℕ → Bool) (packages : List Listed) where
   abbrev members : List Listed
   members = members_of set packages
 
-  group-rows : (own : Environment) (group : Group) → group_passes readings own members group ≡ list_all (list_any set) (group_rows readings own packages group)
+  pub group-rows : (own : Environment) (group : Group) → group_passes readings own members group ≡ list_all (list_any set) (group_rows readings own packages group)
   group-rows own group = go readings
     where
       go : (r : Readings) → group_passes r own members group ≡ list_all (list_any set) (group_rows r own packages group)
       go Every = every-group set packages own group
       go One = one-group set packages own group
 
-  -- each row of what it needs has a number of the set
-  pub needs-met : (values : ValueEntries ValueMeaning) → is_abundant_in readings strength environment members values ≡ list_all (list_any set) (needed_rows readings strength environment packages values)
-  needs-met values =
-      let own = environment_for (Packages strength) environment values in
-      let rows : Group → List (List ℕ) = group_rows readings own packages in
-      let groups : List ℕ → List Group = λ field. groups_of (value_under field values) in
-      (λ i. list_all (λ field. list_all (λ group. group-rows own group i) (groups field)) (fields_with strength))
-      ∙ (λ i. list_all (λ field. sym (all-flat (list_any set) rows (groups field)) i) (fields_with strength))
-      ∙ sym (all-flat (list_any set) (λ field. flat_map rows (groups field)) (fields_with strength))
-
   one-excludes : (v : Bool) (test : Listed → Bool) → not (list_any set (cond v (numbers_of test packages) [])) ≡ not (v && list_any test members)
   one-excludes true test = ap not (sym (any-members set test 1 packages))
   one-excludes false test = refl
 
+  module _ (own : Environment) (values : ValueEntries ValueMeaning) (fields : List (List ℕ)) where
+    abbrev groups : List ℕ → List Group
+    groups field = groups_of (value_under field values)
+
+    -- the groups of fields pass exactly if each of their rows has a number of the set
+    pub fields-met : fields_pass readings own members values fields ≡ list_all (list_any set) (rows_of_fields readings own packages values fields)
+    fields-met =
+        let rows : Group → List (List ℕ) = group_rows readings own packages in
+        (λ i. list_all (λ field. list_all (λ group. group-rows own group i) (groups field)) fields)
+        ∙ (λ i. list_all (λ field. sym (all-flat (list_any set) rows (groups field)) i) fields)
+        ∙ sym (all-flat (list_any set) (λ field. flat_map rows (groups field)) fields)
+
+    -- they spare the members exactly if the set has none of the numbers that they exclude
+    pub fields-spared : (target name : List ℕ) → fields_spare readings own target name members values fields ≡ not (list_any set (excluded_by_fields readings own target name packages values fields))
+    fields-spared target name =
+        let row : Alternative → List ℕ = excluded_by readings own target name packages in
+        (λ i. list_all (λ field. list_all (λ group. list_all (λ a. sym (one-excludes (counts readings (applies_by own a)) (excludes target name a)) i) group) (groups field)) fields)
+        ∙ (λ i. list_all (λ field. list_all (λ group. sym (none-flat set row group) i) (groups field)) fields)
+        ∙ (λ i. list_all (λ field. sym (none-flat set (flat_map row) (groups field)) i) fields)
+        ∙ sym (none-flat set (λ field. flat_map (flat_map row) (groups field)) fields)
+
+module _ (readings : Readings) (strength : Strength) (environment : Environment) (set : ℕ → Bool) (packages : List Listed) (values : ValueEntries ValueMeaning) where
+  -- each row of what it needs has a number of the set
+  pub needs-met : is_abundant_in readings strength environment (members_of set packages) values ≡ list_all (list_any set) (needed_rows readings strength environment packages values)
+  needs-met = fields-met readings set packages (environment_for (Packages strength) environment values) values (fields_with strength)
+
   -- the set has none of the numbers that it excludes
-  pub none-excluded : (values : ValueEntries ValueMeaning) → is_peaceful_in readings strength environment members values ≡ not (list_any set (excluded_numbers readings strength environment packages values))
-  none-excluded values =
-      let own = environment_for (Packages strength) environment values in
-      let name = word_under (codes "Package") values in
-      let row : Alternative → List ℕ = excluded_by readings own environment.target name packages in
-      let groups : List ℕ → List Group = λ field. groups_of (value_under field values) in
-      (λ i. list_all (λ field. list_all (λ group. list_all (λ a. sym (one-excludes (counts readings (applies_by own a)) (excludes environment.target name a)) i) group) (groups field)) negative_fields)
-      ∙ (λ i. list_all (λ field. list_all (λ group. sym (none-flat set row group) i) (groups field)) negative_fields)
-      ∙ (λ i. list_all (λ field. sym (none-flat set (flat_map row) (groups field)) i) negative_fields)
-      ∙ sym (none-flat set (λ field. flat_map (flat_map row) (groups field)) negative_fields)
+  pub none-excluded : is_peaceful_in readings strength environment (members_of set packages) values ≡ not (list_any set (excluded_numbers readings strength environment packages values))
+  none-excluded = fields-spared readings set packages (environment_for (Packages strength) environment values) values negative_fields environment.target (word_under (codes "Package") values)

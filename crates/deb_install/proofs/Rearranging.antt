@@ -1,6 +1,6 @@
 -- A set is healthy exactly if it is in another order.
-use Rattle.std.proofs.Common.{◌≡◌, ℕ, ◌+◌, ◌-◌, ◌<◌, ◌≤◌, Bool, true, not, ◌&&◌, List, length, map, codes, refl, sym, ap, ◌∙◌, subst, arith}
-use Rattle.std.specs.List.{list_all, list_any, slice_get}
+use Rattle.std.proofs.Common.{◌≡◌, ℕ, ◌+◌, ◌-◌, ◌<◌, ◌≤◌, Bool, not, ◌&&◌, List, length, map, codes, sym, ap, ◌∙◌, subst, arith}
+use Rattle.std.specs.List.{list_all}
 use Rattle.std.specs.List.Sorted.{IsPermutation}
 use Rattle.std.proofs.lemmas.List.{length-map}
 use Rattle.std.proofs.lemmas.List.Sorted.{IsPermutation-map, list_any-IsPermutation}
@@ -20,7 +20,7 @@ use Rattle.deb_health.specs.Health.{are_apart}
 use Rattle.deb_health.specs.Lines.{negative_fields}
 use Rattle.deb_health.proofs.Rearranged.{list_all-permutation}
 use Rattle.deb_health.proofs.SameReasons.{apart-rearranged, healthy-rearranged, otherwise-rearranged}
-use Rattle.deb_install.specs.Installable.{IsInstallable, can_be_abundant, can_be_healthy, can_be_peaceful, is_healthy_in}
+use Rattle.deb_install.specs.Installable.{can_be_abundant, can_be_healthy, can_be_peaceful, is_healthy_in}
 use Rattle.deb_install.specs.Laws.{RearrangingKeepsInstallable}
 use Rattle.deb_install.specs.Members.{members_from, members_of}
 use Rattle.deb_install.specs.declared.readings.Readings.{Readings}

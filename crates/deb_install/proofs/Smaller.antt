@@ -1,5 +1,5 @@
 -- What a set has, the whole list has.
-use Rattle.std.proofs.Common.{◌≡◌, ℕ, zero, suc, ◌+◌, Bool, true, false, cond, not, ◌&&◌, ◌||◌, is_none, List, [], ◌∷◌, get_or, Option, None, Some, refl, sym, ap, ◌∙◌, arith}
+use Rattle.std.proofs.Common.{◌≡◌, ℕ, zero, suc, ◌+◌, Bool, true, false, cond, not, ◌&&◌, is_none, List, [], ◌∷◌, None, Some, refl, sym, ap, ◌∙◌, arith}
 use Rattle.std.specs.List.{Contains, list_all, list_any, slice_get}
 use Rattle.std.proofs.lemmas.Bool.{and_parts, false≢true, or_right, true_from_ne_false}
 use Rattle.std.proofs.lemmas.List.Folds.{list_all_at}
@@ -8,12 +8,12 @@ use Rattle.deb_relation.specs.Meaning.{Alternative, Group}
 use Rattle.deb_index.specs.Listed.{Listed}
 use Rattle.deb_index.specs.Meeting.{meets}
 use Rattle.deb_unmet.specs.Readings.{applies_by, may, surely}
-use Rattle.deb_unmet.specs.Troubles.{can_be_otherwise, can_be_unmet, is_met, trouble}
+use Rattle.deb_unmet.specs.Troubles.{can_be_otherwise, can_be_unmet, is_met}
 use Rattle.deb_health.proofs.Growing.{and-grows, any-grows, not-grows, or-grows}
+use Rattle.deb_install.specs.Buildable.{group_passes}
 use Rattle.deb_install.specs.Members.{members_from, members_of}
 use Rattle.deb_install.specs.declared.readings.Readings.{Readings}
 use Rattle.deb_install.specs.declared.readings.Readings.TheVariants.{Every, One}
-use Rattle.deb_install.proofs.PackageRows.{group_passes}
 
 pub all-contained : {X : Type 0} (test : X → Bool) (xs : List X) (x : X) → list_all test xs ≡ true → Contains xs x → test x ≡ true
 all-contained test xs x all has =

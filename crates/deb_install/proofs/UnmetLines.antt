@@ -1,5 +1,5 @@
 -- A package with a line of deb_unmet isn't installable.
-use Rattle.std.proofs.Common.{◌≡◌, ℕ, ◌+◌, Bool, true, false, cond, ◌&&◌, is_none, List, Option, None, Some, refl, sym, ap, ◌∙◌, arith}
+use Rattle.std.proofs.Common.{◌≡◌, ℕ, ◌+◌, Bool, true, false, ◌&&◌, List, sym, ap, ◌∙◌, arith}
 use Rattle.std.specs.List.{list_all}
 use Rattle.std.proofs.lemmas.Bool.{and_parts, false≢true}
 use Rattle.deb_relation.specs.Applying.{Environment}
@@ -11,26 +11,26 @@ use Rattle.deb_control.specs.ValueFiles.{ValueEntries}
 use Rattle.deb_index.specs.Listed.{Listed}
 use Rattle.deb_unmet.specs.Asked.{fields_with}
 use Rattle.deb_unmet.specs.Fields.{environment_for}
-use Rattle.deb_unmet.specs.Troubles.{can_be_otherwise, can_be_unmet, trouble}
+use Rattle.deb_unmet.specs.Troubles.{can_be_otherwise, can_be_unmet}
 use Rattle.deb_unmet.specs.declared.asked.Asked.TheVariants.{Packages}
 use Rattle.deb_unmet.specs.declared.asked.Strength.{Strength}
-use Rattle.deb_unmet.specs.declared.trouble.Trouble.{Trouble}
-use Rattle.deb_unmet.specs.declared.trouble.Trouble.TheVariants.{Unmet, Unsure}
 use Rattle.deb_health.specs.Health.{are_apart}
+use Rattle.deb_install.specs.Buildable.{group_passes}
 use Rattle.deb_install.specs.Installable.{IsInstallable}
 use Rattle.deb_install.specs.Laws.{HasUnmetLine, UnmetIsNotInstallable}
 use Rattle.deb_install.specs.Members.{members_of}
 use Rattle.deb_install.specs.declared.readings.Readings.{Readings}
 use Rattle.deb_install.specs.declared.readings.Readings.TheVariants.{Every, One}
+use Rattle.deb_install.proofs.EveryOne.{not-unmet}
 use Rattle.deb_install.proofs.HealthyRows.{by-parts}
-use Rattle.deb_install.proofs.PackageRows.{group_passes, is_abundant_in, is_peaceful_in}
+use Rattle.deb_install.proofs.PackageRows.{is_abundant_in, is_peaceful_in}
 use Rattle.deb_install.proofs.Smaller.{all-contained, member-at, passes-more}
 
 -- where all listed packages together don't meet a group that a package needs
-not-passing : (readings : Readings) (strength : Strength) (environment : Environment) (packages : List Listed) (meaning : Meaning) (k : ℕ) (why : Trouble) (line : HasUnmetLine strength environment packages meaning k why)
+not-passing : (readings : Readings) (strength : Strength) (environment : Environment) (packages : List Listed) (meaning : Meaning) (k : ℕ) (is_unsure : Bool) (line : HasUnmetLine strength environment packages meaning k is_unsure)
     → (group_passes readings (environment_for (Packages strength) environment line.values) packages line.group ≡ true → ⊥)
     → IsInstallable readings strength environment packages meaning (k + 1) → ⊥
-not-passing readings strength environment packages meaning k why line fails installable =
+not-passing readings strength environment packages meaning k is_unsure line fails installable =
     let set = installable.set in
     let members = members_of set packages in
     let own = environment_for (Packages strength) environment line.values in
@@ -43,15 +43,10 @@ not-passing readings strength environment packages meaning k why line fails inst
     let field_passes = all-contained (λ field. list_all passes (groups_of (value_under field line.values))) (fields_with strength) line.field abundant line.asked in
     fails (passes-more set packages own readings line.group (all-contained passes (groups_of (value_under line.field line.values)) line.group field_passes line.needed))
 
-not-otherwise : (unmet other : Bool) → cond unmet (cond other (Some Unsure) (Some Unmet)) None ≡ Some Unmet → other ≡ true → ⊥
-not-otherwise true true is so = absurd cc
-not-otherwise true false is so = false≢true so
-not-otherwise false other is so = absurd cc
-
 pub unmet_is_not : UnmetIsNotInstallable
 unmet_is_not = record {
-  in_every = λ strength environment packages meaning k why line. not-passing Every strength environment packages meaning k why line
-      (λ passes. false≢true (sym (ap is_none line.line) ∙ passes));
-  in_one = λ strength environment packages meaning k line. not-passing One strength environment packages meaning k Unmet line
-      (not-otherwise (can_be_unmet (environment_for (Packages strength) environment line.values) packages line.group) (can_be_otherwise (environment_for (Packages strength) environment line.values) packages line.group) line.line);
+  in_every = λ strength environment packages meaning k is_unsure line. not-passing Every strength environment packages meaning k is_unsure line
+      (λ passes. not-unmet _ _ (can_be_unmet (environment_for (Packages strength) environment line.values) packages line.group) (can_be_otherwise (environment_for (Packages strength) environment line.values) packages line.group) passes line.unmet);
+  in_one = λ strength environment packages meaning k line. not-passing One strength environment packages meaning k false line
+      (λ passes. false≢true (sym line.otherwise ∙ passes));
 }

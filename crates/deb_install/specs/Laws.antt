@@ -1,7 +1,7 @@
 -- Laws of installable packages: the rows decide, a package that is installable in every reading is
 -- in one, a package with a line of `unmet` isn't, and what doesn't matter. Debian Policy 5.1 and
 -- 7.2 to 7.5; the canonical text is this project's own.
-use Rattle.std.specs.Prelude.{◌≡◌, ℕ, ◌+◌, ◌<◌, ltb, Bool, true, cond, List, [], ◌∷◌, ◌++◌, length, map, Option, Some, refl}
+use Rattle.std.specs.Prelude.{◌≡◌, ℕ, ◌+◌, ltb, Bool, true, false, cond, List, [], ◌∷◌, ◌++◌, length, map, Option, Some, refl}
 use Rattle.std.specs.List.{Contains, slice_get}
 use Rattle.std.specs.List.Sorted.{IsPermutation}
 use Rattle.deb_base.specs.declared.doc.Doc.TheVariants as docs
@@ -16,11 +16,10 @@ use Rattle.deb_index.specs.Listed.{Listed}
 use Rattle.deb_index.specs.Listing.{Lists, ListsAll}
 use Rattle.deb_unmet.specs.Asked.{fields_with}
 use Rattle.deb_unmet.specs.Fields.{environment_for}
-use Rattle.deb_unmet.specs.Troubles.{trouble}
+use Rattle.deb_unmet.specs.Troubles.{can_be_otherwise, can_be_unmet}
 use Rattle.deb_unmet.specs.declared.asked.Asked.TheVariants.{Packages}
 use Rattle.deb_unmet.specs.declared.asked.Strength.{Strength}
-use Rattle.deb_unmet.specs.declared.trouble.Trouble.{Trouble}
-use Rattle.deb_unmet.specs.declared.trouble.Trouble.TheVariants.{Unmet}
+use Rattle.deb_install.specs.Buildable.{HasBuildSet, IsBuildable, build_excludes, build_rows}
 use Rattle.deb_install.specs.Installable.{IsInstallable, is_healthy_in}
 use Rattle.deb_install.specs.Members.{HasHealthySet, IsHealthyByRows, members_of}
 use Rattle.deb_install.specs.NameMeanings.{AreMeanings, is_healthy_by}
@@ -54,6 +53,28 @@ RowsDecide =
     → AreRowsOf readings strength environment packages meaning needs excludes
     → AreDecidedBy readings strength environment packages meaning needs excludes
 
+-- A source package can be built exactly if such a set has a number of each of its rows, and none
+-- that it excludes.
+pub record BuildRowsDecide : Type 0 where
+  pub by_rows : (readings : Readings) (strength : Strength) (environment : Environment)
+      (packages : List Listed) (meaning : Meaning) (needs : ℕ → List (List ℕ))
+      (excludes : ℕ → List ℕ) → Pairwise Lists meaning packages
+      → AreRowsOf readings strength environment packages meaning needs excludes
+      → (values : ValueEntries ValueMeaning)
+      → IsBuildable readings strength environment packages meaning values
+      → HasBuildSet (length packages) needs excludes
+      (build_rows readings environment packages values)
+      (build_excludes readings environment packages values)
+  pub from_rows : (readings : Readings) (strength : Strength) (environment : Environment)
+      (packages : List Listed) (meaning : Meaning) (needs : ℕ → List (List ℕ))
+      (excludes : ℕ → List ℕ) → Pairwise Lists meaning packages
+      → AreRowsOf readings strength environment packages meaning needs excludes
+      → (values : ValueEntries ValueMeaning)
+      → HasBuildSet (length packages) needs excludes
+      (build_rows readings environment packages values)
+      (build_excludes readings environment packages values)
+      → IsBuildable readings strength environment packages meaning values
+
 -- A package that is installable in every reading is installable in one.
 abbrev pub EveryReadingIsOne : Type 0
 EveryReadingIsOne =
@@ -73,28 +94,30 @@ pub record ReadingsAreSound : Type 0 where
       → is_healthy_by holds strength environment packages meaning ≡ true
       → is_healthy_in One strength environment packages meaning ≡ true
 
--- The package after so many has a line of deb_unmet with this word. The line is about a group that
--- the package needs, and that all listed packages together don't meet.
+-- The package after so many has a line of deb_unmet. The line is about a group that the package
+-- needs, and that all listed packages together don't meet. It says `unsure` or `unmet`.
 pub record HasUnmetLine (strength : Strength) (environment : Environment) (packages : List Listed)
-    (meaning : Meaning) (k : ℕ) (why : Trouble) : Type 0 where
+    (meaning : Meaning) (k : ℕ) (is_unsure : Bool) : Type 0 where
   pub values : ValueEntries ValueMeaning
   pub is : slice_get meaning k ≡ Some values
   pub field : List ℕ
   pub asked : Contains (fields_with strength) field
   pub group : Group
   pub needed : Contains (groups_of (value_under field values)) group
-  pub line : trouble (environment_for (Packages strength) environment values) packages group
-      ≡ Some why
+  pub unmet : can_be_unmet (environment_for (Packages strength) environment values) packages group
+      ≡ true
+  pub otherwise : can_be_otherwise (environment_for (Packages strength) environment values)
+      packages group ≡ is_unsure
 
 -- A package with such a line isn't installable in every reading. One whose line says `unmet` isn't
 -- installable in one.
 pub record UnmetIsNotInstallable : Type 0 where
   pub in_every : (strength : Strength) (environment : Environment) (packages : List Listed)
-      (meaning : Meaning) (k : ℕ) (why : Trouble)
-      → HasUnmetLine strength environment packages meaning k why
+      (meaning : Meaning) (k : ℕ) (is_unsure : Bool)
+      → HasUnmetLine strength environment packages meaning k is_unsure
       → IsInstallable Every strength environment packages meaning (k + 1) → ⊥
   pub in_one : (strength : Strength) (environment : Environment) (packages : List Listed)
-      (meaning : Meaning) (k : ℕ) → HasUnmetLine strength environment packages meaning k Unmet
+      (meaning : Meaning) (k : ℕ) → HasUnmetLine strength environment packages meaning k false
       → IsInstallable One strength environment packages meaning (k + 1) → ⊥
 
 -- the number of a package once another one is added after so many

@@ -1,5 +1,6 @@
 pub mod Members
 pub mod Installable
 pub mod Rows
+pub mod Buildable
 pub mod NameMeanings
 pub mod Laws

@@ -56,13 +56,19 @@ group_rows One environment packages group =
     (flat_map (candidates environment packages) (may_be_applying environment group) ∷ [])
     []
 
+-- the rows of the groups in these fields
+abbrev pub rows_of_fields : Readings → Environment → List Listed → ValueEntries ValueMeaning
+    → List (List ℕ) → List (List ℕ)
+rows_of_fields readings environment packages values fields =
+    flat_map (λ field. flat_map (group_rows readings environment packages)
+    (groups_of (value_under field values))) fields
+
 -- the rows of the groups that a package needs
 abbrev pub needed_rows : Readings → Strength → Environment → List Listed
     → ValueEntries ValueMeaning → List (List ℕ)
 needed_rows readings strength environment packages values =
-    flat_map (λ field. flat_map
-    (group_rows readings (environment_for (Packages strength) environment values) packages)
-    (groups_of (value_under field values))) (fields_with strength)
+    rows_of_fields readings (environment_for (Packages strength) environment values) packages
+    values (fields_with strength)
 
 -- An alternative of Conflicts or Breaks counts in every reading if it may apply, and in one reading
 -- if it surely applies.
@@ -77,14 +83,20 @@ excluded_by readings environment target name packages a =
     cond (counts readings (applies_by environment a))
     (numbers_of (excludes target name a) packages) []
 
+-- the numbers of those that the alternatives in these fields exclude, of a package with this name
+abbrev pub excluded_by_fields : Readings → Environment → List ℕ → List ℕ → List Listed
+    → ValueEntries ValueMeaning → List (List ℕ) → List ℕ
+excluded_by_fields readings environment target name packages values fields =
+    flat_map (λ field. flat_map (flat_map
+    (excluded_by readings environment target name packages))
+    (groups_of (value_under field values))) fields
+
 -- those that the Conflicts and then the Breaks of a package exclude
 abbrev pub excluded_numbers : Readings → Strength → Environment → List Listed
     → ValueEntries ValueMeaning → List ℕ
 excluded_numbers readings strength environment packages values =
-    flat_map (λ field. flat_map (flat_map
-    (excluded_by readings (environment_for (Packages strength) environment values)
-    environment.target (word_under (codes "Package") values) packages))
-    (groups_of (value_under field values))) negative_fields
+    excluded_by_fields readings (environment_for (Packages strength) environment values)
+    environment.target (word_under (codes "Package") values) packages values negative_fields
 
 -- the numbers of later packages of its name that can't be installed together with the package of
 -- this number
