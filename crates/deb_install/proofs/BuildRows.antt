@@ -13,8 +13,8 @@ use Rattle.deb_install.specs.Laws.{BuildRowsDecide}
 use Rattle.deb_install.specs.Members.{members_of}
 use Rattle.deb_install.specs.Rows.{group_rows, rows_of_fields}
 use Rattle.deb_install.specs.declared.readings.Readings.{Readings}
-use Rattle.deb_install.proofs.HealthyRows.{healthy_by_rows, healthy_from_rows}
 use Rattle.deb_install.proofs.PackageRows.{fields-met, fields-spared, group-rows}
+use Rattle.deb_install.proofs.StoredRows.{any-same, rows-same}
 use Rattle.deb_install.proofs.Tests.{all-flat}
 
 module _ (readings : Readings) (environment : Environment) (set : ℕ → Bool) (packages : List Listed) (values : ValueEntries ValueMeaning) where
@@ -33,20 +33,22 @@ module _ (readings : Readings) (environment : Environment) (set : ℕ → Bool) 
 
 pub build_rows_decide : BuildRowsDecide
 build_rows_decide = record {
-  by_rows = λ readings strength environment packages meaning needs excludes lists rows values buildable.
+  by_rows = λ readings strength environment packages meaning needs excludes decided values rows excluded same alike buildable.
       let set = buildable.set in
       record {
         set = set;
-        healthy = healthy_by_rows readings strength environment packages meaning needs excludes rows set lists buildable.healthy;
-        abundance = sym (can-build readings environment set packages values) ∙ buildable.can;
-        peace = not-true (list_any set (build_excludes readings environment packages values)) (sym (may-build readings environment set packages values) ∙ buildable.may);
+        healthy = decided.healthy set buildable.healthy;
+        abundance = rows-same set rows (build_rows readings environment packages values) same ∙ sym (can-build readings environment set packages values) ∙ buildable.can;
+        peace = any-same set excluded (build_excludes readings environment packages values) alike
+            ∙ not-true (list_any set (build_excludes readings environment packages values)) (sym (may-build readings environment set packages values) ∙ buildable.may);
       };
-  from_rows = λ readings strength environment packages meaning needs excludes lists rows values has.
+  from_rows = λ readings strength environment packages meaning needs excludes decided values rows excluded same alike has.
       let set = has.set in
       record {
         set = set;
-        healthy = healthy_from_rows readings strength environment packages meaning needs excludes rows set lists has.healthy;
-        can = can-build readings environment set packages values ∙ has.abundance;
-        may = may-build readings environment set packages values ∙ not_from_false (list_any set (build_excludes readings environment packages values)) has.peace;
+        healthy = decided.is_healthy set has.healthy;
+        can = can-build readings environment set packages values ∙ sym (rows-same set rows (build_rows readings environment packages values) same) ∙ has.abundance;
+        may = may-build readings environment set packages values
+            ∙ not_from_false (list_any set (build_excludes readings environment packages values)) (sym (any-same set excluded (build_excludes readings environment packages values) alike) ∙ has.peace);
       };
 }

@@ -9,11 +9,13 @@ use Rattle.deb_index.specs.Listed.{Listed}
 use Rattle.deb_index.specs.Listing.{Lists}
 use Rattle.deb_unmet.specs.declared.asked.Strength.{Strength}
 use Rattle.deb_install.specs.Installable.{IsInstallable, is_healthy_in}
-use Rattle.deb_install.specs.Laws.{RowsDecide}
-use Rattle.deb_install.specs.Members.{HasHealthySet}
+use Rattle.deb_install.specs.Laws.{RowsDecide, StoredRowsDecide}
+use Rattle.deb_install.specs.Members.{HasHealthySet, IsHealthyByRows}
 use Rattle.deb_install.specs.Rows.{AreRowsOf}
 use Rattle.deb_install.specs.declared.readings.Readings.{Readings}
 use Rattle.deb_install.proofs.HealthyRows.{healthy_by_rows, healthy_from_rows}
+use Rattle.deb_install.proofs.ListedNumbers.{exclusions-listed}
+use Rattle.deb_install.proofs.StoredRows.{healthy-stored, stored-healthy}
 use Rattle.deb_install.proofs.Sets.{members-same}
 
 -- the numbers of a set that name one of so many packages
@@ -71,3 +73,26 @@ rows_decide readings strength environment packages meaning needs excludes lists 
   installable = installable_by_rows readings strength environment packages meaning needs excludes lists rows;
   is_installable = installable_from_rows readings strength environment packages meaning needs excludes lists rows;
 }
+
+module _ (count : ℕ) (needs : ℕ → List (List ℕ)) (excludes : ℕ → List ℕ) (rows : ℕ → List (List ℕ)) (both : ℕ → List ℕ) (number : ℕ) where
+  healthy-set : ((set : ℕ → Bool) → IsHealthyByRows count needs excludes set → IsHealthyByRows count rows both set) → HasHealthySet count needs excludes number → HasHealthySet count rows both number
+  healthy-set each has = record {
+    set = has.set;
+    contains = has.contains;
+    listed = has.listed;
+    healthy = each has.set has.healthy;
+  }
+
+pub stored_rows_decide : StoredRowsDecide
+stored_rows_decide readings strength environment packages meaning needs excludes lists are_rows rows both stored =
+    let count = length packages in
+    let decided = rows_decide readings strength environment packages meaning needs excludes lists are_rows in
+    let listed = exclusions-listed readings strength environment packages meaning needs excludes are_rows (sym (pairwise-length Lists meaning packages lists)) in
+    let to = stored-healthy count needs excludes rows both listed stored in
+    let from = healthy-stored count needs excludes rows both listed stored in
+    record {
+      healthy = λ set healthy. to set (decided.healthy set healthy);
+      is_healthy = λ set healthy. decided.is_healthy set (from set healthy);
+      installable = λ number installable. healthy-set count needs excludes rows both number to (decided.installable number installable);
+      is_installable = λ number has. decided.is_installable number (healthy-set count rows both needs excludes number from has);
+    }

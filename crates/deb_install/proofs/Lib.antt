@@ -3,6 +3,8 @@ pub mod Sets
 pub mod GroupRows
 pub mod PackageRows
 pub mod HealthyRows
+pub mod StoredRows
+pub mod ListedNumbers
 pub mod InstallableRows
 pub mod BuildRows
 pub mod Smaller

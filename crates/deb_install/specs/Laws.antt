@@ -24,6 +24,7 @@ use Rattle.deb_install.specs.Installable.{IsInstallable, is_healthy_in}
 use Rattle.deb_install.specs.Members.{HasHealthySet, IsHealthyByRows, members_of}
 use Rattle.deb_install.specs.NameMeanings.{AreMeanings, is_healthy_by}
 use Rattle.deb_install.specs.Rows.{AreRowsOf}
+use Rattle.deb_install.specs.StoredRows.{AreStored, HaveSameNumbers}
 use Rattle.deb_install.specs.declared.readings.Readings.{Readings}
 use Rattle.deb_install.specs.declared.readings.Readings.TheVariants.{Every, One}
 
@@ -53,26 +54,37 @@ RowsDecide =
     → AreRowsOf readings strength environment packages meaning needs excludes
     → AreDecidedBy readings strength environment packages meaning needs excludes
 
--- A source package can be built exactly if such a set has a number of each of its rows, and none
--- that it excludes.
+-- Rows decide as well if they are stored in any order, with exclusions in both directions.
+abbrev pub StoredRowsDecide : Type 0
+StoredRowsDecide =
+    (readings : Readings) (strength : Strength) (environment : Environment)
+    (packages : List Listed) (meaning : Meaning) (needs : ℕ → List (List ℕ))
+    (excludes : ℕ → List ℕ) → Pairwise Lists meaning packages
+    → AreRowsOf readings strength environment packages meaning needs excludes
+    → (rows : ℕ → List (List ℕ)) (both : ℕ → List ℕ)
+    → AreStored (length packages) needs excludes rows both
+    → AreDecidedBy readings strength environment packages meaning rows both
+
+-- Over rows that decide who is installable, a source package can be built exactly if a set that is
+-- healthy by them has a number of each of its rows, and none that it excludes.
 pub record BuildRowsDecide : Type 0 where
   pub by_rows : (readings : Readings) (strength : Strength) (environment : Environment)
       (packages : List Listed) (meaning : Meaning) (needs : ℕ → List (List ℕ))
-      (excludes : ℕ → List ℕ) → Pairwise Lists meaning packages
-      → AreRowsOf readings strength environment packages meaning needs excludes
-      → (values : ValueEntries ValueMeaning)
+      (excludes : ℕ → List ℕ)
+      → AreDecidedBy readings strength environment packages meaning needs excludes
+      → (values : ValueEntries ValueMeaning) (rows : List (List ℕ)) (excluded : List ℕ)
+      → Pairwise HaveSameNumbers rows (build_rows readings environment packages values)
+      → HaveSameNumbers excluded (build_excludes readings environment packages values)
       → IsBuildable readings strength environment packages meaning values
-      → HasBuildSet (length packages) needs excludes
-      (build_rows readings environment packages values)
-      (build_excludes readings environment packages values)
+      → HasBuildSet (length packages) needs excludes rows excluded
   pub from_rows : (readings : Readings) (strength : Strength) (environment : Environment)
       (packages : List Listed) (meaning : Meaning) (needs : ℕ → List (List ℕ))
-      (excludes : ℕ → List ℕ) → Pairwise Lists meaning packages
-      → AreRowsOf readings strength environment packages meaning needs excludes
-      → (values : ValueEntries ValueMeaning)
-      → HasBuildSet (length packages) needs excludes
-      (build_rows readings environment packages values)
-      (build_excludes readings environment packages values)
+      (excludes : ℕ → List ℕ)
+      → AreDecidedBy readings strength environment packages meaning needs excludes
+      → (values : ValueEntries ValueMeaning) (rows : List (List ℕ)) (excluded : List ℕ)
+      → Pairwise HaveSameNumbers rows (build_rows readings environment packages values)
+      → HaveSameNumbers excluded (build_excludes readings environment packages values)
+      → HasBuildSet (length packages) needs excludes rows excluded
       → IsBuildable readings strength environment packages meaning values
 
 -- A package that is installable in every reading is installable in one.

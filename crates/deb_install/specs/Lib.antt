@@ -1,6 +1,7 @@
 pub mod Members
 pub mod Installable
 pub mod Rows
+pub mod StoredRows
 pub mod Buildable
 pub mod NameMeanings
 pub mod Laws

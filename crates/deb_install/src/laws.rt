@@ -1,12 +1,18 @@
 //! Laws of installable packages. Each function does nothing; its contract is the law.
 
-ghost use Rattle.deb_install.specs.Laws.{AddingKeepsInstallable, BuildRowsDecide, CanonicalTextChangesNothing, EveryReadingIsOne, ReadingsAreSound, RearrangingKeepsInstallable, RowsDecide, UnmetIsNotInstallable};
+ghost use Rattle.deb_install.specs.Laws.{AddingKeepsInstallable, BuildRowsDecide, CanonicalTextChangesNothing, EveryReadingIsOne, ReadingsAreSound, RearrangingKeepsInstallable, RowsDecide, StoredRowsDecide, UnmetIsNotInstallable};
 
 /// A set of listed packages is healthy exactly if, by the rows of numbers of its packages, each row
 /// that one of them needs has a number of the set, and none excludes a number of the set. A package
 /// is installable exactly if its number is in such a set.
 pub fn rows_decide()
     ensures { RowsDecide }
+{}
+
+/// The rows decide as well if the numbers of each are stored in any order, and exclusions in both
+/// directions.
+pub fn stored_rows_decide()
+    ensures { StoredRowsDecide }
 {}
 
 /// A source package can be built by a healthy set exactly if a set that is healthy by rows has a
