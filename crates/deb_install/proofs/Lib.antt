@@ -15,3 +15,6 @@ pub mod Adding
 pub mod CanonicalTexts
 pub mod Renumbered
 pub mod Rearranging
+pub mod Excluded
+pub mod Appended
+pub mod Needed

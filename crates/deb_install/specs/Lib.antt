@@ -1,3 +1,4 @@
+pub mod Passing
 pub mod Members
 pub mod Installable
 pub mod Rows
@@ -5,3 +6,5 @@ pub mod StoredRows
 pub mod Buildable
 pub mod NameMeanings
 pub mod Laws
+pub mod Building
+pub mod Candidates

@@ -7,6 +7,9 @@
 #![tactic(auto)]
 
 pub mod laws;
+mod exclusions;
+mod groups;
+mod needs;
 mod readings;
 
 pub use readings::Readings;
