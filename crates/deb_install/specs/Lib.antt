@@ -1,4 +1,5 @@
 pub mod Members
+pub mod Passing
 pub mod Installable
 pub mod Rows
 pub mod StoredRows
