@@ -8,10 +8,11 @@ use Rattle.deb_field.specs.Values.{ValueMeaning}
 use Rattle.deb_control.specs.ValueFiles.{ValueEntries}
 use Rattle.deb_index.specs.Listed.{Listed}
 use Rattle.deb_unmet.specs.Asked.{build_fields}
-use Rattle.deb_install.specs.Buildable.{build_excludes, build_rows, can_build, conflict_fields, group_passes, implied_groups, may_build}
+use Rattle.deb_install.specs.Buildable.{build_excludes, build_rows, can_build, conflict_fields, implied_groups, may_build}
 use Rattle.deb_install.specs.Laws.{BuildRowsDecide}
 use Rattle.deb_install.specs.Members.{members_of}
 use Rattle.deb_install.specs.Rows.{group_rows, rows_of_fields}
+use Rattle.deb_install.specs.Passing.{group_passes}
 use Rattle.deb_install.specs.declared.readings.Readings.{Readings}
 use Rattle.deb_install.proofs.PackageRows.{fields-met, fields-spared, group-rows}
 use Rattle.deb_install.proofs.StoredRows.{any-same, rows-same}

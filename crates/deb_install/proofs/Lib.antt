@@ -7,6 +7,7 @@ pub mod StoredRows
 pub mod ListedNumbers
 pub mod InstallableRows
 pub mod BuildRows
+pub mod ListedRows
 pub mod Smaller
 pub mod UnmetLines
 pub mod EveryOne

@@ -1,11 +1,11 @@
 -- What a package excludes are numbers of listed packages.
-use Rattle.std.proofs.Common.{◌≡◌, ℕ, zero, suc, ◌+◌, ◌-◌, ◌<◌, ◌≤◌, ltb, Bool, true, false, cond, ◌&&◌, List, [], ◌∷◌, length, Option, None, Some, codes, refl, sym, ap, ◌∙◌, arith}
+use Rattle.std.proofs.Common.{◌≡◌, ℕ, zero, suc, ◌+◌, ◌-◌, ◌<◌, ◌≤◌, ltb, Bool, true, false, cond, List, [], ◌∷◌, length, Option, None, Some, codes, refl, sym, ap, ◌∙◌, arith}
 use Rattle.std.specs.List.{filter, flat_map, list_all, slice_get}
 use Rattle.std.specs.Option.{option_map_or}
 use Rattle.std.proofs.lemmas.Bool.{and_from, and_parts, lt-ltb}
 use Rattle.std.proofs.lemmas.List.Folds.{list_all-append}
 use Rattle.deb_relation.specs.Applying.{Environment}
-use Rattle.deb_relation.specs.Meaning.{Alternative, Group}
+use Rattle.deb_relation.specs.Meaning.{Alternative}
 use Rattle.deb_field.specs.Values.{ValueMeaning}
 use Rattle.deb_control.specs.Documents.{Meaning}
 use Rattle.deb_control.specs.FieldWords.{groups_of, value_under, word_under}
@@ -20,7 +20,8 @@ use Rattle.deb_health.specs.Excluding.{excludes as excludes_by}
 use Rattle.deb_health.specs.Lines.{negative_fields}
 use Rattle.deb_health.specs.Together.{rules_out}
 use Rattle.deb_health.proofs.Growing.{all-true}
-use Rattle.deb_install.specs.Rows.{AreRowsOf, counts, excluded_by, excluded_numbers, exclusion_row, later_duplicates}
+use Rattle.deb_install.specs.Rows.{AreRowsOf, excluded_by, excluded_numbers, exclusion_row, later_duplicates}
+use Rattle.deb_install.specs.Passing.{counts}
 use Rattle.deb_install.specs.declared.readings.Readings.{Readings}
 use Rattle.deb_install.proofs.StoredRows.{all-pass, names_one, within-names}
 use Rattle.deb_install.proofs.Tests.{all-flat}

@@ -15,9 +15,9 @@ use Rattle.deb_unmet.specs.declared.asked.Asked.TheVariants.{Packages}
 use Rattle.deb_unmet.specs.declared.asked.Strength.{Strength}
 use Rattle.deb_health.specs.Excluding.{excludes}
 use Rattle.deb_health.specs.Lines.{negative_fields}
-use Rattle.deb_install.specs.Buildable.{fields_pass, fields_spare, group_passes}
 use Rattle.deb_install.specs.Members.{members_of}
-use Rattle.deb_install.specs.Rows.{counts, excluded_by, excluded_by_fields, excluded_numbers, group_rows, needed_rows, rows_of_fields}
+use Rattle.deb_install.specs.Rows.{excluded_by, excluded_by_fields, excluded_numbers, group_rows, needed_rows, rows_of_fields}
+use Rattle.deb_install.specs.Passing.{counts, fields_pass, fields_spare, group_passes}
 use Rattle.deb_install.specs.declared.readings.Readings.{Readings}
 use Rattle.deb_install.specs.declared.readings.Readings.TheVariants.{Every, One}
 use Rattle.deb_install.proofs.GroupRows.{every-group, one-group}

@@ -10,8 +10,8 @@ use Rattle.deb_index.specs.Meeting.{meets}
 use Rattle.deb_unmet.specs.Readings.{applies_by, may, surely}
 use Rattle.deb_unmet.specs.Troubles.{can_be_otherwise, can_be_unmet, is_met}
 use Rattle.deb_health.proofs.Growing.{and-grows, any-grows, not-grows, or-grows}
-use Rattle.deb_install.specs.Buildable.{group_passes}
 use Rattle.deb_install.specs.Members.{members_from, members_of}
+use Rattle.deb_install.specs.Passing.{group_passes}
 use Rattle.deb_install.specs.declared.readings.Readings.{Readings}
 use Rattle.deb_install.specs.declared.readings.Readings.TheVariants.{Every, One}
 

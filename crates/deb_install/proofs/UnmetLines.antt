@@ -15,10 +15,10 @@ use Rattle.deb_unmet.specs.Troubles.{can_be_otherwise, can_be_unmet}
 use Rattle.deb_unmet.specs.declared.asked.Asked.TheVariants.{Packages}
 use Rattle.deb_unmet.specs.declared.asked.Strength.{Strength}
 use Rattle.deb_health.specs.Health.{are_apart}
-use Rattle.deb_install.specs.Buildable.{group_passes}
 use Rattle.deb_install.specs.Installable.{IsInstallable}
 use Rattle.deb_install.specs.Laws.{HasUnmetLine, UnmetIsNotInstallable}
 use Rattle.deb_install.specs.Members.{members_of}
+use Rattle.deb_install.specs.Passing.{group_passes}
 use Rattle.deb_install.specs.declared.readings.Readings.{Readings}
 use Rattle.deb_install.specs.declared.readings.Readings.TheVariants.{Every, One}
 use Rattle.deb_install.proofs.EveryOne.{not-unmet}

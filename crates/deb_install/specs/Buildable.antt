@@ -1,45 +1,22 @@
 -- Which source packages can be built: a healthy set has what each needs, and nothing that it
 -- excludes. Debian Policy 4.2 (build-essential is implied) and 7.7.
-use Rattle.std.specs.Prelude.{◌≡◌, ℕ, ◌&&◌, Bool, true, false, not, is_none, List, [], ◌∷◌, ◌++◌, map, codes, refl}
+use Rattle.std.specs.Prelude.{◌≡◌, ℕ, ◌&&◌, Bool, true, false, List, [], ◌∷◌, ◌++◌, map, codes, refl}
 use Rattle.std.specs.List.{flat_map, list_all, list_any}
 use Rattle.deb_relation.specs.Applying.{Environment}
 use Rattle.deb_relation.specs.Meaning.{Group}
 use Rattle.deb_field.specs.Values.{ValueMeaning}
 use Rattle.deb_control.specs.Documents.{Meaning}
-use Rattle.deb_control.specs.FieldWords.{groups_of, value_under}
 use Rattle.deb_control.specs.ValueFiles.{ValueEntries}
 use Rattle.deb_index.specs.Alternatives.{with_qualifier}
 use Rattle.deb_index.specs.Listed.{Listed}
 use Rattle.deb_unmet.specs.Asked.{build_fields}
-use Rattle.deb_unmet.specs.Readings.{applies_by}
-use Rattle.deb_unmet.specs.Troubles.{can_be_otherwise, trouble}
 use Rattle.deb_unmet.specs.declared.asked.Strength.{Strength}
-use Rattle.deb_health.specs.Excluding.{excludes}
-use Rattle.deb_install.specs.Installable.{for_amd64, is_healthy_in, needing, of, perhaps_needing}
+use Rattle.deb_install.specs.Installable.{is_healthy_in}
 use Rattle.deb_install.specs.Members.{IsHealthyByRows, members_of}
-use Rattle.deb_install.specs.Rows.{counts, excluded_by_fields, group_rows, rows_of_fields}
+use Rattle.deb_install.specs.Passing.{fields_pass, fields_spare, for_amd64, group_passes, needing, of}
+use Rattle.deb_install.specs.Rows.{excluded_by_fields, group_rows, rows_of_fields}
 use Rattle.deb_install.specs.declared.readings.Readings.{Readings}
-use Rattle.deb_install.specs.declared.readings.Readings.TheVariants.{Every, One}
-
--- a group is met by a package of the set, or ignored
-abbrev pub group_passes : Readings → Environment → List Listed → Group → Bool
-group_passes Every environment packages group = is_none (trouble environment packages group)
-group_passes One environment packages group = can_be_otherwise environment packages group
-
-abbrev pub fields_pass : Readings → Environment → List Listed → ValueEntries ValueMeaning
-    → List (List ℕ) → Bool
-fields_pass readings environment packages values fields =
-    list_all (λ field. list_all (group_passes readings environment packages)
-    (groups_of (value_under field values))) fields
-
--- no alternative in these fields that counts excludes a package of the set
-abbrev pub fields_spare : Readings → Environment → List ℕ → List ℕ → List Listed
-    → ValueEntries ValueMeaning → List (List ℕ) → Bool
-fields_spare readings environment target name packages values fields =
-    list_all (λ field. list_all (λ group. list_all
-    (λ a. not (counts readings (applies_by environment a)
-    && list_any (excludes target name a) packages)) group) (groups_of (value_under field values)))
-    fields
+use Rattle.deb_install.specs.declared.readings.Readings.TheVariants.{Every}
 
 abbrev pub implied_groups : List Group
 implied_groups = (with_qualifier (codes "build-essential") (codes "native") ∷ []) ∷ []
@@ -95,17 +72,6 @@ toolchain = of (codes "build-essential") ∷ []
 
 abbrev with_ee : List Listed
 with_ee = of (codes "ee") ∷ toolchain
-
-worked-groups : (map (λ readings. map (group_passes readings for_amd64 []) implied_groups)
-    (Every ∷ One ∷ []) ≡ (false ∷ []) ∷ (false ∷ []) ∷ [])
-    × (fields_pass Every for_amd64 [] (perhaps_needing (codes "Build-Depends")) build_fields
-    ≡ false)
-    × (fields_pass One for_amd64 [] (perhaps_needing (codes "Build-Depends")) build_fields ≡ true)
-    × (fields_spare Every for_amd64 (codes "amd64") [] with_ee
-    (perhaps_needing (codes "Build-Conflicts")) conflict_fields ≡ false)
-    × (fields_spare One for_amd64 (codes "amd64") [] with_ee
-    (perhaps_needing (codes "Build-Conflicts")) conflict_fields ≡ true)
-worked-groups = (refl, refl, refl, refl, refl)
 
 worked-needs : (can_build Every for_amd64 [] [] ≡ false)
     × (can_build Every for_amd64 toolchain [] ≡ true)

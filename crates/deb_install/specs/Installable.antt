@@ -2,27 +2,23 @@
 -- the definition is that of Mancinelli and others, 'Managing the Complexity of Large Free and Open
 -- Source Package-Based Software Distributions'.
 use Rattle.std.specs.Prelude.{◌≡◌, ℕ, ◌≤◌, ◌==◌, ◌&&◌, Bool, true, false, not, List, [], ◌∷◌, length, codes, refl}
-use Rattle.std.specs.List.{list_all, list_any}
+use Rattle.std.specs.List.{list_all}
 use Rattle.std.proofs.lemmas.Bool.{leb-true}
 use Rattle.deb_relation.specs.Applying.{Environment}
-use Rattle.deb_relation.specs.Environments.{environment_with}
-use Rattle.deb_field.specs.Values.{ValueMeaning, NameMeans, RelationMeans}
+use Rattle.deb_field.specs.Values.{ValueMeaning}
 use Rattle.deb_control.specs.Documents.{Meaning}
-use Rattle.deb_control.specs.FieldWords.{groups_of, value_under, word_under}
+use Rattle.deb_control.specs.FieldWords.{word_under}
 use Rattle.deb_control.specs.ValueFiles.{ValueEntries}
-use Rattle.deb_index.specs.Alternatives.{alone, with_list}
 use Rattle.deb_index.specs.Listed.{Listed}
 use Rattle.deb_unmet.specs.Asked.{fields_with}
 use Rattle.deb_unmet.specs.Fields.{environment_for}
-use Rattle.deb_unmet.specs.Readings.{applies_by, surely}
-use Rattle.deb_unmet.specs.Troubles.{can_be_otherwise}
 use Rattle.deb_unmet.specs.declared.asked.Asked.TheVariants.{Packages}
 use Rattle.deb_unmet.specs.declared.asked.Strength.{Strength}
 use Rattle.deb_unmet.specs.declared.asked.Strength.TheVariants.{Depends, Recommends}
-use Rattle.deb_health.specs.Excluding.{excludes}
 use Rattle.deb_health.specs.Health.{are_apart, is_healthy}
-use Rattle.deb_health.specs.Lines.{listed, negative_fields}
+use Rattle.deb_health.specs.Lines.{negative_fields}
 use Rattle.deb_install.specs.Members.{members_of}
+use Rattle.deb_install.specs.Passing.{fields_pass, fields_spare, for_amd64, needing, of, perhaps_needing}
 use Rattle.deb_install.specs.declared.readings.Readings.{Readings}
 use Rattle.deb_install.specs.declared.readings.Readings.TheVariants.{Every, One}
 
@@ -31,19 +27,16 @@ use Rattle.deb_install.specs.declared.readings.Readings.TheVariants.{Every, One}
 abbrev pub can_be_abundant : Strength → Environment → List Listed → ValueEntries ValueMeaning
     → Bool
 can_be_abundant strength environment packages values =
-    list_all (λ field. list_all
-    (can_be_otherwise (environment_for (Packages strength) environment values) packages)
-    (groups_of (value_under field values))) (fields_with strength)
+    fields_pass One (environment_for (Packages strength) environment values) packages values
+    (fields_with strength)
 
 -- In some reading, no alternative of its Conflicts or Breaks that applies excludes a package of the
 -- set: none that applies in every reading does.
 abbrev pub can_be_peaceful : Strength → Environment → List Listed → ValueEntries ValueMeaning
     → Bool
 can_be_peaceful strength environment packages values =
-    list_all (λ field. list_all (λ group. list_all
-    (λ a. not (surely (applies_by (environment_for (Packages strength) environment values) a)
-    && list_any (excludes environment.target (word_under (codes "Package") values) a) packages))
-    group) (groups_of (value_under field values))) negative_fields
+    fields_spare One (environment_for (Packages strength) environment values) environment.target
+    (word_under (codes "Package") values) packages values negative_fields
 
 abbrev pub can_be_healthy : Strength → Environment → List Listed → Meaning → Bool
 can_be_healthy strength environment packages meaning =
@@ -70,24 +63,6 @@ pub record IsInstallable (readings : Readings) (strength : Strength) (environmen
   pub listed : (1 ≤ number) × (number ≤ length packages)
   pub healthy : is_healthy_in readings strength environment (members_of set packages)
       (members_of set meaning) ≡ true
-
--- For amd64: bb, with one group in a field, and ee.
-abbrev pub for_amd64 : Environment
-for_amd64 = environment_with (codes "amd64") []
-
-abbrev pub of : List ℕ → Listed
-of name = listed name (codes "1") (codes "amd64")
-
--- ee in a field of bb, alone or with [linux-any]
-abbrev pub needing : List ℕ → ValueEntries ValueMeaning
-needing field =
-    (field, RelationMeans ((alone (codes "ee") ∷ []) ∷ []))
-    ∷ (codes "Package", NameMeans (codes "bb")) ∷ []
-
-abbrev pub perhaps_needing : List ℕ → ValueEntries ValueMeaning
-perhaps_needing field =
-    (field, RelationMeans ((with_list (codes "ee") false (codes "linux-any") ∷ []) ∷ []))
-    ∷ (codes "Package", NameMeans (codes "bb")) ∷ []
 
 worked-abundance : (can_be_abundant Depends for_amd64 [] (needing (codes "Depends")) ≡ false)
     × (can_be_abundant Depends for_amd64 [] (perhaps_needing (codes "Depends")) ≡ true)

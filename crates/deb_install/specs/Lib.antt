@@ -1,5 +1,6 @@
 pub mod Passing
 pub mod Members
+pub mod Passing
 pub mod Installable
 pub mod Rows
 pub mod StoredRows

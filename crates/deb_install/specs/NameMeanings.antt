@@ -21,7 +21,7 @@ use Rattle.deb_unmet.specs.declared.asked.Strength.TheVariants.{Depends}
 use Rattle.deb_health.specs.Excluding.{excludes}
 use Rattle.deb_health.specs.Health.{are_apart}
 use Rattle.deb_health.specs.Lines.{negative_fields}
-use Rattle.deb_install.specs.Installable.{for_amd64, needing, of, perhaps_needing}
+use Rattle.deb_install.specs.Passing.{for_amd64, needing, of, perhaps_needing}
 
 -- For each target, this says which names hold it. deb_unmet says what a name may mean: the target's
 -- own name holds it, a wildcard or another name with a hyphen may, and no other name does.

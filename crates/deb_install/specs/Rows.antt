@@ -4,7 +4,6 @@ use Rattle.std.specs.Prelude.{◌≡◌, ℕ, ◌+◌, Bool, true, false, cond, 
 use Rattle.std.specs.List.{filter, flat_map, list_any, slice_get}
 use Rattle.std.specs.Option.{option_map_or}
 use Rattle.deb_relation.specs.Applying.{Environment}
-use Rattle.deb_relation.specs.Environments.{environment_with}
 use Rattle.deb_relation.specs.Meaning.{Alternative, Group}
 use Rattle.deb_field.specs.Values.{ValueMeaning, NameMeans, RelationMeans}
 use Rattle.deb_control.specs.Documents.{Meaning}
@@ -17,14 +16,13 @@ use Rattle.deb_index.specs.Named.{numbers_of, package_at}
 use Rattle.deb_unmet.specs.Asked.{fields_with}
 use Rattle.deb_unmet.specs.Fields.{environment_for}
 use Rattle.deb_unmet.specs.Readings.{applies_by, may, surely}
-use Rattle.deb_unmet.specs.declared.applying.Applies.{Applies}
-use Rattle.deb_unmet.specs.declared.applying.Applies.TheVariants.{Surely, Maybe, Never}
 use Rattle.deb_unmet.specs.declared.asked.Asked.TheVariants.{Packages}
 use Rattle.deb_unmet.specs.declared.asked.Strength.{Strength}
 use Rattle.deb_unmet.specs.declared.asked.Strength.TheVariants.{Depends, Recommends}
 use Rattle.deb_health.specs.Excluding.{excludes}
 use Rattle.deb_health.specs.Lines.{listed, negative_fields}
 use Rattle.deb_health.specs.Together.{rules_out}
+use Rattle.deb_install.specs.Passing.{counts, for_amd64}
 use Rattle.deb_install.specs.declared.readings.Readings.{Readings}
 use Rattle.deb_install.specs.declared.readings.Readings.TheVariants.{Every, One}
 
@@ -69,12 +67,6 @@ abbrev pub needed_rows : Readings → Strength → Environment → List Listed
 needed_rows readings strength environment packages values =
     rows_of_fields readings (environment_for (Packages strength) environment values) packages
     values (fields_with strength)
-
--- An alternative of Conflicts or Breaks counts in every reading if it may apply, and in one reading
--- if it surely applies.
-abbrev pub counts : Readings → Applies → Bool
-counts Every applies = may applies
-counts One applies = surely applies
 
 -- the numbers of the packages that an alternative excludes, if it counts
 abbrev pub excluded_by : Readings → Environment → List ℕ → List ℕ → List Listed
@@ -124,9 +116,6 @@ pub record AreRowsOf (readings : Readings) (strength : Strength) (environment : 
       ≡ exclusion_row readings strength environment packages (k + 1) values
 
 -- For amd64: 1 and 4 are aa, 2 is bb, and 3 is cc for i386.
-abbrev for_amd64 : Environment
-for_amd64 = environment_with (codes "amd64") []
-
 abbrev packages : List Listed
 packages =
     listed (codes "aa") (codes "1") (codes "amd64")
@@ -171,10 +160,6 @@ worked-one : map (group_rows One for_amd64 packages) groups
     ≡ ((1 ∷ 4 ∷ 2 ∷ []) ∷ []) ∷ ([] ∷ []) ∷ ((1 ∷ 4 ∷ 2 ∷ []) ∷ []) ∷ [] ∷ []
     ∷ ((2 ∷ []) ∷ []) ∷ []
 worked-one = refl
-
-worked-counts : (map (counts Every) (Surely ∷ Maybe ∷ Never ∷ []) ≡ true ∷ true ∷ false ∷ [])
-    × (map (counts One) (Surely ∷ Maybe ∷ Never ∷ []) ≡ true ∷ false ∷ false ∷ [])
-worked-counts = (refl, refl)
 
 -- the values of aa, the first package
 abbrev values : ValueEntries ValueMeaning
