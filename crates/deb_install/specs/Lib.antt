@@ -1,4 +1,3 @@
-pub mod Passing
 pub mod Members
 pub mod Passing
 pub mod Installable
