@@ -75,21 +75,21 @@ any-more test (y ∷ done) x = or-each (test y) (list_any test (done ++ x ∷ []
 
 -- ---- the rows of a group
 
+flat-one : {X : Type 0} (f : X → List ℕ) (v : Bool) (x : X) (kept : List X) (rest : List ℕ) → flat_map f kept ≡ rest → flat_map f (cond v (x ∷ kept) kept) ≡ cond v (f x) [] ++ rest
+flat-one f true x kept rest is = ap (λ l. f x ++ l) is
+flat-one f false x kept rest is = is
+
 flat-kept : {X : Type 0} (f : X → List ℕ) (test : X → Bool) (xs : List X) → flat_map f (filter test xs) ≡ flat_map (λ x. cond (test x) (f x) []) xs
 flat-kept f test [] = refl
-flat-kept f test (x ∷ xs) = one (test x)
-  where
-    one : (v : Bool) → flat_map f (cond v (x ∷ filter test xs) (filter test xs)) ≡ cond v (f x) [] ++ flat_map (λ x. cond (test x) (f x) []) xs
-    one true = ap (λ l. f x ++ l) (flat-kept f test xs)
-    one false = flat-kept f test xs
+flat-kept f test (x ∷ xs) = flat-one f (test x) x (filter test xs) (flat_map (λ x. cond (test x) (f x) []) xs) (flat-kept f test xs)
+
+map-one : {X : Type 0} (f : X → List ℕ) (v : Bool) (x : X) (kept : List X) (rest : List (List ℕ)) → map f kept ≡ rest → map f (cond v (x ∷ kept) kept) ≡ cond v (f x ∷ []) [] ++ rest
+map-one f true x kept rest is = ap (λ l. f x ∷ l) is
+map-one f false x kept rest is = is
 
 map-kept : {X : Type 0} (f : X → List ℕ) (test : X → Bool) (xs : List X) → map f (filter test xs) ≡ flat_map (λ x. cond (test x) (f x ∷ []) []) xs
 map-kept f test [] = refl
-map-kept f test (x ∷ xs) = one (test x)
-  where
-    one : (v : Bool) → map f (cond v (x ∷ filter test xs) (filter test xs)) ≡ cond v (f x ∷ []) [] ++ flat_map (λ x. cond (test x) (f x ∷ []) []) xs
-    one true = ap (λ l. f x ∷ l) (map-kept f test xs)
-    one false = map-kept f test xs
+map-kept f test (x ∷ xs) = map-one f (test x) x (filter test xs) (flat_map (λ x. cond (test x) (f x ∷ []) []) xs) (map-kept f test xs)
 
 -- one row, if some alternative surely applies
 pub rows-if-sure : (readings : Readings) (environment : Environment) (packages : List Listed) (group : Group) → some_surely_applies environment group ≡ true → group_rows readings environment packages group ≡ flat_map (candidates_if readings environment packages) group ∷ []

@@ -19,3 +19,11 @@ pub mod Rearranging
 pub mod Excluded
 pub mod Appended
 pub mod Needed
+pub mod Held
+pub mod Universes
+pub mod Decided
+pub mod AnswerLines
+pub mod TrueVerdicts
+pub mod NeededRows
+pub mod ExcludedRows
+pub mod FileAnswers

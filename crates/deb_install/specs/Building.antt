@@ -1,5 +1,5 @@
 -- How the rows of a universe are built, package by package. This project's own.
-use Rattle.std.specs.Prelude.{◌≡◌, ℕ, List, [], ◌∷◌, ◌++◌, Some, Unit, slice_get, refl}
+use Rattle.std.specs.Prelude.{◌≡◌, ℕ, List, [], ◌∷◌, ◌++◌, Some, slice_get, refl}
 
 -- Rows are appended, and none is changed.
 pub record Grows (old new : List (List ℕ)) : Type 0 where

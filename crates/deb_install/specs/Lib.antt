@@ -8,3 +8,7 @@ pub mod NameMeanings
 pub mod Laws
 pub mod Building
 pub mod Candidates
+pub mod Keeping
+pub mod Universes
+pub mod Answers
+pub mod Installing

@@ -1,6 +1,6 @@
 //! The packages that a package excludes, by their numbers.
 
-ghost use Rattle.std.specs.Prelude.{◌≡◌, ◌++◌, ◌&&◌, [], ◌∷◌, OnOk, cond, false, ltb, not};
+ghost use Rattle.std.specs.Prelude.{◌≡◌, ◌++◌, ◌&&◌, [], ◌∷◌, OnOk, cond, false, ltb, not, option_copied};
 ghost use Rattle.std.specs.List.{flat_map};
 ghost use Rattle.std.specs.Option.{option_map_or};
 ghost use Rattle.deb_relation.specs.Environments.{environment_of};
@@ -205,7 +205,10 @@ pub(crate) fn push_number(out: &mut Vec<u32>, number: u64) -> Result<(), AllocEr
     ensures { OnOk result (out.new.items ≡ out.old.items ++ number ∷ []) }
 {
     match u32::try_from(number) {
-        Ok(number) => out.push(number),
+        Ok(number) => {
+            out.push(number)?;
+            Ok(())
+        }
         Err(_) => Err(AllocError),
     }
 }

@@ -1,6 +1,6 @@
 //! The groups that packages need, each different one once.
 
-ghost use Rattle.std.specs.Prelude.{◌≡◌, Some, IfOk, slice_get};
+ghost use Rattle.std.specs.Prelude.{◌≡◌, [], Some, IfOk, IsTrue, slice_get};
 ghost use Rattle.deb_install.specs.Building.{HasRow};
 
 use deb_solve::Rows;
@@ -24,6 +24,13 @@ impl Groups {
             rows: Rows::new(alloc),
             hashed: IndexMap::new(alloc),
         }
+    }
+
+    /// Returns the rows.
+    pub(crate) fn into_rows(self) -> Rows
+        ensures { result ≡ self.rows }
+    {
+        self.rows
     }
 
     /// Returns the number of a group with this row, which is appended if there is none yet.

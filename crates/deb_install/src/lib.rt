@@ -6,10 +6,16 @@
 //! definitions.
 #![tactic(auto)]
 
-pub mod laws;
+mod answer;
 mod exclusions;
 mod groups;
+mod kept;
+pub mod laws;
 mod needs;
 mod readings;
+mod universe;
+mod verdicts;
 
+pub use answer::Answer;
 pub use readings::Readings;
+pub use verdicts::{InstallRequest, installable};

@@ -80,7 +80,8 @@ fn append_row(groups: &mut Groups, out: &mut Vec<u32>, row: &[u32]) -> Result<()
         (row.now ∷ [])) }
 {
     let number = groups.number_of(row)?;
-    out.push(number)
+    out.push(number)?;
+    Ok(())
 }
 
 /// Returns whether an alternative of the group with a canonical text surely applies.

@@ -1,0 +1,72 @@
+-- The universe of numbers in which a set is searched, for packages of an index. The number 0 is no
+-- package, so each number is that of the index. This project's own.
+use Rattle.std.specs.Prelude.{◌≡◌, ℕ, ◌+◌, List, [], ◌∷◌, ◌++◌, Some, length}
+use Rattle.std.specs.List.{slice_get, slice_index_or}
+use Rattle.deb_relation.specs.Applying.{Environment}
+use Rattle.deb_relation.specs.Environments.{environment_of}
+use Rattle.deb_field.specs.Values.{ValueMeaning}
+use Rattle.deb_control.specs.Documents.{Meaning}
+use Rattle.deb_control.specs.ValueFiles.{ValueEntries}
+use Rattle.deb_index.specs.Indexes.{packages_of}
+use Rattle.deb_index.specs.Listed.{Listed}
+use Rattle.deb_unmet.specs.declared.asked.Strength.{Strength}
+use Rattle.deb_solve.specs.declared.universe.Universe.{Universe}
+use Rattle.deb_install.specs.Building.{AreNumbersOf, Grows}
+use Rattle.deb_install.specs.Rows.{exclusion_row, needed_rows}
+use Rattle.deb_install.specs.declared.readings.Readings.{Readings}
+use Rattle.deb_install.specs.declared.universe.Building.{Building}
+use Rattle.deb_install.specs.declared.universe.Listing.{Listing}
+
+-- In which readings, with which fields, for which environment, and which packages are listed.
+pub record Setting : Type 0 where
+  pub readings : Readings
+  pub strength : Strength
+  pub environment : Environment
+  pub packages : List Listed
+
+abbrev pub setting_of : Listing → Setting
+setting_of listing = record {
+  readings = listing.readings;
+  strength = listing.strength;
+  environment = environment_of listing.environment.now;
+  packages = packages_of listing.index.now;
+}
+
+-- the rows of groups that a package needs, and the numbers of the packages that it excludes
+abbrev pub needed_in : Setting → ValueEntries ValueMeaning → List (List ℕ)
+needed_in s values = needed_rows s.readings s.strength s.environment s.packages values
+
+abbrev pub excluded_in : Setting → ℕ → ValueEntries ValueMeaning → List ℕ
+excluded_in s number values =
+    exclusion_row s.readings s.strength s.environment s.packages number values
+
+-- A row of the numbers of these rows was appended, and new rows to the groups.
+pub record AppendsNeeds (old_groups new_groups old_needs new_needs rows : List (List ℕ)) : Type 0
+  where
+    pub grows : Grows old_groups new_groups
+    pub row : List ℕ
+    pub needs : new_needs ≡ old_needs ++ row ∷ []
+    pub are : AreNumbersOf new_groups row rows
+
+-- Rows of the package with this number and these values were appended.
+pub record AppendsPackage (s : Setting) (number : ℕ) (values : ValueEntries ValueMeaning)
+    (old new : Building) : Type 0 where
+  pub grows : Grows old.groups.rows new.groups.rows
+  pub row : List ℕ
+  pub needs : new.needs ≡ old.needs ++ row ∷ []
+  pub are : AreNumbersOf new.groups.rows row (needed_in s values)
+  pub excludes : new.excludes ≡ old.excludes ++ excluded_in s number values ∷ []
+
+-- After a row of the number 0 there is a row for each package: the numbers of the groups that it
+-- needs, and the numbers of the packages that it excludes.
+pub record AreUniverseRows (s : Setting) (meaning : Meaning) (needs groups excludes : List (List ℕ)) :
+    Type 0 where
+  pub needs_each : length needs ≡ length meaning + 1
+  pub excludes_each : length excludes ≡ length meaning + 1
+  pub needed : (k : ℕ) (values : ValueEntries ValueMeaning) → slice_get meaning k ≡ Some values
+      → AreNumbersOf groups (slice_index_or needs (k + 1) []) (needed_in s values)
+  pub excluded : (k : ℕ) (values : ValueEntries ValueMeaning) → slice_get meaning k ≡ Some values
+      → slice_index_or excludes (k + 1) [] ≡ excluded_in s (k + 1) values
+
+abbrev pub IsUniverseOf : Setting → Meaning → Universe → Type 0
+IsUniverseOf s meaning u = AreUniverseRows s meaning u.needs u.groups u.excludes
