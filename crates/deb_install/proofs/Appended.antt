@@ -2,7 +2,7 @@
 use Rattle.std.proofs.Common.{◌≡◌, ℕ, suc, zero, Bool, true, false, cond, ◌||◌, List, [], ◌∷◌, ◌++◌, map, append_assoc, append-nil, Some, slice_get, refl, sym, ap, ◌∙◌}
 use Rattle.std.specs.List.{filter, flat_map, list_any}
 use Rattle.deb_relation.specs.Applying.{Environment}
-use Rattle.deb_relation.specs.Meaning.{Alternative, Group}
+use Rattle.deb_relation.specs.Meaning.{Group}
 use Rattle.deb_index.specs.Listed.{Listed}
 use Rattle.deb_unmet.specs.Readings.{applies_by, may, surely}
 use Rattle.deb_install.specs.Building.{AppendsRows, AreNumbersOf, Grows, HasRow}

@@ -1,5 +1,5 @@
 -- A universe decides which packages are installable.
-use Rattle.std.proofs.Common.{◌≡◌, ℕ, ◌+◌, ◌≤◌, List, length, sym, ap, ◌∙◌}
+use Rattle.std.proofs.Common.{◌≡◌, ℕ, ◌+◌, ◌≤◌, length, sym, ap, ◌∙◌}
 use Rattle.deb_control.specs.Documents.{Meaning}
 use Rattle.deb_control.specs.Pairs.{Pairwise}
 use Rattle.deb_control.proofs.GivenValues.{pairwise-length}

@@ -1,5 +1,5 @@
 -- The numbers of excluded packages, one after the other.
-use Rattle.std.proofs.Common.{◌≡◌, ℕ, ◌++◌, List, [], ◌∷◌, refl, ap, ◌∙◌}
+use Rattle.std.proofs.Common.{◌≡◌, ℕ, List, [], ◌∷◌, refl, ap}
 use Rattle.std.specs.List.{flat_map}
 use Rattle.deb_relation.specs.Environments.{environment_of}
 use Rattle.deb_relation.specs.Meaning.{Alternative, Group}

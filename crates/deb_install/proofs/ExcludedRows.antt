@@ -1,5 +1,5 @@
 -- The numbers that a package excludes, field by field.
-use Rattle.std.proofs.Common.{◌≡◌, ℕ, List, [], ◌++◌, append_assoc, append-nil, sym, ap, ◌∙◌}
+use Rattle.std.proofs.Common.{◌≡◌, ℕ, List, [], ◌++◌, append-nil, sym, ap, ◌∙◌}
 
 -- two fields, and then later duplicates
 pub fields-then : (start first second third last : List ℕ) (one two : List ℕ) → start ≡ [] → first ≡ start ++ one → second ≡ first ++ two → third ≡ second ++ last → third ≡ (one ++ (two ++ [])) ++ last

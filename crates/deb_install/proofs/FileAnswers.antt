@@ -1,6 +1,8 @@
 -- The members of a file: they have values, of which something is kept, and list the packages.
-use Rattle.std.proofs.Common.{◌≡◌, ℕ, true, List, Result, Ok, Err, IfOk, Option, refl, sym, ◌∙◌, subst}
+use Rattle.std.proofs.Common.{◌≡◌, ℕ, List, length, Result, Ok, Err, IfOk, Option, refl, sym, ap, ◌∙◌, subst}
+use Rattle.std.specs.Io.KnownBytes.{Appends}
 use Rattle.std.specs.List.{filter}
+use Rattle.deb_base.specs.Devices.{AppendsFront}
 use Rattle.deb_base.specs.Faults.{IsReadersFault}
 use Rattle.deb_base.specs.declared.refusal.Refusal.{Refusal}
 use Rattle.deb_base.specs.declared.doc.Doc.{Doc}
@@ -20,9 +22,11 @@ use Rattle.deb_index.specs.Members.{KeepsMembers, ListsMembers, doc_of, has_valu
 use Rattle.deb_index.specs.declared.members.Members.{Members}
 use Rattle.deb_index.specs.declared.members.Members.TheVariants.{All, Installed}
 use Rattle.deb_index.proofs.Filters.{filter-all}
+use Rattle.deb_unmet.specs.Files.{is_nothing}
+use Rattle.deb_unmet.specs.declared.asking.Summary.{Summary}
 use Rattle.deb_unmet.proofs.OwnFiles.{all_kept}
 use Rattle.deb_install.specs.Answers.{HasAnswers}
-use Rattle.deb_install.specs.Installing.{AsksInstallable, BeginsAnswers, FileAnswers, StopsAnswers}
+use Rattle.deb_install.specs.Installing.{AsksInstallable, BeginsAnswers, FileAnswers, StopsAnswers, WritesAnswers}
 use Rattle.deb_install.specs.Keeping.{HoldsGiven, HoldsValues}
 
 one_meaning : (doc : Doc) (text : List ℕ) (meaning other : Meaning) → Accepted doc text meaning → Accepted doc text other → meaning ≡ other
@@ -52,15 +56,27 @@ held-file members text packages kept lists keeps =
       holds = holds.holds;
     }
 
-pub file-answers : (asks : AsksInstallable) (text : List ℕ) (packages : List Listed) (kept : List Kept) (lists : ListsMembers asks.members text packages) (file : HeldFile asks.members text packages kept) (lines : List ℕ) → HasAnswers asks.strength asks.environment packages (filter (has_values asks.members) file.meaning) lines → FileAnswers asks text
-file-answers asks text packages kept lists file lines has = record {
-  packages = packages;
-  lists = lists;
-  meaning = file.meaning;
-  accepted = file.accepted;
-  answer = has.answer;
-  are_true = has.are_true;
-}
+module _ (asks : AsksInstallable) (text : List ℕ) (packages : List Listed) (kept : List Kept) (lists : ListsMembers asks.members text packages) (file : HeldFile asks.members text packages kept) (lines : List ℕ) (has : HasAnswers asks.strength asks.environment packages (filter (has_values asks.members) file.meaning) lines) where
+  abbrev answers : FileAnswers asks text
+  answers = record {
+    packages = packages;
+    lists = lists;
+    meaning = file.meaning;
+    accepted = file.accepted;
+    answer = has.answer;
+    are_true = has.are_true;
+  }
+
+  pub writes-answers : (summary : Summary) (old new : Option (List ℕ)) → length packages ≡ summary.paragraphs → Appends old new lines → summary.is_empty ≡ is_nothing lines → WritesAnswers asks text summary old new
+  writes-answers summary old new count written is_empty = record {
+    file = answers;
+    count = count;
+    written = subst (Appends old new) has.is written;
+    is_empty = is_empty ∙ ap is_nothing has.is;
+  }
+
+  pub begins-answers : (old new : Option (List ℕ)) → AppendsFront old new lines → BeginsAnswers asks text old new
+  begins-answers old new written = record { file = answers; written = subst (AppendsFront old new) has.is written }
 
 pub stopped-writing : (fault : Fault) (asks : AsksInstallable) (text : List ℕ) (old new : Option (List ℕ)) → fault ≡ faults.Write → BeginsAnswers asks text old new → StopsAnswers fault asks text old new
 stopped-writing fault asks text old new is begins = subst (λ f. StopsAnswers f asks text old new) (sym is) begins

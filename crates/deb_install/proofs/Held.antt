@@ -1,11 +1,9 @@
 -- What is kept of paragraphs that were given, and of a whole file.
-use Rattle.std.proofs.Common.{◌≡◌, true, false, List, [], ◌∷◌, ◌++◌, length, ℕ, sym, ap, ◌∙◌, subst}
+use Rattle.std.proofs.Common.{◌≡◌, true, false, List, [], ◌∷◌, ◌++◌, sym, ◌∙◌, subst}
 use Rattle.std.specs.List.{filter}
 use Rattle.deb_syntax.specs.Answers.{Seen}
-use Rattle.deb_syntax.specs.Fields.{Field}
 use Rattle.deb_field.specs.Values.{ValueMeaning}
 use Rattle.deb_control.specs.CheckedStates.{passing_judged}
-use Rattle.deb_control.specs.Documents.{Meaning, Accepted}
 use Rattle.deb_control.specs.FieldTexts.{HasTexts, KeepsTexts}
 use Rattle.deb_control.specs.Pairs.{Pairwise}
 use Rattle.deb_control.specs.Paragraphs.{AreValuesOf}

@@ -1,5 +1,5 @@
 -- The rows of the fields that a package is asked, field by field.
-use Rattle.std.proofs.Common.{◌≡◌, ℕ, List, [], ◌++◌, ◌∷◌, get_or, codes, refl, sym, ap, ◌∙◌, subst, arith}
+use Rattle.std.proofs.Common.{◌≡◌, ℕ, List, [], ◌++◌, ◌∷◌, get_or, codes, refl, sym, subst}
 use Rattle.std.specs.List.{flat_map}
 use Rattle.deb_field.specs.Values.{ValueMeaning}
 use Rattle.deb_control.specs.FieldWords.{value_under}

@@ -1,5 +1,5 @@
 -- Verdicts on a universe are true of the packages.
-use Rattle.std.proofs.Common.{◌≡◌, ℕ, List, [], refl}
+use Rattle.std.proofs.Common.{List}
 use Rattle.deb_control.specs.Documents.{Meaning}
 use Rattle.deb_control.specs.Pairs.{Pairwise}
 use Rattle.deb_index.specs.Listing.{Lists}

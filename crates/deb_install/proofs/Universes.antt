@@ -106,7 +106,8 @@ next-held (v ∷ meaning) [] n kept within is are = absurd are
 next-held (v ∷ meaning) (k ∷ all) zero kept within is are = record { values = v; holds = subst (HoldsValues v) (sym is) are.0; next = refl; before = refl }
 next-held (v ∷ meaning) (k ∷ all) (suc n) kept within is are =
     let later = next-held meaning all n kept (omega (arith, within)) is are.1 in
-    record { values = later.values; holds = later.holds; next = ap (λ m. take m (v ∷ meaning)) (omega arith) ∙ ap (λ l. v ∷ l) later.next; before = ap suc later.before }
+    let more : suc n + 1 ≡ suc (n + 1) = omega arith in
+    record { values = later.values; holds = later.holds; next = ap (λ m. take m (v ∷ meaning)) more ∙ ap (λ l. v ∷ l) later.next; before = ap suc later.before }
 
 pub all-held : (meaning : Meaning) (all : List Kept) (n : ℕ) → length all ≤ n → Pairwise HoldsValues meaning all → take n meaning ≡ meaning
 all-held meaning all n past are =

@@ -1,4 +1,4 @@
-use Rattle.std.proofs.Common.{◌++◌, ◌+◌, length, append-nil, drop_of_length-le, refl, sym, ap, ◌∙◌, arith, subst, ◌<◌, ◌≤◌}
+use Rattle.std.proofs.Common.{◌++◌, ◌+◌, append-nil, drop_of_length-le, sym, ap, ◌∙◌, subst, ◌<◌, ◌≤◌}
 use Rattle.deb_index.specs.Indexes.{packages_of}
 use Rattle.deb_install.specs.Answers.{answer_at, answer_lines, lines_from}
 use Rattle.deb_install.proofs.AnswerLines.{lines-next}

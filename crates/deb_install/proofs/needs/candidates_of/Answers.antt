@@ -1,4 +1,4 @@
-use Rattle.std.proofs.Common.{◌≡◌, [], refl, sym, ◌∙◌}
+use Rattle.std.proofs.Common.{◌≡◌, [], sym, ◌∙◌}
 use Rattle.std.specs.List.{flat_map}
 use Rattle.deb_index.proofs.TextPieces.{alternatives_all, alternatives_more, alternatives_none, lines_more}
 use Rattle.deb_install.proofs.Needed.{counted_of}

@@ -1,5 +1,4 @@
 use Rattle.std.proofs.Common.{◌++◌, ◌∷◌, [], codes, ap, ◌∙◌}
-use Rattle.std.specs.List.{flat_map}
 use Rattle.deb_control.specs.FieldWords.{groups_of, value_under}
 use Rattle.deb_index.proofs.Offered.{on_ok}
 use Rattle.deb_install.proofs.ExcludedRows.{fields-then}

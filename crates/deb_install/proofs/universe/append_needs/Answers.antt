@@ -1,4 +1,4 @@
-use Rattle.std.proofs.Common.{◌≡◌, ◌++◌, ◌∷◌, [], ap, ◌∙◌}
+use Rattle.std.proofs.Common.{◌++◌, ◌∷◌, [], ap, ◌∙◌}
 use Rattle.deb_index.proofs.Offered.{on_ok}
 use Rattle.deb_install.proofs.NeededRows.{needs-pushed}
 use Rattle.deb_install.proofs.universe.append_needs.Goals as goal

@@ -1,7 +1,6 @@
-use Rattle.std.proofs.Common.{rules, ◌≡◌, ◌++◌, ◌∷◌, List, ℕ, [], codes, sym, ap, ◌∙◌, subst}
+use Rattle.std.proofs.Common.{rules, ◌≡◌, ◌++◌, ◌∷◌, List, ℕ, [], ap, ◌∙◌, subst}
 use Rattle.deb_relation.specs.Applying.{Environment}
 use Rattle.deb_relation.specs.Environments.{environment_of}
-use Rattle.deb_control.specs.FieldWords.{word_under}
 use Rattle.deb_health.specs.Lines.{negative_fields}
 use Rattle.deb_index.specs.Indexes.{packages_of}
 use Rattle.deb_index.proofs.Offered.{on_ok}

@@ -1,4 +1,4 @@
-use Rattle.std.proofs.Common.{ℕ, List, [], sym, ◌∙◌, subst}
+use Rattle.std.proofs.Common.{ℕ, List, ◌∙◌, subst}
 use Rattle.std.specs.List.{flat_map}
 use Rattle.deb_relation.specs.Environments.{environment_of}
 use Rattle.deb_relation.specs.Views.{names_of}

@@ -1,4 +1,4 @@
-use Rattle.std.proofs.Common.{◌≡◌, ◌+◌, ◌++◌, ◌∷◌, [], refl, sym, ap, ◌∙◌, subst}
+use Rattle.std.proofs.Common.{◌+◌, ◌++◌, ◌∷◌, [], refl, sym, ap, ◌∙◌, subst}
 use Rattle.deb_install.specs.Universes.{AreUniverseRows, setting_of}
 use Rattle.deb_install.proofs.Universes.{all-held, first_rows, grown-rows}
 use Rattle.deb_install.proofs.universe.universe_of.Goals as goal

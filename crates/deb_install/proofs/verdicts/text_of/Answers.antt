@@ -1,4 +1,4 @@
-use Rattle.std.proofs.Common.{◌∙◌, ap, ap₂, sym, subst}
+use Rattle.std.proofs.Common.{◌∙◌, ap}
 use Rattle.deb_relation.specs.Environments.{environment_of}
 use Rattle.deb_index.specs.Indexes.{packages_of}
 use Rattle.deb_install.specs.Answers.{answer_at, answer_lines}
