@@ -15,8 +15,11 @@ use Rattle.deb_syntax.specs.Fields.{Field}
 use Rattle.deb_install.specs.Building.{AreNumbersOf}
 use Rattle.deb_install.specs.Keeping.{HoldsValues}
 use Rattle.deb_install.specs.Rows.{AreRowsOf}
-use Rattle.deb_install.specs.Universes.{AppendsPackage, AreUniverseRows, Setting, excluded_in, needed_in}
+use Rattle.deb_install.specs.Universes.{setting, AppendsPackage, AreUniverseRows, Setting, excluded_in, needed_in}
 use Rattle.deb_install.specs.declared.universe.Building.{Building}
+use Rattle.deb_install.specs.declared.universe.Listing.{Listing}
+use Rattle.deb_index.specs.Indexes.{packages_of}
+use Rattle.deb_relation.specs.Environments.{environment_of}
 use Rattle.deb_install.proofs.Appended.{numbers-grown}
 use Rattle.deb_install.proofs.ListedRows.{excludes_in, rows_in}
 
@@ -55,6 +58,9 @@ last-at rows new row k n is long same =
 
 long-more : (rows new : List (List ℕ)) (row : List ℕ) (n : ℕ) → new ≡ rows ++ row ∷ [] → length rows ≡ n + 1 → length new ≡ (n + 1) + 1
 long-more rows new row n is long = ap length is ∙ length_push rows row ∙ ap (λ m. m + 1) long
+
+abbrev pub setting_of : Listing → Setting
+setting_of listing = setting listing.readings listing.strength (environment_of listing.environment.now) (packages_of listing.index.now)
 
 module _ (s : Setting) where
   pub first_rows : (needs groups excludes : List (List ℕ)) → needs ≡ [] ∷ [] → excludes ≡ [] ∷ [] → AreUniverseRows s [] needs groups excludes

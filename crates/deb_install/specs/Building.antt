@@ -28,5 +28,8 @@ pub record AppendsRows (old new : List (List ℕ)) (before after : List ℕ)
   pub are : AreNumbersOf new numbers rows
 
 -- The second and the first of two rows; too few and too many numbers.
-worked-numbers : AreNumbersOf ((7 ∷ []) ∷ (8 ∷ 9 ∷ []) ∷ []) (1 ∷ 0 ∷ []) ((8 ∷ 9 ∷ []) ∷ (7 ∷ []) ∷ [])
-worked-numbers = (refl, (refl, tt))
+worked-numbers : AreNumbersOf ((7 ∷ []) ∷ (8 ∷ 9 ∷ []) ∷ []) (1 ∷ 0 ∷ [])
+    ((8 ∷ 9 ∷ []) ∷ (7 ∷ []) ∷ [])
+    × (AreNumbersOf ((7 ∷ []) ∷ []) [] ((7 ∷ []) ∷ []) → ⊥)
+    × (AreNumbersOf ((7 ∷ []) ∷ []) (0 ∷ []) [] → ⊥)
+worked-numbers = ((refl, (refl, tt)), λ none. none, λ none. none)

@@ -1,6 +1,6 @@
--- What is written of a file: which of its packages can't be installed. Debian Policy 7.2 to 7.5; the
--- form of the lines is this project's own.
-use Rattle.std.specs.Prelude.{◌≡◌, ℕ, List, length, Option}
+-- What is written of a file: which of its packages can't be installed. Debian Policy 7.2 to 7.5;
+-- the form of the lines is this project's own.
+use Rattle.std.specs.Prelude.{◌≡◌, ℕ, List, length, Option, refl}
 use Rattle.std.specs.Io.KnownBytes.{Appends}
 use Rattle.std.specs.List.{filter}
 use Rattle.deb_base.specs.Devices.{AppendsFront}
@@ -10,11 +10,14 @@ use Rattle.deb_control.specs.Documents.{Meaning, Accepted}
 use Rattle.deb_index.specs.Listed.{Listed}
 use Rattle.deb_index.specs.Members.{ListsMembers, doc_of, has_values}
 use Rattle.deb_index.specs.declared.members.Members.{Members}
+use Rattle.deb_index.specs.declared.members.Members.TheVariants.{Installed}
 use Rattle.deb_relation.specs.Applying.{Environment}
 use Rattle.deb_unmet.specs.Files.{is_nothing}
 use Rattle.deb_unmet.specs.declared.asked.Strength.{Strength}
+use Rattle.deb_unmet.specs.declared.asked.Strength.TheVariants.{Recommends}
 use Rattle.deb_unmet.specs.declared.asking.Summary.{Summary}
 use Rattle.deb_install.specs.Answers.{AreAnswers, answer_lines}
+use Rattle.deb_install.specs.Passing.{for_amd64}
 use Rattle.deb_install.specs.declared.answer.Answer.{Answer}
 
 -- what is asked of a file: which of its paragraphs are packages, which fields count, and for which
@@ -38,8 +41,8 @@ pub record FileAnswers (asks : AsksInstallable) (text : List ℕ) : Type 0 where
   pub are_true : AreAnswers asks.strength asks.environment packages
       (filter (has_values asks.members) meaning) answer
 
--- Exactly the lines of these answers were written. The summary says how many packages there are, and
--- whether there is no line.
+-- Exactly the lines of these answers were written. The summary says how many packages there are,
+-- and whether there is no line.
 pub record WritesAnswers (asks : AsksInstallable) (text : List ℕ) (summary : Summary)
     (old new : Option (List ℕ)) : Type 0 where
   pub file : FileAnswers asks text
@@ -60,3 +63,7 @@ StopsAnswers (faults.Refused refusal) asks text old new = old ≡ new
 StopsAnswers faults.Memory asks text old new = old ≡ new
 StopsAnswers faults.Read asks text old new = old ≡ new
 StopsAnswers faults.Write asks text old new = BeginsAnswers asks text old new
+
+worked-asks : asks_installable Installed Recommends for_amd64
+    ≡ record { members = Installed; strength = Recommends; environment = for_amd64 }
+worked-asks = refl

@@ -94,7 +94,10 @@ fn append_only(
     let Some(alternative) = only_alternative(relation) else {
         return Ok(());
     };
-    if !excluding.readings.counts(applies_by(alternative, excluding.environment)) {
+    if !excluding
+        .readings
+        .counts(applies_by(alternative, excluding.environment))
+    {
         return Ok(());
     }
     let numbers = excluding.index.meeting_by_name(alloc, alternative)?;

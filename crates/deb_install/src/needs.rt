@@ -116,11 +116,7 @@ fn surely_applies(needing: &Needing<'_>, relation: &Relation<'_>) -> bool
 }
 
 /// Returns the candidates of the alternatives that count, of a group of which one surely applies.
-fn candidates_of(
-    alloc: Global,
-    needing: &Needing<'_>,
-    group: &[u8],
-) -> Result<Vec<u32>, AllocError>
+fn candidates_of(alloc: Global, needing: &Needing<'_>, group: &[u8]) -> Result<Vec<u32>, AllocError>
     ensures { OfGroup group.now (λ g. IfOk result (λ row. row.items
         ≡ flat_map (candidates_if needing.now.readings
         (environment_of needing.now.environment.now) (packages_of needing.now.index.now)) g)) }
@@ -149,7 +145,10 @@ fn append_if(
     let Some(alternative) = only_alternative(relation) else {
         return Ok(());
     };
-    if needing.readings.meets(applies_by(alternative, needing.environment)) {
+    if needing
+        .readings
+        .meets(applies_by(alternative, needing.environment))
+    {
         append_candidates(alloc, row, needing, alternative)?;
     }
     Ok(())

@@ -21,7 +21,7 @@ ghost use Rattle.deb_unmet.specs.declared.asked.Strength.TheVariants as strength
 ghost use Rattle.deb_install.specs.Building.{AppendsRows};
 ghost use Rattle.deb_install.specs.Keeping.{HoldsValues};
 ghost use Rattle.deb_install.specs.Rows.{excluded_by_fields, group_rows, later_duplicates, rows_of_fields};
-ghost use Rattle.deb_install.specs.Universes.{AppendsNeeds, AppendsPackage, IsUniverseOf, setting_of};
+ghost use Rattle.deb_install.specs.Universes.{AppendsNeeds, AppendsPackage, IsUniverseOf, setting};
 
 use crate::exclusions::{Excluding, Original, append_duplicates, append_exclusions};
 use crate::groups::Groups;
@@ -59,8 +59,9 @@ pub(crate) fn universe_of(
     listing: &Listing<'_>,
     kept: &[Kept],
 ) -> Result<Universe, AllocError>
-    ensures { (meaning : Meaning) → Pairwise HoldsValues meaning kept.now
-        → IfOk result (IsUniverseOf (setting_of listing.now) meaning) }
+    ensures { (meaning : Meaning) → Pairwise HoldsValues meaning kept.now → IfOk result
+        (IsUniverseOf (setting listing.now.readings listing.now.strength
+        (environment_of listing.now.environment.now) (packages_of listing.now.index.now)) meaning) }
 {
     let mut building = Building {
         needs: Rows::new(alloc),
@@ -94,8 +95,9 @@ fn append_package(
     kept: &Kept,
 ) -> Result<(), AllocError>
     ensures { (fields : List Field) (values : ValueEntries ValueMeaning)
-        → HoldsMember fields values kept.now → OnOk result (AppendsPackage
-        (setting_of listing.now) number values building.old building.new) }
+        → HoldsMember fields values kept.now → OnOk result (AppendsPackage (setting
+        listing.now.readings listing.now.strength (environment_of listing.now.environment.now)
+        (packages_of listing.now.index.now)) number values building.old building.new) }
 {
     let texts = kept.unmet.line_texts(VersionText::Canonical);
     let asked = Asked::Packages(listing.strength);

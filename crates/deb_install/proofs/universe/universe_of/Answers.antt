@@ -1,6 +1,6 @@
 use Rattle.std.proofs.Common.{◌+◌, ◌++◌, ◌∷◌, [], refl, sym, ap, ◌∙◌, subst}
-use Rattle.deb_install.specs.Universes.{AreUniverseRows, setting_of}
-use Rattle.deb_install.proofs.Universes.{all-held, first_rows, grown-rows}
+use Rattle.deb_install.specs.Universes.{AreUniverseRows}
+use Rattle.deb_install.proofs.Universes.{all-held, first_rows, grown-rows, setting_of}
 use Rattle.deb_install.proofs.universe.universe_of.Goals as goal
 
 pub loop-count-init : goal.loop-count-init

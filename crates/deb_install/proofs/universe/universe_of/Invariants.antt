@@ -3,7 +3,8 @@ use Rattle.std.proofs.Common.{take}
 use Rattle.deb_control.specs.Documents.{Meaning}
 use Rattle.deb_control.specs.Pairs.{Pairwise}
 use Rattle.deb_install.specs.Keeping.{HoldsValues}
-use Rattle.deb_install.specs.Universes.{AreUniverseRows, setting_of}
+use Rattle.deb_install.specs.Universes.{AreUniverseRows}
+use Rattle.deb_install.proofs.Universes.{setting_of}
 use Rattle.deb_install.proofs.universe.universe_of.Given as goal
 
 abbrev pub invariant-loop-count : goal.invariant-loop-count

@@ -1,4 +1,4 @@
-use Rattle.deb_install.specs.Universes.{setting_of}
+use Rattle.deb_install.proofs.Universes.{setting_of}
 use Rattle.deb_install.proofs.FileAnswers.{if-value}
 use Rattle.deb_install.proofs.TrueVerdicts.{verdicts-in}
 use Rattle.deb_install.proofs.verdicts.verdicts_of.Goals as goal
