@@ -39,7 +39,7 @@ impl Growth {
         search: &Search<'_>,
         package: u32,
     ) -> Result<(), AllocError> {
-        if self.is_member(package) || self.is_blocked(known, package) {
+        if self.is_member(package) || self.is_blocked(known, search, package) {
             return Ok(());
         }
         let start = self.members.len();
@@ -66,7 +66,7 @@ impl Growth {
                 self.meet_single(known, search, member)?
             } else if let Some(group) = self.choices.get(next).copied() {
                 next = next.saturating_add(1);
-                self.meet(known, group)?
+                self.meet(known, search, group)?
             } else {
                 return Ok(true);
             };
@@ -90,7 +90,7 @@ impl Growth {
                 if !self.some_member(candidates) {
                     self.choices.push(*group)?;
                 }
-            } else if !self.meet(known, *group)? {
+            } else if !self.meet(known, search, *group)? {
                 return Ok(false);
             }
         }
@@ -98,13 +98,18 @@ impl Growth {
     }
 
     /// Adds the first package that can meet a group, if no member does; returns whether one does.
-    fn meet(&mut self, known: &Refuter<'_>, group: u32) -> Result<bool, AllocError> {
+    fn meet(
+        &mut self,
+        known: &Refuter<'_>,
+        search: &Search<'_>,
+        group: u32,
+    ) -> Result<bool, AllocError> {
         let candidates = row_of(&known.universe.groups, group);
         if self.some_member(candidates) {
             return Ok(true);
         }
         for candidate in candidates {
-            if !self.is_blocked(known, *candidate) {
+            if !self.is_blocked(known, search, *candidate) {
                 self.join(*candidate)?;
                 return Ok(true);
             }
@@ -123,10 +128,11 @@ impl Growth {
         packages.iter().any(|package| self.is_member(*package))
     }
 
-    fn is_blocked(&self, known: &Refuter<'_>, package: u32) -> bool {
+    fn is_blocked(&self, known: &Refuter<'_>, search: &Search<'_>, package: u32) -> bool {
         (package as usize) >= self.is_member.len()
             || known.is_out(package)
             || self.some_member(row_of(&known.universe.excludes, package))
+            || self.some_member(search.tables.excluders.rows_with(package))
     }
 
     fn set_member(&mut self, package: u32, is_member: bool) {

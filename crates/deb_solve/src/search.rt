@@ -64,7 +64,7 @@ struct Watch {
 /// The state of a search.
 #[derive(Drop)]
 pub(crate) struct Search<'t> {
-    tables: &'t Tables,
+    pub(crate) tables: &'t Tables,
     value: Vec<Value>,
     level: Vec<u32>,
     /// The index of each package in the trail.

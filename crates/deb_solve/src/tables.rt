@@ -89,6 +89,8 @@ pub(crate) struct Tables {
     pub(crate) met_by: Inverse,
     /// Of each group the packages that need it.
     pub(crate) needers: Inverse,
+    /// Of each package those that exclude it.
+    pub(crate) excluders: Inverse,
 }
 
 impl Tables {
@@ -96,6 +98,7 @@ impl Tables {
         Ok(Tables {
             met_by: Inverse::of(alloc, &universe.groups, universe.needs.len())?,
             needers: Inverse::of(alloc, &universe.needs, universe.groups.len())?,
+            excluders: Inverse::of(alloc, &universe.excludes, universe.needs.len())?,
         })
     }
 }

@@ -9,7 +9,6 @@ pub struct Universe {
     pub needs: Rows,
     /// For each group the packages that meet it.
     pub groups: Rows,
-    /// For each package those that can't be installed together with it. The search is faster if
-    /// each exclusion is in the rows of both packages.
+    /// For each package those that can't be installed together with it.
     pub excludes: Rows,
 }

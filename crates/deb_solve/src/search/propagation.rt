@@ -41,6 +41,10 @@ impl Search<'_> {
         if conflict.is_some() {
             return Ok(conflict);
         }
+        let conflict = self.exclude_excluders(known, package, level)?;
+        if conflict.is_some() {
+            return Ok(conflict);
+        }
         let conflict = self.visit_watches(known, package, level)?;
         if conflict.is_some() {
             return Ok(conflict);
@@ -62,6 +66,26 @@ impl Search<'_> {
                 Value::In => return Ok(Some(Conflict::Both { by, at })),
                 Value::Out => {}
                 Value::Open => self.put_out(*other, Reason::Excluded { by, at }, level)?,
+            }
+        }
+        Ok(None)
+    }
+
+    /// Puts what excludes a package out of the set.
+    fn exclude_excluders(
+        &mut self,
+        known: &Refuter<'_>,
+        package: u32,
+        level: u32,
+    ) -> Result<Option<Conflict>, AllocError> {
+        let tables = self.tables;
+        for by in tables.excluders.rows_with(package) {
+            let by = *by;
+            let at = place_in(row_of(&known.universe.excludes, by), package);
+            match self.value_of(by) {
+                Value::In => return Ok(Some(Conflict::Both { by, at })),
+                Value::Out => {}
+                Value::Open => self.put_out(by, Reason::Excluded { by, at }, level)?,
             }
         }
         Ok(None)
@@ -148,5 +172,13 @@ impl Search<'_> {
                 Ok(None)
             }
         }
+    }
+}
+
+/// Returns where a number is in a row, if it is there.
+fn place_in(row: &[u32], number: u32) -> u32 {
+    match row.iter().position(|other| *other == number) {
+        Some(at) => narrow(at),
+        None => u32::MAX,
     }
 }
