@@ -169,11 +169,7 @@ impl<'t> Search<'t> {
                 level = 1;
                 self.begin(package)?;
             }
-            let next = match self.propagate(known, level)? {
-                None => self.choose(known, level)?,
-                Some(conflict) => self.analyse(alloc, known, conflict)?,
-            };
-            match next {
+            match self.step(alloc, known, level)? {
                 Next::Level(next) => level = next,
                 Next::End(outcome) => return Ok(outcome),
             }
@@ -185,6 +181,21 @@ impl<'t> Search<'t> {
         self.met_before.clear();
         self.met_before.push(0)?;
         self.put_in(package, Cause::Chosen, 1)
+    }
+
+    /// Finds what follows from the set, and then chooses a package or learns from a conflict.
+    fn step(
+        &mut self,
+        alloc: Global,
+        known: &mut Refuter<'_>,
+        level: u32,
+    ) -> Result<Next, AllocError>
+        ensures { known.new.universe.now ≡ known.old.universe.now }
+    {
+        match self.propagate(known, level)? {
+            None => self.choose(known, level),
+            Some(conflict) => self.analyse(alloc, known, conflict),
+        }
     }
 
     /// Puts a package that meets the first unmet group into the set.

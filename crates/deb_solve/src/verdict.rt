@@ -1,7 +1,7 @@
 //! Which packages of a universe can be installed.
 
 ghost use Rattle.std.specs.Prelude.{◌≡◌, IfOk, length};
-ghost use Rattle.deb_solve.specs.Health.{IsHealthy, is_among};
+ghost use Rattle.deb_solve.specs.Health.{IsHealthy, IsInstallable, is_among};
 ghost use Rattle.deb_solve.specs.Verdicts.{AreTrue, AreVerdicts};
 
 use crate::budget::Budget;
@@ -93,11 +93,11 @@ fn decide(
     }
     let members = searches.search.members(alloc)?;
     accept(alloc, universe, &members, verdicts)?;
-    if searches.poor < MOST_POOR {
-        grow(searches, known, verdicts, &members)?;
-        accept(alloc, universe, &searches.growth.members, verdicts)?;
+    if searches.poor >= MOST_POOR {
+        return Ok(());
     }
-    Ok(())
+    grow(searches, known, verdicts, &members)?;
+    accept(alloc, universe, &searches.growth.members, verdicts)
 }
 
 fn is_undecided(verdicts: &[Verdict], number: u32) -> bool {
@@ -141,9 +141,11 @@ fn accept(
     ensures are_true { AreTrue universe.now verdicts.new.items }
     ensures each { length verdicts.new.items ≡ length verdicts.old.items }
 {
-    if is_healthy(alloc, universe, members)? {
-        accept_all(universe, members, verdicts);
+    let healthy = is_healthy(alloc, universe, members)?;
+    if !healthy {
+        return Ok(());
     }
+    accept_all(universe, members, verdicts);
     Ok(())
 }
 
@@ -154,9 +156,19 @@ fn accept_all(universe: &Universe, members: &[u32], verdicts: &mut Vec<Verdict>)
     ensures each { length verdicts.new.items ≡ length verdicts.old.items }
 {
     for member in members {
-        if (*member as usize) < verdicts.len() {
-            verdicts[*member as usize] = Verdict::Installable;
-        }
+        allow(universe, *member, verdicts);
+    }
+}
+
+/// Notes that a package is installable.
+fn allow(universe: &Universe, number: u32, verdicts: &mut Vec<Verdict>)
+    requires installable { IsInstallable universe.now number }
+    requires are_true { AreTrue universe.now verdicts.old.items }
+    ensures are_true { AreTrue universe.now verdicts.new.items }
+    ensures each { length verdicts.new.items ≡ length verdicts.old.items }
+{
+    if (number as usize) < verdicts.len() {
+        verdicts[number as usize] = Verdict::Installable;
     }
 }
 
@@ -167,8 +179,17 @@ fn refuse_all(known: &Refuter<'_>, verdicts: &mut Vec<Verdict>)
     ensures each { length verdicts.new.items ≡ length verdicts.old.items }
 {
     for number in 0..narrow(verdicts.len()) {
-        if (number as usize) < verdicts.len() && known.is_out(number) {
-            verdicts[number as usize] = Verdict::Uninstallable;
-        }
+        refuse(known, number, verdicts);
+    }
+}
+
+/// Notes that a package isn't installable, if it is out.
+fn refuse(known: &Refuter<'_>, number: u32, verdicts: &mut Vec<Verdict>)
+    requires { AreTrue known.now.universe.now verdicts.old.items }
+    ensures are_true { AreTrue known.now.universe.now verdicts.new.items }
+    ensures each { length verdicts.new.items ≡ length verdicts.old.items }
+{
+    if (number as usize) < verdicts.len() && known.is_out(number) {
+        verdicts[number as usize] = Verdict::Uninstallable;
     }
 }

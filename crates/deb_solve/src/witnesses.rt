@@ -32,9 +32,12 @@ pub fn witness(
         return Ok(None);
     }
     let members = search.members(alloc)?;
-    if members.contains(&wanted) && is_healthy(alloc, universe, &members)? {
-        Ok(Some(members))
-    } else {
-        Ok(None)
+    if !members.contains(&wanted) {
+        return Ok(None);
     }
+    let healthy = is_healthy(alloc, universe, &members)?;
+    if !healthy {
+        return Ok(None);
+    }
+    Ok(Some(members))
 }
