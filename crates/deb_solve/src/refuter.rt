@@ -106,7 +106,7 @@ impl<'u> Refuter<'u> {
         }
     }
 
-    /// Returns the list that a reason stands for.
+    /// Returns the list that a reason names.
     pub(crate) fn list_of(
         &self,
         alloc: Global,
@@ -162,7 +162,7 @@ impl<'u> Refuter<'u> {
     }
 
     /// Adds to a list the others of what rules a candidate out: the given list if it's the pivot's,
-    /// else what its reason stands for. Returns whether that does.
+    /// else the one that its reason names. Returns whether that does.
     fn rule_out_by(
         &self,
         list: &mut Vec<u32>,
@@ -185,7 +185,7 @@ impl<'u> Refuter<'u> {
         self.rule_out(list, candidate, *reason)
     }
 
-    /// Adds to a list the others of what a reason stands for; returns whether it rules the
+    /// Adds to a list the others of the one that a reason names; returns whether it rules the
     /// candidate out.
     fn rule_out(
         &self,

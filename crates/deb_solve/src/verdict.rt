@@ -16,7 +16,7 @@ use std::alloc::{AllocError, Global};
 /// A growth that adds fewer packages than this is a poor one.
 const FEW: usize = 500;
 
-/// After so many poor growths in a row no set grows.
+/// After this number of poor growths in a row no set grows.
 const MOST_POOR: u32 = 8;
 
 /// Whether a package can be installed.

@@ -10,8 +10,8 @@ use crate::tables::Tables;
 use crate::universe::Universe;
 use std::alloc::{AllocError, Global};
 
-/// Looks for a healthy set that contains a package, in so many steps; returns its packages, or none
-/// if the search finds none.
+/// Looks for a healthy set that contains a package, in at most this number of steps. Returns the
+/// packages of the set, or none if the search finds none.
 ///
 /// # Errors
 /// - Out of memory.

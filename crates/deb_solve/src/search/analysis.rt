@@ -1,4 +1,4 @@
-//! What a conflict tells of other sets.
+//! What follows from a conflict for other sets.
 
 ghost use Rattle.std.specs.Prelude.{◌≡◌, IfOk, IfSome};
 ghost use Rattle.deb_solve.specs.Refuting.{IsNogood};
@@ -58,7 +58,7 @@ impl Search<'_> {
         Ok(Some(list))
     }
 
-    /// Returns the list that a conflict stands for.
+    /// Returns the list of packages that conflict.
     fn list_of(
         &self,
         alloc: Global,
