@@ -69,11 +69,11 @@ AreTrue-no u verdicts m are out = record {
 }
 
 -- each package of a healthy list is installable
-pub in_healthy : (u : Universe) (members : List ℕ) (i m : ℕ) → i < length members → m ≡ get_or members i m → IsHealthy u (is_among members) → IsInstallable u m
-in_healthy u members i m within at healthy = record {
+pub in_healthy : (u : Universe) (members : List ℕ) (i : ℕ) → i < length members → IsHealthy u (is_among members) → IsInstallable u (get_or members i 0)
+in_healthy u members i within healthy = record {
   set = is_among members;
   is_healthy = healthy;
-  contains = list_any_at (λ member. eqb member m) members i m within (eq-eqb (get_or members i m) m (sym at));
+  contains = list_any_at (λ member. eqb member (get_or members i 0)) members i 0 within (eq-eqb (get_or members i 0) (get_or members i 0) refl);
 }
 
 pub AreTrue-same : (u v : Universe) (verdicts : List Verdict) → u ≡ v → AreTrue u verdicts → AreTrue v verdicts
