@@ -102,14 +102,14 @@ module _ (packages : List Listed) (p : Listed) where
 
     -- the test of an alternative
     abbrev spares : ValueEntries ValueMeaning → List Listed → Alternative → Bool
-    spares values ps a = not (may (applies_by (own values) a) && list_any (excludes environment.target (word_under (codes "Package") values) a) ps)
+    spares values ps a = not (may (applies_by (own values) a) && list_any (excludes environment.native (word_under (codes "Package") values) a) ps)
 
     peaceful-both : (values : ValueEntries ValueMeaning) → is_peaceful strength environment (p ∷ packages) values ≡ (is_peaceful strength environment (p ∷ []) values && is_peaceful strength environment packages values)
     peaceful-both values =
         let group_of : List Listed → List Alternative → Bool = λ ps group. list_all (spares values ps) group in
         let all : List Listed → List ℕ → Bool = λ ps field. list_all (group_of ps) (groups_of (value_under field values)) in
         let each : (a : Alternative) → spares values (p ∷ packages) a ≡ (spares values (p ∷ []) a && spares values packages a) =
-        λ a. not-either (may (applies_by (own values) a)) (excludes environment.target (word_under (codes "Package") values) a p) (list_any (excludes environment.target (word_under (codes "Package") values) a) packages) in
+        λ a. not-either (may (applies_by (own values) a)) (excludes environment.native (word_under (codes "Package") values) a p) (list_any (excludes environment.native (word_under (codes "Package") values) a) packages) in
         all-both (all (p ∷ [])) (all packages) (all (p ∷ packages))
         (λ field. all-both (group_of (p ∷ [])) (group_of packages) (group_of (p ∷ packages)) (λ group. all-both (spares values (p ∷ [])) (spares values packages) (spares values (p ∷ packages)) each group) (groups_of (value_under field values)))
         negative_fields
@@ -119,8 +119,8 @@ module _ (packages : List Listed) (p : Listed) where
     peaceful-own values named =
         let same : bytes_eq p.name (word_under (codes "Package") values) ≡ true = (bytes_eq-Decides p.name (word_under (codes "Package") values)).1 (sym named) in
         let each : (a : Alternative) → spares values (p ∷ []) a ≡ true =
-        λ a. ap (λ v. not (may (applies_by (own values) a) && ((meets_by_name a p && (not v && is_spoken_of environment.target a.qualifier p)) || false))) same
-        ∙ not-own (may (applies_by (own values) a)) (meets_by_name a p) (is_spoken_of environment.target a.qualifier p) in
+        λ a. ap (λ v. not (may (applies_by (own values) a) && ((meets_by_name a p && (not v && is_spoken_of environment.native a.qualifier p)) || false))) same
+        ∙ not-own (may (applies_by (own values) a)) (meets_by_name a p) (is_spoken_of environment.native a.qualifier p) in
         all-true (λ field. list_all (λ group. list_all (spares values (p ∷ [])) group) (groups_of (value_under field values)))
         (λ field. all-true (λ group. list_all (spares values (p ∷ [])) group) (λ group. all-true (spares values (p ∷ [])) each group) (groups_of (value_under field values)))
         negative_fields
@@ -131,14 +131,14 @@ module _ (packages : List Listed) (p : Listed) where
         let good : List Listed → ValueEntries ValueMeaning → Bool = λ ps values. is_abundant strength environment ps values && is_peaceful strength environment ps values in
         let alone = is_peaceful strength environment (p ∷ []) in
         let needs = is_abundant strength environment (p ∷ packages) values in
-        let others = not (list_any (rules_out environment.target p) packages) in
-        let was = both-true (list_all (good packages) meaning) (are_apart environment.target packages) is in
+        let others = not (list_any (rules_out environment.native p) packages) in
+        let was = both-true (list_all (good packages) meaning) (are_apart environment.native packages) is in
         let each : (values : ValueEntries ValueMeaning) → good packages values ≡ true → good (p ∷ packages) values ≡ alone values =
         λ values e.
         let parts = both-true (is_abundant strength environment packages values) (is_peaceful strength environment packages values) e in
         ap (λ v. v && is_peaceful strength environment (p ∷ packages) values) (abundant-more values parts.0) ∙ peaceful-both values ∙ ap (λ v. alone values && v) parts.1 ∙ and-true (alone values) in
-        ap (λ v. ((needs && v) && list_all (good (p ∷ packages)) meaning) && (others && are_apart environment.target packages)) (peaceful-both values ∙ ap (λ v. v && is_peaceful strength environment packages values) (peaceful-own values named))
-        ∙ ap (λ v. ((needs && is_peaceful strength environment packages values) && v) && (others && are_apart environment.target packages)) (all-where (good packages) (good (p ∷ packages)) alone each meaning was.0)
+        ap (λ v. ((needs && v) && list_all (good (p ∷ packages)) meaning) && (others && are_apart environment.native packages)) (peaceful-both values ∙ ap (λ v. v && is_peaceful strength environment packages values) (peaceful-own values named))
+        ∙ ap (λ v. ((needs && is_peaceful strength environment packages values) && v) && (others && are_apart environment.native packages)) (all-where (good packages) (good (p ∷ packages)) alone each meaning was.0)
         ∙ ap (λ v. ((needs && is_peaceful strength environment packages values) && list_all alone meaning) && (others && v)) was.1
         ∙ all-four (needs && is_peaceful strength environment packages values) (list_all alone meaning) others
 

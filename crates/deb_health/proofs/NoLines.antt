@@ -162,19 +162,19 @@ module _ (members : Members) (strength : Strength) (environment : Environment) (
       nothing-flat (λ field. flat_map (needed_lines e packages h field) (groups_of (value_under field values))) (λ field. list_all (λ group. is_none (trouble e packages group)) (groups_of (value_under field values)))
       (λ field. nothing-flat (needed_lines e packages h field) (λ group. is_none (trouble e packages group)) (λ group. nothing-group e packages h field group) (groups_of (value_under field values))) (fields_with strength)
 
-  nothing-excludes : (h : List ℕ) (values : ValueEntries ValueMeaning) → is_nothing (exclusion_lines (environment_for (Packages strength) environment values) environment.target packages h values) ≡ is_peaceful strength environment packages values
+  nothing-excludes : (h : List ℕ) (values : ValueEntries ValueMeaning) → is_nothing (exclusion_lines (environment_for (Packages strength) environment values) environment.native packages h values) ≡ is_peaceful strength environment packages values
   nothing-excludes h values =
       let e = environment_for (Packages strength) environment values in
       let n = word_under (codes "Package") values in
-      let good : Alternative → Bool = λ a. not (may (applies_by e a) && list_any (excludes environment.target n a) packages) in
-      nothing-flat (λ field. flat_map (group_lines e environment.target packages n h field) (groups_of (value_under field values))) (λ field. list_all (λ group. list_all good group) (groups_of (value_under field values)))
-      (λ field. nothing-flat (group_lines e environment.target packages n h field) (λ group. list_all good group)
-      (λ group. nothing-flat (alternative_lines e environment.target packages n h field (group_text group)) good (λ a. nothing-alternative (applies_by e a) (excludes environment.target n a) packages h field (group_text group)) group)
+      let good : Alternative → Bool = λ a. not (may (applies_by e a) && list_any (excludes environment.native n a) packages) in
+      nothing-flat (λ field. flat_map (group_lines e environment.native packages n h field) (groups_of (value_under field values))) (λ field. list_all (λ group. list_all good group) (groups_of (value_under field values)))
+      (λ field. nothing-flat (group_lines e environment.native packages n h field) (λ group. list_all good group)
+      (λ group. nothing-flat (alternative_lines e environment.native packages n h field (group_text group)) good (λ a. nothing-alternative (applies_by e a) (excludes environment.native n a) packages h field (group_text group)) group)
       (groups_of (value_under field values))) negative_fields
 
-  nothing-repeats : (h : List ℕ) (front more : List Listed) (p : Listed) (n : ℕ) → n ≡ length front → packages ≡ front ++ p ∷ more → is_nothing (duplicate_lines environment.target packages h (n + 1)) ≡ not (list_any (rules_out environment.target p) more)
+  nothing-repeats : (h : List ℕ) (front more : List Listed) (p : Listed) (n : ℕ) → n ≡ length front → packages ≡ front ++ p ∷ more → is_nothing (duplicate_lines environment.native packages h (n + 1)) ≡ not (list_any (rules_out environment.native p) more)
   nothing-repeats h front more p n is all =
-      let target = environment.target in
+      let target = environment.native in
       let long = length_push front p in
       ap (λ l. is_nothing (duplicate_lines target l h (n + 1))) all
       ∙ ap (λ o. is_nothing (option_map_or (λ q. flat_map (line_at (duplicate_line h) (front ++ p ∷ more)) (filter (λ k. ltb (n + 1) k) (numbers_of (rules_out target q) (front ++ p ∷ more)))) o [])) (at-front front p more (n + 1) (omega (arith, is)))
@@ -186,28 +186,28 @@ module _ (members : Members) (strength : Strength) (environment : Environment) (
   good values = is_abundant strength environment packages values && is_peaceful strength environment packages values
 
   -- no line of a member, and none after them
-  nothing-member : (front more : List Listed) (p : Listed) (n : ℕ) (values : ValueEntries ValueMeaning) (lines : List ℕ) (settled rest : Bool) → n ≡ length front → packages ≡ front ++ p ∷ more → is_nothing lines ≡ (settled && (rest && are_apart environment.target more)) → (fields : List Field) → is_nothing (lines_of asks (n + 1) fields values ++ lines) ≡ (settled && ((good values && rest) && are_apart environment.target (p ∷ more)))
+  nothing-member : (front more : List Listed) (p : Listed) (n : ℕ) (values : ValueEntries ValueMeaning) (lines : List ℕ) (settled rest : Bool) → n ≡ length front → packages ≡ front ++ p ∷ more → is_nothing lines ≡ (settled && (rest && are_apart environment.native more)) → (fields : List Field) → is_nothing (lines_of asks (n + 1) fields values ++ lines) ≡ (settled && ((good values && rest) && are_apart environment.native (p ∷ more)))
   nothing-member front more p n values lines settled rest is all later fields =
       let v = word_under (codes "Version") values in
       let h = heading (Packages strength) (n + 1) v values in
       let needs = paragraph_lines (Packages strength) environment packages (n + 1) v values in
-      let others = exclusion_lines (environment_for (Packages strength) environment values) environment.target packages h values in
-      let repeats = duplicate_lines environment.target packages h (n + 1) in
+      let others = exclusion_lines (environment_for (Packages strength) environment values) environment.native packages h values in
+      let repeats = duplicate_lines environment.native packages h (n + 1) in
       let abundant = is_abundant strength environment packages values in
       let peaceful = is_peaceful strength environment packages values in
-      let alone = not (list_any (rules_out environment.target p) more) in
+      let alone = not (list_any (rules_out environment.native p) more) in
       nothing-both (needs ++ (others ++ repeats)) lines
       ∙ ap (λ b. b && is_nothing lines) (nothing-both needs (others ++ repeats) ∙ ap (λ b. is_nothing needs && b) (nothing-both others repeats))
       ∙ ap (λ b. (b && (is_nothing others && is_nothing repeats)) && is_nothing lines) (nothing-needs (n + 1) v values)
       ∙ ap (λ b. (abundant && (b && is_nothing repeats)) && is_nothing lines) (nothing-excludes h values)
       ∙ ap (λ b. (abundant && (peaceful && b)) && is_nothing lines) (nothing-repeats h front more p n is all)
       ∙ ap (λ b. (abundant && (peaceful && alone)) && b) later
-      ∙ among (abundant && (peaceful && alone)) settled (rest && are_apart environment.target more)
-      ∙ ap (λ b. settled && b) (regroup abundant peaceful alone rest (are_apart environment.target more))
+      ∙ among (abundant && (peaceful && alone)) settled (rest && are_apart environment.native more)
+      ∙ ap (λ b. settled && b) (regroup abundant peaceful alone rest (are_apart environment.native more))
 
   -- there is no line of the paragraphs that are left
   abbrev IsNoneLeft : Meaning → Type 0
-  IsNoneLeft meaning = (front rest : List Listed) (n k : ℕ) → k ≡ length front → packages ≡ front ++ rest → Pairwise Lists (filter (has_values members) meaning) rest → is_nothing (parts_from own packages text n k meaning) ≡ (list_all (is_known members) meaning && (list_all good (filter (has_values members) meaning) && are_apart environment.target rest))
+  IsNoneLeft meaning = (front rest : List Listed) (n k : ℕ) → k ≡ length front → packages ≡ front ++ rest → Pairwise Lists (filter (has_values members) meaning) rest → is_nothing (parts_from own packages text n k meaning) ≡ (list_all (is_known members) meaning && (list_all good (filter (has_values members) meaning) && are_apart environment.native rest))
 
   nothing-rest : (meaning : Meaning) → IsNoneLeft meaning
   nothing-rest [] front [] n k is all lists = refl
@@ -216,7 +216,7 @@ module _ (members : Members) (strength : Strength) (environment : Environment) (
     where
       go : (t : Bool) (rest : List Listed) → packages ≡ front ++ rest → Pairwise Lists (cond t (values ∷ filter (has_values members) meaning) (filter (has_values members) meaning)) rest → IsNoneLeft meaning
           → is_nothing (cond t (lines_of asks (k + 1) (fields_after text n) values) (other_line (n + 1) (state_text values)) ++ parts_from own packages text (n + 1) (cond t (k + 1) k) meaning)
-          ≡ (((t || is_removed (status_word values)) && list_all (is_known members) meaning) && (list_all good (cond t (values ∷ filter (has_values members) meaning) (filter (has_values members) meaning)) && are_apart environment.target rest))
+          ≡ (((t || is_removed (status_word values)) && list_all (is_known members) meaning) && (list_all good (cond t (values ∷ filter (has_values members) meaning) (filter (has_values members) meaning)) && are_apart environment.native rest))
       go true [] all lists later = absurd lists
       go true (p ∷ more) all lists later =
           let long = length_push front p in
@@ -226,7 +226,7 @@ module _ (members : Members) (strength : Strength) (environment : Environment) (
           nothing-both (other_line (n + 1) (state_text values)) (parts_from own packages text (n + 1) k meaning)
           ∙ ap (λ b. b && is_nothing (parts_from own packages text (n + 1) k meaning)) (nothing-state (n + 1) values)
           ∙ ap (λ b. is_removed (status_word values) && b) (later front rest (n + 1) k is all lists)
-          ∙ between (is_removed (status_word values)) (list_all (is_known members) meaning) (list_all good (filter (has_values members) meaning) && are_apart environment.target rest)
+          ∙ between (is_removed (status_word values)) (list_all (is_known members) meaning) (list_all good (filter (has_values members) meaning) && are_apart environment.native rest)
 
 pub no_line : NoLineIfHealthy
 no_line members strength environment text meaning packages lists =

@@ -129,14 +129,14 @@ module _ (packages others : List Listed) (moved : IsPermutation packages others)
 
     peaceful-rearranged : is_peaceful strength environment packages values ≡ is_peaceful strength environment others values
     peaceful-rearranged = λ i. list_all (λ field. list_all (λ group. list_all
-        (λ a. not (may (applies_by own a) && list_any-IsPermutation (excludes environment.target (word_under (codes "Package") values) a) packages others moved i)) group)
+        (λ a. not (may (applies_by own a) && list_any-IsPermutation (excludes environment.native (word_under (codes "Package") values) a) packages others moved i)) group)
         (groups_of (value_under field values))) negative_fields
 
   pub healthy-rearranged : (strength : Strength) (environment : Environment) (meaning other : Meaning) → IsPermutation meaning other → is_healthy strength environment packages meaning ≡ is_healthy strength environment others other
   healthy-rearranged strength environment meaning other moved_too =
       let good : ValueEntries ValueMeaning → Bool = λ values. is_abundant strength environment packages values && is_peaceful strength environment packages values in
-      ap (λ v. v && are_apart environment.target packages) (list_all-permutation good meaning other moved_too)
-      ∙ (λ i. list_all (λ values. abundant-rearranged strength environment values i && peaceful-rearranged strength environment values i) other && apart-rearranged environment.target packages others moved i)
+      ap (λ v. v && are_apart environment.native packages) (list_all-permutation good meaning other moved_too)
+      ∙ (λ i. list_all (λ values. abundant-rearranged strength environment values i && peaceful-rearranged strength environment values i) other && apart-rearranged environment.native packages others moved i)
 
   have_same_reasons : HaveSameReasons packages others
   have_same_reasons = record {

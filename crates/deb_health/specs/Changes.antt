@@ -65,7 +65,7 @@ fits strength environment packages meaning p values =
     (is_abundant strength environment (p ∷ packages) values
     && is_peaceful strength environment packages values)
     && (list_all (is_peaceful strength environment (p ∷ [])) meaning
-    && not (list_any (rules_out environment.target p) packages))
+    && not (list_any (rules_out environment.native p) packages))
 
 -- What changes for a set if a package is added at any place. A group without a line still has none.
 -- One that can be met or ignored still can: a line that says `unsure` stays or goes, and one that

@@ -54,7 +54,7 @@ abbrev pub is_peaceful : Strength → Environment → List Listed → ValueEntri
 is_peaceful strength environment packages values =
     list_all (λ field. list_all (λ group. list_all
     (λ a. not (may (applies_by (environment_for (Packages strength) environment values) a)
-    && list_any (excludes environment.target (word_under (codes "Package") values) a) packages))
+    && list_any (excludes environment.native (word_under (codes "Package") values) a) packages))
     group) (groups_of (value_under field values))) negative_fields
 
 -- Packages of one name can be installed together.
@@ -66,7 +66,7 @@ abbrev pub is_healthy : Strength → Environment → List Listed → Meaning →
 is_healthy strength environment packages meaning =
     list_all (λ values. is_abundant strength environment packages values
     && is_peaceful strength environment packages values) meaning
-    && are_apart environment.target packages
+    && are_apart environment.native packages
 
 -- For amd64: bb, which needs ee and excludes cc; and a second bb, of another version.
 abbrev for_amd64 : Environment

@@ -95,8 +95,8 @@ abbrev pub member_lines : Strength → Environment → List Listed → ℕ → L
 member_lines strength environment packages number version values =
     paragraph_lines (Packages strength) environment packages number version values
     ++ (exclusion_lines (environment_for (Packages strength) environment values)
-    environment.target packages (heading (Packages strength) number version values) values
-    ++ duplicate_lines environment.target packages
+    environment.native packages (heading (Packages strength) number version values) values
+    ++ duplicate_lines environment.native packages
     (heading (Packages strength) number version values) number)
 
 -- For amd64: bb excludes cc, vv, which cc provides, and dd, of another architecture, perhaps; it

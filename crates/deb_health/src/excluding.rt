@@ -188,7 +188,7 @@ fn append_front(
 }
 
 /// Returns whether Conflicts or Breaks with this qualifier speaks of a package (deb-control(5)).
-fn is_spoken_of(target: &[u8], qualifier: Option<&[u8]>, other: &Package<'_>) -> bool
+pub fn is_spoken_of(target: &[u8], qualifier: Option<&[u8]>, other: &Package<'_>) -> bool
     ensures { result
         ≡ is_spoken_of target.now (option_copied qualifier.entry) (listed_of other.now) }
 {

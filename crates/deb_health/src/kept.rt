@@ -15,15 +15,22 @@ use std::alloc::{AllocError, Global};
 /// What is kept of a package: what its lines about unmet groups have, and the canonical texts of
 /// Conflicts and Breaks.
 #[derive(Drop)]
-pub(crate) struct Kept {
-    pub(crate) unmet: KeptParagraph,
-    pub(crate) conflicts: Vec<u8>,
-    pub(crate) breaks: Vec<u8>,
+pub struct Kept {
+    /// What its lines about unmet groups have.
+    pub unmet: KeptParagraph,
+    /// The canonical text of Conflicts; empty if there is none.
+    pub conflicts: Vec<u8>,
+    /// The canonical text of Breaks; empty if there is none.
+    pub breaks: Vec<u8>,
 }
 
 impl Kept {
-    /// That of a paragraph that was checked.
-    pub(crate) fn of(
+    /// Returns that of a paragraph that was checked.
+    ///
+    /// # Errors
+    ///
+    /// Out of memory.
+    pub fn of(
         alloc: Global,
         paragraph: &CheckedView<'_>,
         texts: &FieldTexts,

@@ -19,4 +19,7 @@ mod members;
 mod state;
 mod together;
 
+pub use excluding::is_spoken_of;
+pub use kept::Kept;
 pub use members::healthy;
+pub use together::are_together;

@@ -78,7 +78,7 @@ fn append_negatives(
         → HoldsMember fields values kept.now → paragraph.now.asked ≡ Packages set.now.strength
         → OnOk result (out.new.items ≡ out.old.items ++ exclusion_lines
         (environment_for (Packages set.now.strength) (environment_of set.now.environment.now)
-        values) (environment_of set.now.environment.now).target (packages_of set.now.index.now)
+        values) (environment_of set.now.environment.now).native (packages_of set.now.index.now)
         (heading_in paragraph.now) values) }
 {
     let own = own_environment(
@@ -91,7 +91,7 @@ fn append_negatives(
     let asked = Negative {
         index: set.index,
         environment,
-        target: set.environment.target(),
+        target: set.environment.native(),
         paragraph: &*paragraph,
         field: b"Conflicts",
     };
@@ -111,7 +111,7 @@ fn append_duplicates(
     paragraph: &Paragraph<'_>,
 ) -> Result<(), AllocError>
     ensures { OnOk result (out.new.items ≡ out.old.items ++ duplicate_lines
-        (environment_of set.now.environment.now).target (packages_of set.now.index.now)
+        (environment_of set.now.environment.now).native (packages_of set.now.index.now)
         (heading_in paragraph.now) paragraph.now.number) }
 {
     let Some(package) = set.index.package(paragraph.number) else {
@@ -133,7 +133,7 @@ fn append_if_duplicate(
     number: u64,
 ) -> Result<(), AllocError>
     ensures { OnOk result (out.new.items ≡ out.old.items ++ cond (option_map_or
-        (λ q. not (are_together (environment_of set.now.environment.now).target
+        (λ q. not (are_together (environment_of set.now.environment.now).native
         (listed_of own.now) q)) (package_at number (packages_of set.now.index.now)) false
         && ltb paragraph.now.number number) (line_at (duplicate_line (heading_in paragraph.now))
         (packages_of set.now.index.now) number) []) }
@@ -141,7 +141,7 @@ fn append_if_duplicate(
     let Some(other) = set.index.package(number) else {
         return Ok(());
     };
-    if !are_together(set.environment.target(), own, &other) && paragraph.number < number {
+    if !are_together(set.environment.native(), own, &other) && paragraph.number < number {
         append_duplicate(out, paragraph, number, &other)?;
     }
     Ok(())

@@ -10,7 +10,7 @@ use deb_index::Package;
 
 /// Returns whether two packages of one name can be installed together (Debian Policy 5.6.8;
 /// Multi-Arch is that of deb-control(5)).
-pub(crate) fn are_together(target: &[u8], first: &Package<'_>, second: &Package<'_>) -> bool
+pub fn are_together(target: &[u8], first: &Package<'_>, second: &Package<'_>) -> bool
     ensures { result ≡ are_together target.now (listed_of first.now) (listed_of second.now) }
 {
     is_same(first)

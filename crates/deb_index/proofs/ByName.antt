@@ -4,10 +4,11 @@ use Rattle.std.specs.List.{AllByRecursion, filter}
 use Rattle.std.specs.Option.{option_map_or}
 use Rattle.std.proofs.lemmas.Bool.{false≢true}
 use Rattle.std.proofs.lemmas.List.Elements.{recursion_from_All}
+use Rattle.deb_relation.specs.Applying.{Environment}
 use Rattle.deb_relation.specs.Meaning.{Alternative}
 use Rattle.deb_index.specs.Crowds.{AreMeeting}
 use Rattle.deb_index.specs.Listed.{Listed}
-use Rattle.deb_index.specs.Meeting.{meets_by_name}
+use Rattle.deb_index.specs.Meeting.{meets, meets_by_name, meets_qualifier}
 use Rattle.deb_index.specs.Named.{among, numbers_of, package_at, passes_at}
 use Rattle.deb_index.specs.Why.{has_or_provides}
 use Rattle.deb_index.proofs.Joined.{numbers-same}
@@ -28,17 +29,30 @@ both-is true test wider = refl
 both-is false true wider = absurd (false≢true (wider refl))
 both-is false false wider = refl
 
--- the package of a number meets it
-abbrev pub named_at : Alternative → List Listed → ℕ → Bool
-named_at a packages k = option_map_or (meets_by_name a) (package_at k packages) false
+-- the package of a number passes a test
+abbrev pub passing_at : (Listed → Bool) → List Listed → ℕ → Bool
+passing_at test packages k = option_map_or test (package_at k packages) false
 
--- those of the packages under its name that meet it
-pub retained : (a : Alternative) (packages : List Listed) (name : List ℕ) → name ≡ a.name → filter (named_at a packages) (numbers_of (has_or_provides name) packages) ≡ numbers_of (meets_by_name a) packages
+-- Of the packages that pass a wider test, those that pass this one.
+pub kept-of : (wider test : Listed → Bool) (packages : List Listed) → ((p : Listed) → test p ≡ true → wider p ≡ true) → filter (passing_at test packages) (numbers_of wider packages) ≡ numbers_of test packages
+kept-of wider test packages is =
+    filter-alike (λ k. (1 ≤ k) × (k ≤ length packages)) (passing_at test packages) (passes_at test packages)
+    (λ k listed. ap (λ b. option_map_or test (if b then None else slice_get packages (k - 1)) false) (from-one k listed.0))
+    (numbers_of wider packages) (recursion_from_All (λ k. (1 ≤ k) × (k ≤ length packages)) (numbers_of wider packages) (numbers-listed wider packages))
+    ∙ filtered wider test packages
+    ∙ numbers-same 1 (λ p. wider p && test p) test (λ p. both-is (wider p) (test p) (is p)) packages
+
+-- those of the packages under its name that meet it by name
+pub retained : (a : Alternative) (packages : List Listed) (name : List ℕ) → name ≡ a.name → filter (passing_at (meets_by_name a) packages) (numbers_of (has_or_provides name) packages) ≡ numbers_of (meets_by_name a) packages
 retained a packages name is =
-    let asked : Listed → Bool = has_or_provides a.name in
-    ap (λ l. filter (named_at a packages) (numbers_of (has_or_provides l) packages)) is
-    ∙ filter-alike (λ k. (1 ≤ k) × (k ≤ length packages)) (named_at a packages) (passes_at (meets_by_name a) packages)
-    (λ k listed. ap (λ b. option_map_or (meets_by_name a) (if b then None else slice_get packages (k - 1)) false) (from-one k listed.0))
-    (numbers_of asked packages) (recursion_from_All (λ k. (1 ≤ k) × (k ≤ length packages)) (numbers_of asked packages) (numbers-listed asked packages))
-    ∙ filtered asked (meets_by_name a) packages
-    ∙ numbers-same 1 (λ p. asked p && meets_by_name a p) (meets_by_name a) (λ p. both-is (asked p) (meets_by_name a p) (named_or_provided a p)) packages
+    ap (λ l. filter (passing_at (meets_by_name a) packages) (numbers_of (has_or_provides l) packages)) is
+    ∙ kept-of (has_or_provides a.name) (meets_by_name a) packages (λ p. named_or_provided a p)
+
+-- of these, those that it meets by qualifier too
+by-name-first : (named fits : Bool) → (named && fits) ≡ true → named ≡ true
+by-name-first true fits both = refl
+by-name-first false fits both = both
+
+pub retained-meeting : (environment : Environment) (a : Alternative) (packages : List Listed) → filter (passing_at (meets environment a) packages) (numbers_of (meets_by_name a) packages) ≡ numbers_of (meets environment a) packages
+retained-meeting environment a packages =
+    kept-of (meets_by_name a) (meets environment a) packages (λ p. by-name-first (meets_by_name a p) (meets_qualifier environment a.qualifier p))

@@ -30,4 +30,4 @@ named_or_provided a p =
     (any-wider (provision_meets a) (λ q. bytes_eq q.name a.name) (λ q. and-first (bytes_eq q.name a.name) (provided_meets_bound a.bound q.version)) p.provisions)
 
 pub has_or_provides : (environment : Environment) (a : Alternative) (p : Listed) → meets environment a p ≡ true → (has_name a.name p || provides a.name p) ≡ true
-has_or_provides environment a p met = named_or_provided a p (and-first (meets_by_name a p) (meets_qualifier environment.target a.qualifier p) met)
+has_or_provides environment a p met = named_or_provided a p (and-first (meets_by_name a p) (meets_qualifier environment a.qualifier p) met)

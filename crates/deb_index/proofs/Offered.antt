@@ -17,7 +17,7 @@ on_ok f (Err e) h = h
 
 module _ (environment : Environment) (a : Alternative) (packages : List Listed) (number : ℕ → ℕ) (offers : List ℕ) (meeting : AreMeeting a packages (map number offers)) (q : Option (List ℕ)) (is : q ≡ a.qualifier) where
   abbrev of_package : Option Listed → Bool
-  of_package o = option_map_or (meets_qualifier environment.target q) o false
+  of_package o = option_map_or (meets_qualifier environment q) o false
 
   turned : (b c : Bool) → (b && c) ≡ (c && b)
   turned true true = refl
@@ -29,15 +29,15 @@ module _ (environment : Environment) (a : Alternative) (packages : List Listed) 
   moved q true n = turned q n
   moved q false n = refl
 
-  asked-qualifier : (p : Listed) → (meets_by_name a p && meets_qualifier environment.target q p) ≡ meets environment a p
-  asked-qualifier p = ap (λ o. meets_by_name a p && meets_qualifier environment.target o p) is
+  asked-qualifier : (p : Listed) → (meets_by_name a p && meets_qualifier environment q p) ≡ meets environment a p
+  asked-qualifier p = ap (λ o. meets_by_name a p && meets_qualifier environment o p) is
 
   pub some-offered : list_any (λ o. is_of environment q packages (number o)) offers ≡ list_any (meets environment a) packages
   some-offered =
       any-map number (is_of environment q packages) offers
       ∙ meeting (is_of environment q packages)
       ∙ located (λ n o p. of_package o && meets_by_name a p) packages
-      ∙ numbered-same (λ n p. meets_qualifier environment.target q p && meets_by_name a p) (λ n p. meets environment a p) (λ n p. turned (meets_qualifier environment.target q p) (meets_by_name a p) ∙ asked-qualifier p) 1 packages
+      ∙ numbered-same (λ n p. meets_qualifier environment q p && meets_by_name a p) (λ n p. meets environment a p) (λ n p. turned (meets_qualifier environment q p) (meets_by_name a p) ∙ asked-qualifier p) 1 packages
       ∙ unnumbered (meets environment a) 1 packages
 
   pub offered-among : (old new : List ℕ) (k : ℕ) → among k new ≡ (among k old || list_any (λ o. eqb k (number o) && is_of environment q packages (number o)) offers) → among k new ≡ (among k old || among k (numbers_of (meets environment a) packages))
@@ -46,6 +46,6 @@ module _ (environment : Environment) (a : Alternative) (packages : List Listed) 
       (any-map number (λ n. eqb k n && is_of environment q packages n) offers
       ∙ meeting (λ n. eqb k n && is_of environment q packages n)
       ∙ located (λ n o p. (eqb k n && of_package o) && meets_by_name a p) packages
-      ∙ numbered-same (λ n p. (eqb k n && meets_qualifier environment.target q p) && meets_by_name a p) (λ n p. eqb k n && meets environment a p)
-      (λ n p. moved (meets_qualifier environment.target q p) (eqb k n) (meets_by_name a p) ∙ ap (λ b. eqb k n && b) (asked-qualifier p)) 1 packages
+      ∙ numbered-same (λ n p. (eqb k n && meets_qualifier environment q p) && meets_by_name a p) (λ n p. eqb k n && meets environment a p)
+      (λ n p. moved (meets_qualifier environment q p) (eqb k n) (meets_by_name a p) ∙ ap (λ b. eqb k n && b) (asked-qualifier p)) 1 packages
       ∙ numbered-among k (meets environment a) 1 packages)

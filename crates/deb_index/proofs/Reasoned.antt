@@ -33,7 +33,7 @@ unless true false r s = refl
 unless false q r s = refl
 
 pub reason_unless_met : ReasonUnlessMet
-reason_unless_met environment a p = unless (meets_by_name a p) (meets_qualifier environment.target a.qualifier p) (reason_of_qualifier a.qualifier) (reason_of_bound a.bound (has_version a.name p))
+reason_unless_met environment a p = unless (meets_by_name a p) (meets_qualifier environment a.qualifier p) (reason_of_qualifier a.qualifier) (reason_of_bound a.bound (has_version a.name p))
 
 -- whichever text of versions is written
 pub changes_no_answer : (shown : VersionShown) (packages : List Listed) (relation : Relation) (environment : Environment) → map answer_in (detailed_report_by shown packages relation environment) ≡ report packages relation environment

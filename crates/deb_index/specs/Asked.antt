@@ -1,7 +1,7 @@
 -- What a `Question` asks, and that it was parsed from words.
 use Rattle.std.specs.Prelude.{◌≡◌, IsTrue, refl, [], ◌∷◌, None, codes, true, false}
 use Rattle.deb_relation.specs.Applying.{Environment}
-use Rattle.deb_relation.specs.Environments.{environment_of}
+use Rattle.deb_relation.specs.Environments.{environment_of, environment_with}
 use Rattle.deb_relation.specs.Grammar.{SpellsRelation}
 use Rattle.deb_relation.specs.Meaning.{Relation}
 use Rattle.deb_relation.specs.RelationTexts.{text_meaning}
@@ -46,6 +46,6 @@ asked_aa = record {
 
 worked-asked : (relation_asked asked_aa
     ≡ (alternative_with (codes "aa") None None None [] ∷ []) ∷ [])
-    × (environment_asked asked_aa ≡ record { target = codes "amd64"; profiles = [] })
+    × (environment_asked asked_aa ≡ environment_with (codes "amd64") [])
 unfolding asked_aa steps relation_in group_text
 worked-asked = (refl, refl)

@@ -69,7 +69,7 @@ AreMeeting a packages numbers =
 -- the package of a number meets a qualifier
 abbrev pub is_of : Environment → Option (List ℕ) → List Listed → ℕ → Bool
 is_of environment qualifier packages number =
-    option_map_or (meets_qualifier environment.target qualifier) (package_at number packages) false
+    option_map_or (meets_qualifier environment qualifier) (package_at number packages) false
 
 -- aa in version 1 for amd64, which provides vv in version 3, without one, and xx in version 3; and
 -- bb in version 2 for i386, which provides vv in version 4
@@ -116,7 +116,7 @@ worked-has = refl
 
 -- for amd64 without a qualifier and with i386: aa, bb and no package
 abbrev amd64 : Environment
-amd64 = record { target = codes "amd64"; profiles = [] }
+amd64 = record { target = codes "amd64"; native = codes "amd64"; profiles = [] }
 
 worked-is_of : map
     (λ qualifier. map (is_of amd64 qualifier two_listed) (1 ∷ 2 ∷ 3 ∷ []))

@@ -6,6 +6,7 @@ use Rattle.std.specs.Str.{bytes_eq}
 use Rattle.deb_version.specs.Order.{version_cmp}
 use Rattle.deb_version.specs.Parts.{Meaning as Version}
 use Rattle.deb_relation.specs.Applying.{Environment, holds}
+use Rattle.deb_relation.specs.Environments.{with_target}
 use Rattle.deb_relation.specs.Meaning.{Alternative}
 use Rattle.deb_relation.specs.declared.operator.Op.{Op}
 use Rattle.deb_relation.specs.declared.operator.Op.TheVariants.{Earlier, EarlierEqual, Equal, LaterEqual, Later}
@@ -39,9 +40,9 @@ meets_by_name a p =
     (bytes_eq p.name a.name && meets_bound a.bound p.version)
     || list_any (provision_meets a) p.provisions
 
--- the architecture of a package for a target: the target where it is `all`
+-- the architecture that a package counts as: the native one where it is `all`
 abbrev pub effective : List ℕ → List ℕ → List ℕ
-effective target architecture = cond (bytes_eq architecture (codes "all")) target architecture
+effective native architecture = cond (bytes_eq architecture (codes "all")) native architecture
 
 -- what Multi-Arch says; where it is absent, `no`
 abbrev pub multi_arch_or_no : Option MultiArch → MultiArch
@@ -62,24 +63,25 @@ is_allowed Allowed = true
 
 -- By qualifier: without one the package is of the target or `foreign`; for `any` it is `allowed`;
 -- for `native` it is of the target; for any other it is of that architecture.
-abbrev pub meets_qualifier : List ℕ → Option (List ℕ) → Listed → Bool
-meets_qualifier target None p =
-    bytes_eq (effective target p.architecture) target || is_foreign (multi_arch_or_no p.multi_arch)
-meets_qualifier target (Some qualifier) p =
+abbrev pub meets_qualifier : Environment → Option (List ℕ) → Listed → Bool
+meets_qualifier environment None p =
+    bytes_eq (effective environment.native p.architecture) environment.target
+    || is_foreign (multi_arch_or_no p.multi_arch)
+meets_qualifier environment (Some qualifier) p =
     cond (bytes_eq qualifier (codes "any")) (is_allowed (multi_arch_or_no p.multi_arch))
     (cond (bytes_eq qualifier (codes "native"))
-    (bytes_eq (effective target p.architecture) target)
-    (bytes_eq (effective target p.architecture) qualifier))
+    (bytes_eq (effective environment.native p.architecture) environment.target)
+    (bytes_eq (effective environment.native p.architecture) qualifier))
 
 -- A listed package meets an alternative: by name and by qualifier.
 abbrev pub meets : Environment → Alternative → Listed → Bool
 meets environment a p =
-    meets_by_name a p && meets_qualifier environment.target a.qualifier p
+    meets_by_name a p && meets_qualifier environment a.qualifier p
 
 -- Below, the target is amd64, and hello is version 1.0 for amd64 and provides vv without a version,
 -- and ww in version 2.0.
 abbrev target : Environment
-target = record { target = codes "amd64"; profiles = [] }
+target = record { target = codes "amd64"; native = codes "amd64"; profiles = [] }
 
 abbrev listed : List ℕ → List ℕ → Option MultiArch → List Provision → Listed
 listed name architecture multi_arch provisions =
@@ -173,9 +175,23 @@ worked-target : map (qualified (codes "amd64")) words
     ∷ []
 worked-target = refl
 
--- `all` is the target, and nothing else
+-- `all` is the native architecture, and nothing else
 worked-all : map (qualified (codes "all")) words ≡ map (qualified (codes "amd64")) words
 worked-all = refl
+
+-- Where amd64 is native and the target is i386: aa for i386, for amd64 and for `all`, without a
+-- qualifier, with `native`, `amd64` and `i386`.
+abbrev for_i386 : List ℕ → List Bool
+for_i386 architecture =
+    map (λ qualifier. meets_qualifier (with_target (codes "i386") target) qualifier
+    (listed (codes "aa") architecture None []))
+    (None ∷ Some (codes "native") ∷ Some (codes "amd64") ∷ Some (codes "i386") ∷ [])
+
+worked-native : map for_i386 (codes "i386" ∷ codes "amd64" ∷ codes "all" ∷ [])
+    ≡ (true ∷ true ∷ false ∷ true ∷ [])
+    ∷ (false ∷ false ∷ true ∷ false ∷ [])
+    ∷ (false ∷ false ∷ true ∷ false ∷ []) ∷ []
+worked-native = refl
 
 worked-other : map (qualified (codes "i386")) words
     ≡ (false ∷ false ∷ false ∷ false ∷ true ∷ false ∷ false ∷ [])

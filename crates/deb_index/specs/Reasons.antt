@@ -53,14 +53,14 @@ reason_of_qualifier (Some qualifier) =
 abbrev pub reason : Environment → Alternative → Listed → Option Reason
 reason environment a p =
     cond (meets_by_name a p)
-    (cond (meets_qualifier environment.target a.qualifier p) None
+    (cond (meets_qualifier environment a.qualifier p) None
     (Some (reason_of_qualifier a.qualifier)))
     (Some (reason_of_bound a.bound (has_version a.name p)))
 
 -- Below, the target is amd64; aa is version 2.0 of this architecture and with this Multi-Arch, and
 -- provides vv without a version, ww in version 2.0, and xx without one and in version 2.0.
 abbrev target : Environment
-target = record { target = codes "amd64"; profiles = [] }
+target = record { target = codes "amd64"; native = codes "amd64"; profiles = [] }
 
 abbrev provision : List ℕ → Option Version → Provision
 provision name version = record { name = name; version = version }

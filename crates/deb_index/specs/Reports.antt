@@ -4,6 +4,7 @@
 use Rattle.std.specs.Prelude.{◌≡◌, ℕ, ◌+◌, ◌-◌, ◌&&◌, Bool, true, false, cond, not, List, [], ◌∷◌, map, Option, Some, None, codes, refl}
 use Rattle.std.specs.List.{list_all, list_any, slice_get}
 use Rattle.std.specs.Option.{option_map_or}
+use Rattle.deb_relation.specs.Environments.{environment_with}
 use Rattle.deb_relation.specs.Applying.{Environment, applies}
 use Rattle.deb_relation.specs.Meaning.{Group, Relation}
 use Rattle.deb_relation.specs.Texts.{group_text}
@@ -86,7 +87,7 @@ all_met answers = list_all (λ answer. not (is_unmet answer.verdict)) answers
 -- For the target amd64 with the profile nocheck: a list of aa for amd64; of bb for all, which
 -- provides vv; and of aa for i386 with Multi-Arch `allowed`.
 abbrev environment : Environment
-environment = record { target = codes "amd64"; profiles = codes "nocheck" ∷ [] }
+environment = environment_with (codes "amd64") (codes "nocheck" ∷ [])
 
 abbrev listed : List ℕ → List ℕ → Option MultiArch → List Provision → Listed
 listed name architecture multi_arch provisions =

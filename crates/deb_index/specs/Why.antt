@@ -153,7 +153,7 @@ worked-words = refl
 -- Below, the target is amd64, and the packages are aa 1.0 for amd64, which provides vv without a
 -- version, and bb 2.0 for i386, which provides vv in version 2.0 and its own name.
 abbrev target : Environment
-target = record { target = codes "amd64"; profiles = [] }
+target = record { target = codes "amd64"; native = codes "amd64"; profiles = [] }
 
 abbrev kept : List ℕ → List ℕ → List ℕ → List Provision → Listed
 kept name version architecture provisions =

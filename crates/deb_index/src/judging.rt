@@ -57,7 +57,7 @@ impl Index {
             (option_copied qualifier.entry) (packages_of self.now) number }
     {
         match self.package(number) {
-            Some(package) => package.meets_qualifier(qualifier, environment.target()),
+            Some(package) => package.meets_qualifier(qualifier, environment),
             None => false,
         }
     }

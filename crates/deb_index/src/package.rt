@@ -93,7 +93,7 @@ impl<'a> Package<'a> {
             (alternative_of alternative.now) (listed_of self.now) }
     {
         self.meets_by_name(alternative)
-            && self.meets_qualifier(alternative.qualifier(), environment.target())
+            && self.meets_qualifier(alternative.qualifier(), environment)
     }
 
     /// Whether this has the name in a version that meets the bound, or provides it so (7.5).
@@ -106,29 +106,29 @@ impl<'a> Package<'a> {
     }
 
     /// Whether this is of the architecture that a qualifier asks, or of a Multi-Arch that serves.
-    pub(crate) fn meets_qualifier(&self, qualifier: Option<&[u8]>, target: &[u8]) -> bool
-        ensures { result
-            ≡ meets_qualifier target.now (option_copied qualifier.entry) (listed_of self.now) }
+    pub(crate) fn meets_qualifier(&self, qualifier: Option<&[u8]>, environment: &Env) -> bool
+        ensures { result ≡ meets_qualifier (environment_of environment.now)
+            (option_copied qualifier.entry) (listed_of self.now) }
     {
         let Some(qualifier) = qualifier else {
-            return self.is_of(target, target) || self.is_foreign();
+            return self.is_of(environment, environment.target()) || self.is_foreign();
         };
         if qualifier == b"any".as_slice() {
             self.is_allowed()
         } else if qualifier == b"native".as_slice() {
-            self.is_of(target, target)
+            self.is_of(environment, environment.target())
         } else {
-            self.is_of(target, qualifier)
+            self.is_of(environment, qualifier)
         }
     }
 
-    /// Whether the architecture for a target is this one: `all` is the target.
-    fn is_of(&self, target: &[u8], architecture: &[u8]) -> bool
-        ensures { result
-            ≡ bytes_eq (effective target.now self.now.architecture.now) architecture.now }
+    /// Whether this counts as a package of an architecture: one of `all` counts as native.
+    fn is_of(&self, environment: &Env, architecture: &[u8]) -> bool
+        ensures { result ≡ bytes_eq (effective (environment_of environment.now).native
+            self.now.architecture.now) architecture.now }
     {
         if self.architecture == b"all".as_slice() {
-            target == architecture
+            environment.native() == architecture
         } else {
             self.architecture == architecture
         }

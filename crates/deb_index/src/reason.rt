@@ -67,7 +67,7 @@ impl Package<'_> {
             return Some(reason_of_bound(alternative.bound(), versioned));
         }
         let qualifier = alternative.qualifier();
-        if !self.meets_qualifier(qualifier, environment.target()) {
+        if !self.meets_qualifier(qualifier, environment) {
             return Some(reason_of_qualifier(qualifier));
         }
         None

@@ -32,9 +32,11 @@ worked-holds_later : map (λ op. holds op Greater)
     ∷ []
 worked-holds_later = refl
 
--- a target architecture and the build profiles that are active
+-- A target architecture, the native one, which `all` counts as (deb-control(5)), and the build
+-- profiles that are active.
 pub record Environment : Type 0 where
   pub target : List ℕ
+  pub native : List ℕ
   pub profiles : List (List ℕ)
 
 -- whether a name is among names
@@ -114,7 +116,8 @@ worked-list_alone : applies
           (false, codes "amd64" ∷ []);
       formula = ((true, codes "nocheck") ∷ []) ∷ [];
     })
-    (record { target = codes "amd64"; profiles = codes "nocheck" ∷ [] }) ≡ false
+    (record { target = codes "amd64"; native = codes "amd64"; profiles = codes "nocheck" ∷ [] })
+    ≡ false
 worked-list_alone = refl
 
 -- for the target amd64 with the profile nocheck: a list that applies or doesn't, with a formula
@@ -129,7 +132,7 @@ with_both name negated =
       architectures = Some (false, name ∷ []);
       formula = ((negated, codes "nocheck") ∷ []) ∷ [];
     })
-    (record { target = codes "amd64"; profiles = codes "nocheck" ∷ [] })
+    (record { target = codes "amd64"; native = codes "amd64"; profiles = codes "nocheck" ∷ [] })
 
 worked-both : (with_both (codes "amd64") false ≡ true) × (with_both (codes "i386") false ≡ false)
     × (with_both (codes "amd64") true ≡ false) × (with_both (codes "i386") true ≡ false)

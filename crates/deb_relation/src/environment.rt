@@ -1,4 +1,5 @@
-//! The environment that relations are asked for: a target architecture and active build profiles.
+//! The environment that relations are asked for: a target architecture, the native one, and active
+//! build profiles.
 
 ghost use Rattle.std.specs.Prelude.{◌≡◌, ◌==◌, ◌++◌, IfOk, IfErr, IsTrue, IsFalse, Err, map};
 ghost use Rattle.std.specs.List.{list_all, list_any};
@@ -10,10 +11,12 @@ ghost use Rattle.deb_relation.specs.Views.{name_key, names_of};
 use deb_base::{is_arch_name, is_profile_name, is_wildcard};
 use std::alloc::{AllocError, AllocFailed, Global};
 
-/// A target architecture and the build profiles that are active (Debian Policy 7.1).
+/// A target architecture and the build profiles that are active (Debian Policy 7.1), and the native
+/// architecture, which a package of the architecture `all` counts as (deb-control(5)).
 #[derive(Debug, Drop)]
 pub struct Env {
     pub(crate) target: Vec<u8>,
+    pub(crate) native: Vec<u8>,
     pub(crate) profiles: Vec<Vec<u8>>,
 }
 
@@ -49,9 +52,9 @@ impl<T: Drop> From<AllocFailed<T>> for EnvFault {
 
 impl Env {
     ghost use Rattle.deb_relation.specs.Applying.{is_among};
-    ghost use Rattle.deb_relation.specs.Environments.{environment_of, environment_with};
+    ghost use Rattle.deb_relation.specs.Environments.{environment_of, environment_with, with_target};
 
-    /// Copies a target and profiles.
+    /// Copies a target, which is also the native architecture, and profiles.
     ///
     /// # Errors
     ///
@@ -73,12 +76,13 @@ impl Env {
         if !is_environment(target, profiles) {
             return Err(EnvFault::BadEnvironment);
         }
+        let native = Vec::from_slice(alloc, target)?;
         let target = Vec::from_slice(alloc, target)?;
         let profiles = copies_of(alloc, profiles)?;
-        Ok(Env { target, profiles })
+        Ok(Env { target, native, profiles })
     }
 
-    /// Copies the environment with another target.
+    /// Copies the environment with another target, and the same native architecture.
     ///
     /// # Errors
     ///
@@ -88,7 +92,7 @@ impl Env {
     pub fn for_target(&self, alloc: Global, target: &[u8]) -> Result<Env, EnvFault>
         ensures ok { IfOk result
             (λ environment. environment_of environment
-            ≡ environment_with target.now (environment_of self.now).profiles) }
+            ≡ with_target target.now (environment_of self.now)) }
         ensures accepted { IfOk result (λ _. IsTrue (is_target target.now)) }
         ensures refused { IfErr result
             (λ fault. fault ≡ EnvFault.BadEnvironment → IsFalse (is_target target.now)) }
@@ -99,8 +103,9 @@ impl Env {
             return Err(EnvFault::BadEnvironment);
         }
         let target = Vec::from_slice(alloc, target)?;
+        let native = Vec::from_slice(alloc, &self.native)?;
         let profiles = copies_again(alloc, &self.profiles)?;
-        Ok(Env { target, profiles })
+        Ok(Env { target, native, profiles })
     }
 
     /// Returns the target architecture.
@@ -108,6 +113,13 @@ impl Env {
         ensures { result.now ≡ (environment_of self.now).target }
     {
         &self.target
+    }
+
+    /// Returns the native architecture, which `all` counts as.
+    pub fn native(&self) -> &[u8]
+        ensures { result.now ≡ (environment_of self.now).native }
+    {
+        &self.native
     }
 
     /// Returns whether this profile is active.

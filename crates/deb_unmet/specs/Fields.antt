@@ -5,7 +5,7 @@ use Rattle.std.specs.Fmt.{decimal, digits}
 use Rattle.std.specs.List.{concat, flat_map}
 use Rattle.deb_version.specs.Places.{version_in}
 use Rattle.deb_relation.specs.Applying.{Environment}
-use Rattle.deb_relation.specs.Environments.{environment_with}
+use Rattle.deb_relation.specs.Environments.{environment_with, with_target}
 use Rattle.deb_relation.specs.Targets.{is_target}
 use Rattle.deb_relation.specs.Texts.{group_text}
 use Rattle.deb_field.specs.Values.{ValueMeaning, NameMeans, SourceMeans, VersionMeans, ArchitectureMeans, ArchitecturesMean, RelationMeans}
@@ -35,7 +35,7 @@ heading asked number version values =
 abbrev pub own_environment : Asked → Environment → List ℕ → Option Environment
 own_environment asked environment architecture =
     cond (is_binary asked && is_target architecture)
-    (Some (environment_with architecture environment.profiles)) None
+    (Some (with_target architecture environment)) None
 
 abbrev pub own_or : Option Environment → Environment → Environment
 own_or None environment = environment

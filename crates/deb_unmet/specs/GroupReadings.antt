@@ -73,7 +73,7 @@ verdict_in holds environment packages group =
 
 -- For amd64, over aa for amd64 alone: aa [linux-any] | bb [i386] | cc has two readings.
 abbrev environment : Environment
-environment = record { target = codes "amd64"; profiles = [] }
+environment = record { target = codes "amd64"; native = codes "amd64"; profiles = [] }
 
 abbrev packages : List Listed
 packages =

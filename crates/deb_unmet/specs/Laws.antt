@@ -160,7 +160,7 @@ worked-undecided : map is_undecided (Surely ∷ Maybe ∷ Never ∷ []) ≡ fals
 worked-undecided = refl
 
 worked-groups : map
-    (λ group. some_undecided (record { target = codes "amd64"; profiles = [] }) group)
+    (some_undecided (record { target = codes "amd64"; native = codes "amd64"; profiles = [] }))
     ((alone (codes "aa") ∷ with_list (codes "bb") false (codes "i386") ∷ [])
     ∷ (alone (codes "aa") ∷ with_list (codes "bb") false (codes "linux-any") ∷ []) ∷ [] ∷ [])
     ≡ false ∷ true ∷ false ∷ []

@@ -60,7 +60,7 @@ worked-open : map is_open
 worked-open = refl
 
 abbrev for_amd64 : Alternative → Applies
-for_amd64 = applies_by (record { target = codes "amd64"; profiles = [] })
+for_amd64 = applies_by (record { target = codes "amd64"; native = codes "amd64"; profiles = [] })
 
 worked-without : map for_amd64
     (alone (codes "aa") ∷ with_bound (codes "aa") LaterEqual (codes "1")

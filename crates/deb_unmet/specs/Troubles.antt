@@ -52,7 +52,7 @@ group_lines environment packages heading field group =
 
 -- For amd64, over aa in version 1 for amd64 alone.
 abbrev environment : Environment
-environment = record { target = codes "amd64"; profiles = [] }
+environment = record { target = codes "amd64"; native = codes "amd64"; profiles = [] }
 
 abbrev packages : List Listed
 packages =

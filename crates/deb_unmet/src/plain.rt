@@ -111,16 +111,21 @@ fn meets(
         (plain name.now (option_map bound_of bound.now)) (listed_of candidate.now)) }
 {
     candidate.name() == name
-        && is_of(candidate.architecture(), environment.target())
+        && is_of(candidate.architecture(), environment)
         && meets_bound(candidate, bound)
 }
 
-/// Whether an architecture is that of a target: `all` is.
-fn is_of(architecture: &[u8], target: &[u8]) -> bool
-    ensures { IsTrue result
-        → IsTrue (bytes_eq (effective target.now architecture.now) target.now) }
+/// Whether an architecture counts as the target: `all` counts as the native one.
+fn is_of(architecture: &[u8], environment: &Env) -> bool
+    ensures { IsTrue result → IsTrue (bytes_eq
+        (effective (environment_of environment.now).native architecture.now)
+        (environment_of environment.now).target) }
 {
-    architecture == b"all".as_slice() || architecture == target
+    if architecture == b"all".as_slice() {
+        environment.native() == environment.target()
+    } else {
+        architecture == environment.target()
+    }
 }
 
 /// Whether the version of a package meets a bound.

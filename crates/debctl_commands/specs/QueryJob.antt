@@ -162,7 +162,7 @@ abbrev written : Detail → VersionText → List ℕ
 written detail versions =
     options_text (query_options detail versions) (codes "0:1.0" ∷ []) (ww ∷ [])
     ((alone (codes "aa") ∷ []) ∷ (alone (codes "ww") ∷ []) ∷ [])
-    (record { target = codes "amd64"; profiles = [] })
+    (record { target = codes "amd64"; native = codes "amd64"; profiles = [] })
 
 -- with reasons and without, and by the texts of the file and without
 texts_of_queries : (written Verdicts Canonical ≡ codes "unmet aa\nmet ww\n 1 ww 1.0 all\n")

@@ -277,7 +277,7 @@ kinds_tried = (refl, refl, refl, refl, refl, refl, refl)
 -- the environment has the target and the profiles, if that is one
 words_in_order : (environment_in
     (words (codes "amd64") (codes "nocheck" ∷ []) Installed Source Spelled)
-    ≡ record { target = codes "amd64"; profiles = codes "nocheck" ∷ [] })
+    ≡ record { target = codes "amd64"; native = codes "amd64"; profiles = codes "nocheck" ∷ [] })
     × (has_environment (words (codes "amd64") (codes "nocheck" ∷ []) Installed Source Spelled)
     ≡ true)
     × (has_environment (words (codes "any") [] Installed Source Spelled) ≡ false)

@@ -73,7 +73,8 @@ hello = record {
 -- of a package that is there, and of one that isn't
 worked-texts : map (λ detail. detail_text detail (hello ∷ [])
     ((alone hello.name ∷ []) ∷ (alone (codes "bb") ∷ []) ∷ [])
-    (record { target = codes "i386"; profiles = [] })) (Verdicts ∷ Reasons ∷ [])
+    (record { target = codes "i386"; native = codes "i386"; profiles = [] }))
+    (Verdicts ∷ Reasons ∷ [])
     ≡ codes "met hello\n 1 hello 1.0 all\nunmet bb\n"
     ∷ codes "met hello\n 1 hello 1.0 all\nunmet bb\n bb: no package has this name\n" ∷ []
 unfolding digits group_text

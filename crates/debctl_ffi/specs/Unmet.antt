@@ -71,7 +71,7 @@ abbrev pub environment_in : Asker → Environment
 environment_in by = environment_with by.target by.profiles
 
 environments : environment_in (asker (codes "amd64") (codes "nocheck" ∷ []) [])
-    ≡ record { target = codes "amd64"; profiles = codes "nocheck" ∷ [] }
+    ≡ record { target = codes "amd64"; native = codes "amd64"; profiles = codes "nocheck" ∷ [] }
 environments = refl
 
 -- The environment is good, and the index is accepted, and lists these packages.

@@ -18,7 +18,7 @@ pub loop-number-preserved : goal.loop-number-preserved
 loop-number-preserved c =
     let packages = packages_of c.args.set.now.index.now in
     let p = listed_of c.in-Some.«package» in
-    let test : Listed → Bool = λ q. not (are_together (environment_of c.args.set.now.environment.now).target p q) in
+    let test : Listed → Bool = λ q. not (are_together (environment_of c.args.set.now.environment.now).native p q) in
     let line = line_at (duplicate_line (heading_in c.args.paragraph.now)) packages in
     one-more (lines_behind c.args.paragraph.now.number test packages line) c.packages-number-items.result.now c.loop-number.number-index _ c.args.out.now.items c.loop-number.out.items c.append_if_duplicate.new.out.items c.loop-number-test.true c.loop-number.invariant c.in_ok-append_if_duplicate.ensures
 
@@ -26,7 +26,7 @@ pub returns : goal.returns
 returns c =
     let packages = packages_of c.args.set.now.index.now in
     let p = listed_of c.in-Some.«package» in
-    let target = (environment_of c.args.set.now.environment.now).target in
+    let target = (environment_of c.args.set.now.environment.now).native in
     let test : Listed → Bool = λ q. not (are_together target p q) in
     let line = line_at (duplicate_line (heading_in c.args.paragraph.now)) packages in
     let n = c.args.paragraph.now.number in

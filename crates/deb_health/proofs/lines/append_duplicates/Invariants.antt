@@ -12,4 +12,4 @@ use Rattle.deb_health.proofs.lines.append_duplicates.Given as goal
 
 abbrev pub invariant-loop-number : goal.invariant-loop-number
 invariant-loop-number l =
-    l.out.items ≡ l.initial.out.items ++ flat_map (lines_behind l.paragraph.number (λ q. not (are_together (environment_of l.set.environment.now).target (listed_of l.«package») q)) (packages_of l.set.index.now) (line_at (duplicate_line (heading_in l.paragraph)) (packages_of l.set.index.now))) (take l.number-index l.number-items)
+    l.out.items ≡ l.initial.out.items ++ flat_map (lines_behind l.paragraph.number (λ q. not (are_together (environment_of l.set.environment.now).native (listed_of l.«package») q)) (packages_of l.set.index.now) (line_at (duplicate_line (heading_in l.paragraph)) (packages_of l.set.index.now))) (take l.number-index l.number-items)

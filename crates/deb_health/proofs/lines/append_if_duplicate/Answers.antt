@@ -13,7 +13,7 @@ pub returns-in_default : goal.returns-in_default
 returns-in_default c =
     let line = line_at (duplicate_line (heading_in c.args.paragraph.now)) (packages_of c.args.set.now.index.now) c.args.number in
     sym (append-nil c.args.out.now.items)
-    ∙ ap (λ o. c.args.out.now.items ++ cond (option_map_or (λ q. not (are_together (environment_of c.args.set.now.environment.now).target (listed_of c.args.own.now) q)) o false && ltb c.args.paragraph.now.number c.args.number) line []) c.in_default.ensures.listed
+    ∙ ap (λ o. c.args.out.now.items ++ cond (option_map_or (λ q. not (are_together (environment_of c.args.set.now.environment.now).native (listed_of c.args.own.now) q)) o false && ltb c.args.paragraph.now.number c.args.number) line []) c.in_default.ensures.listed
 
 pub returns-else-not-are_together : goal.returns-else-not-are_together
 returns-else-not-are_together c = rw (sym c.in-Some.ensures.listed) (search rules)

@@ -21,8 +21,8 @@ returns c = λ fields values holds.
     let p : Paragraph = record { asked = Packages strength; number = number; texts = record { ref_ptr = (0, 0); now = c.line_texts.result } } in
     let v = c.line_texts.result.version.now in
     let needs : List ℕ → List ℕ = λ version. paragraph_lines (Packages strength) environment packages number version values in
-    let excludes : List ℕ → List ℕ = λ h. exclusion_lines (environment_for (Packages strength) environment values) environment.target packages h values in
-    let repeats : List ℕ → List ℕ = λ h. duplicate_lines environment.target packages h number in
+    let excludes : List ℕ → List ℕ = λ h. exclusion_lines (environment_for (Packages strength) environment values) environment.native packages h values in
+    let repeats : List ℕ → List ℕ = λ h. duplicate_lines environment.native packages h number in
     let h = heading_in p in
     let first = c.in_ok-append_lines.ensures values texts in
     let second = c.in_ok-append_negatives.ensures fields values texts holds refl in

@@ -26,7 +26,7 @@ returns c = λ fields values has holds asked.
     let one : Environment → List ℕ → List ℕ → List ℕ → List ℕ = λ e t n field. flat_map (group_lines e t (packages_of c.args.set.now.index.now) n (heading_in paragraph) field) (groups_of (value_under field values)) in
     let all : Environment → List ℕ → List ℕ → List ℕ = λ e t n. out ++ (one e t n (codes "Conflicts") ++ (one e t n (codes "Breaks") ++ [])) in
     let e = environment_of c.own_or-environment.result.now in
-    let t = c.target.result.now in
+    let t = c.native.result.now in
     let n = paragraph.texts.now.name.now in
     let first = c.in_ok-append_exclusions.ensures (groups_of (value_under (codes "Conflicts") values)) holds.conflicts.regular (c.deref.ensures.value ∙ holds.conflicts.is) in
     on_ok
@@ -36,7 +36,7 @@ returns c = λ fields values has holds asked.
     ∙ append_assoc out (one e t n (codes "Conflicts")) (one e t n (codes "Breaks"))
     ∙ ap (λ l. out ++ (one e t n (codes "Conflicts") ++ l)) (sym (append-nil (one e t n (codes "Breaks"))))
     ∙ ap (λ x. all x t n) own
-    ∙ ap (λ x. all (environment_for (Packages c.args.set.now.strength) environment values) x n) c.target.ensures
-    ∙ ap (λ x. all (environment_for (Packages c.args.set.now.strength) environment values) environment.target x) name)
+    ∙ ap (λ x. all (environment_for (Packages c.args.set.now.strength) environment values) x n) c.native.ensures
+    ∙ ap (λ x. all (environment_for (Packages c.args.set.now.strength) environment values) environment.native x) name)
     c.append_exclusions-2.result
     (c.append_exclusions-2.ensures (groups_of (value_under (codes "Breaks") values)) holds.breaks.regular (c.deref-2.ensures.value ∙ holds.breaks.is))

@@ -1,0 +1,98 @@
+-- A package is installable exactly if its number is in a set that is healthy by rows.
+use Rattle.std.proofs.Common.{◌≡◌, ℕ, ◌+◌, ◌<◌, ◌≤◌, ltb, Bool, true, false, ◌&&◌, List, length, refl, sym, ◌∙◌, arith}
+use Rattle.std.proofs.lemmas.Bool.{and_from, and_parts, lt-ltb, ltb-true}
+use Rattle.deb_relation.specs.Applying.{Environment}
+use Rattle.deb_control.specs.Documents.{Meaning}
+use Rattle.deb_control.specs.Pairs.{Pairwise}
+use Rattle.deb_control.proofs.GivenValues.{pairwise-length}
+use Rattle.deb_index.specs.Listed.{Listed}
+use Rattle.deb_index.specs.Listing.{Lists}
+use Rattle.deb_unmet.specs.declared.asked.Strength.{Strength}
+use Rattle.deb_install.specs.Installable.{IsInstallable, is_healthy_in}
+use Rattle.deb_install.specs.Laws.{RowsDecide, StoredRowsDecide}
+use Rattle.deb_install.specs.Members.{HasHealthySet, IsHealthyByRows}
+use Rattle.deb_install.specs.Rows.{AreRowsOf}
+use Rattle.deb_install.specs.declared.readings.Readings.{Readings}
+use Rattle.deb_install.proofs.HealthyRows.{healthy_by_rows, healthy_from_rows}
+use Rattle.deb_install.proofs.ListedNumbers.{exclusions-listed}
+use Rattle.deb_install.proofs.StoredRows.{healthy-stored, stored-healthy}
+use Rattle.deb_install.proofs.Sets.{members-same}
+
+-- the numbers of a set that name one of so many packages
+abbrev only : ℕ → (ℕ → Bool) → ℕ → Bool
+only count set number = set number && (ltb 0 number && ltb number (count + 1))
+
+and-true : (b v : Bool) → v ≡ true → b ≡ (b && v)
+and-true true v is = sym is
+and-true false v is = refl
+
+only-same : (count : ℕ) (set : ℕ → Bool) (size : ℕ) → size ≡ count → (i : ℕ) → i < size → only count set (1 + i) ≡ set (1 + i)
+only-same count set size are i within =
+    let some : 0 < 1 + i = omega arith in
+    let below : 1 + i < count + 1 = omega (arith, within, are) in
+    sym (and-true (set (1 + i)) (ltb 0 (1 + i) && ltb (1 + i) (count + 1)) (and_from (ltb 0 (1 + i)) (ltb (1 + i) (count + 1)) (lt-ltb 0 (1 + i) some) (lt-ltb (1 + i) (count + 1) below)))
+
+only-listed : (count : ℕ) (set : ℕ → Bool) (number : ℕ) → only count set number ≡ true → (1 ≤ number) × (number ≤ count)
+only-listed count set number is =
+    let bounds = and_parts (ltb 0 number) (ltb number (count + 1)) (and_parts (set number) (ltb 0 number && ltb number (count + 1)) is).1 in
+    let some = ltb-true 0 number bounds.0 in
+    let below = ltb-true number (count + 1) bounds.1 in
+    (omega (arith, some), omega (arith, below))
+
+module _ (readings : Readings) (strength : Strength) (environment : Environment) (packages : List Listed) (meaning : Meaning) (needs : ℕ → List (List ℕ)) (excludes : ℕ → List ℕ) (lists : Pairwise Lists meaning packages) (rows : AreRowsOf readings strength environment packages meaning needs excludes) where
+  pub installable_by_rows : (number : ℕ) → IsInstallable readings strength environment packages meaning number → HasHealthySet (length packages) needs excludes number
+  installable_by_rows number installable =
+      let count = length packages in
+      let set = installable.set in
+      let long : length meaning ≡ count = sym (pairwise-length Lists meaning packages lists) in
+      let same = members-same (only count set) set 1 packages (only-same count set (length packages) refl) in
+      let alike = members-same (only count set) set 1 meaning (only-same count set (length meaning) long) in
+      let some : 0 < number = omega (arith, installable.listed.0) in
+      let below : number < count + 1 = omega (arith, installable.listed.1) in
+      record {
+        set = only count set;
+        contains = and_from (set number) (ltb 0 number && ltb number (count + 1)) installable.contains
+            (and_from (ltb 0 number) (ltb number (count + 1)) (lt-ltb 0 number some) (lt-ltb number (count + 1) below));
+        listed = only-listed count set;
+        healthy = healthy_by_rows readings strength environment packages meaning needs excludes rows (only count set) lists
+            ((λ i. is_healthy_in readings strength environment (same i) (alike i)) ∙ installable.healthy);
+      }
+
+  pub installable_from_rows : (number : ℕ) → HasHealthySet (length packages) needs excludes number → IsInstallable readings strength environment packages meaning number
+  installable_from_rows number healthy = record {
+    set = healthy.set;
+    contains = healthy.contains;
+    listed = healthy.listed number healthy.contains;
+    healthy = healthy_from_rows readings strength environment packages meaning needs excludes rows healthy.set lists healthy.healthy;
+  }
+
+pub rows_decide : RowsDecide
+rows_decide readings strength environment packages meaning needs excludes lists rows = record {
+  healthy = λ set. healthy_by_rows readings strength environment packages meaning needs excludes rows set lists;
+  is_healthy = λ set. healthy_from_rows readings strength environment packages meaning needs excludes rows set lists;
+  installable = installable_by_rows readings strength environment packages meaning needs excludes lists rows;
+  is_installable = installable_from_rows readings strength environment packages meaning needs excludes lists rows;
+}
+
+module _ (count : ℕ) (needs : ℕ → List (List ℕ)) (excludes : ℕ → List ℕ) (rows : ℕ → List (List ℕ)) (both : ℕ → List ℕ) (number : ℕ) where
+  healthy-set : ((set : ℕ → Bool) → IsHealthyByRows count needs excludes set → IsHealthyByRows count rows both set) → HasHealthySet count needs excludes number → HasHealthySet count rows both number
+  healthy-set each has = record {
+    set = has.set;
+    contains = has.contains;
+    listed = has.listed;
+    healthy = each has.set has.healthy;
+  }
+
+pub stored_rows_decide : StoredRowsDecide
+stored_rows_decide readings strength environment packages meaning needs excludes lists are_rows rows both stored =
+    let count = length packages in
+    let decided = rows_decide readings strength environment packages meaning needs excludes lists are_rows in
+    let listed = exclusions-listed readings strength environment packages meaning needs excludes are_rows (sym (pairwise-length Lists meaning packages lists)) in
+    let to = stored-healthy count needs excludes rows both listed stored in
+    let from = healthy-stored count needs excludes rows both listed stored in
+    record {
+      healthy = λ set healthy. to set (decided.healthy set healthy);
+      is_healthy = λ set healthy. decided.is_healthy set (from set healthy);
+      installable = λ number installable. healthy-set count needs excludes rows both number to (decided.installable number installable);
+      is_installable = λ number has. decided.is_installable number (healthy-set count rows both needs excludes number from has);
+    }

@@ -1,0 +1,115 @@
+-- What is known of whether each package can be installed, and its lines. This project's own.
+use Rattle.std.specs.Prelude.{◌≡◌, ℕ, ◌+◌, ◌==◌, ◌≤◌, cond, List, [], ◌∷◌, ◌++◌, length, map, Some, codes, refl}
+use Rattle.std.specs.Fmt.{digits}
+use Rattle.std.specs.List.{slice_get, slice_index_or}
+use Rattle.deb_control.specs.Documents.{Meaning}
+use Rattle.deb_health.specs.Lines.{listed}
+use Rattle.deb_index.specs.Listed.{Listed}
+use Rattle.deb_index.specs.ReportText.{canonical_version, package_line}
+use Rattle.deb_index.specs.Reports.{Numbered}
+use Rattle.deb_relation.specs.Applying.{Environment}
+use Rattle.deb_solve.specs.declared.verdict.Verdict.{Verdict}
+use Rattle.deb_solve.specs.declared.verdict.Verdict.TheVariants as solved
+use Rattle.deb_unmet.specs.declared.asked.Strength.{Strength}
+use Rattle.deb_install.specs.Installable.{IsInstallable}
+use Rattle.deb_install.specs.declared.answer.Answer.{Answer}
+use Rattle.deb_install.specs.declared.answer.Answer.TheVariants.{Installable, Uninstallable, Unsure, Undecided}
+use Rattle.deb_install.specs.declared.readings.Readings.{Readings}
+use Rattle.deb_install.specs.declared.readings.Readings.TheVariants.{Every, One}
+
+-- What an answer says of a package. `Undecided` says nothing.
+abbrev pub Says : Answer → Strength → Environment → List Listed → Meaning → ℕ → Type 0
+Says Installable strength environment packages meaning number =
+    IsInstallable Every strength environment packages meaning number
+Says Uninstallable strength environment packages meaning number =
+    IsInstallable One strength environment packages meaning number → ⊥
+Says Unsure strength environment packages meaning number =
+    IsInstallable One strength environment packages meaning number
+    × (IsInstallable Every strength environment packages meaning number → ⊥)
+Says Undecided strength environment packages meaning number = Unit {0}
+
+-- An answer of each package, by its number, is true.
+abbrev pub AreAnswers : Strength → Environment → List Listed → Meaning → (ℕ → Answer) → Type 0
+AreAnswers strength environment packages meaning answer =
+    (number : ℕ) → 1 ≤ number → number ≤ length packages
+    → Says (answer number) strength environment packages meaning number
+
+-- `WORD NUMBER PACKAGE VERSION ARCHITECTURE`; an installable package has no line
+abbrev pub answer_line : Answer → Numbered → List ℕ
+answer_line Installable p = []
+answer_line Uninstallable p = codes "uninstallable" ++ package_line canonical_version p
+answer_line Unsure p = codes "unsure" ++ package_line canonical_version p
+answer_line Undecided p = codes "undecided" ++ package_line canonical_version p
+
+-- the lines of these packages, of which the first has this number
+abbrev pub lines_from : (ℕ → Answer) → ℕ → List Listed → List ℕ
+lines_from answer n [] = []
+lines_from answer n (p ∷ packages) =
+    answer_line (answer n) (n, p) ++ lines_from answer (n + 1) packages
+
+-- the lines of all packages, in their order
+abbrev pub answer_lines : (ℕ → Answer) → List Listed → List ℕ
+answer_lines answer packages = lines_from answer 1 packages
+
+-- Of packages with such numbers verdicts in these readings are true.
+pub record AreVerdictsIn (readings : Readings) (strength : Strength) (environment : Environment)
+    (packages : List Listed) (meaning : Meaning) (verdicts : List Verdict) : Type 0 where
+  pub yes : (number : ℕ) → 1 ≤ number → number ≤ length packages
+      → slice_get verdicts number ≡ Some solved.Installable
+      → IsInstallable readings strength environment packages meaning number
+  pub no : (number : ℕ) → 1 ≤ number → number ≤ length packages
+      → slice_get verdicts number ≡ Some solved.Uninstallable
+      → IsInstallable readings strength environment packages meaning number → ⊥
+
+-- the answer by the verdict in every reading and, if that is no, by the one in one reading
+abbrev pub answer_by : Verdict → Verdict → Answer
+answer_by solved.Installable one = Installable
+answer_by solved.Undecided one = Undecided
+answer_by solved.Uninstallable solved.Installable = Unsure
+answer_by solved.Uninstallable solved.Uninstallable = Uninstallable
+answer_by solved.Uninstallable solved.Undecided = Undecided
+
+abbrev pub answer_at : List Verdict → List Verdict → ℕ → Answer
+answer_at every one number =
+    answer_by (slice_index_or every number solved.Undecided)
+    (slice_index_or one number solved.Undecided)
+
+-- This text has the lines of true answers.
+pub record HasAnswers (strength : Strength) (environment : Environment) (packages : List Listed)
+    (meaning : Meaning) (text : List ℕ) : Type 0 where
+  pub answer : ℕ → Answer
+  pub are_true : AreAnswers strength environment packages meaning answer
+  pub is : text ≡ answer_lines answer packages
+
+abbrev bb : Numbered
+bb = (7, listed (codes "bb") (codes "1.0-0") (codes "amd64"))
+
+worked-lines : map (λ answer. answer_line answer bb)
+    (Installable ∷ Uninstallable ∷ Unsure ∷ Undecided ∷ [])
+    ≡ [] ∷ codes "uninstallable 7 bb 1.0 amd64\n" ∷ codes "unsure 7 bb 1.0 amd64\n"
+    ∷ codes "undecided 7 bb 1.0 amd64\n" ∷ []
+unfolding digits
+worked-lines = refl
+
+-- the second package alone has a line, under its number
+abbrev only : ℕ → Answer
+only number = cond (number == 2) Uninstallable Installable
+
+worked-all : answer_lines only (listed (codes "aa") (codes "1") (codes "all")
+    ∷ listed (codes "bb") (codes "2") (codes "all") ∷ [])
+    ≡ codes "uninstallable 2 bb 2 all\n"
+unfolding digits
+worked-all = refl
+
+worked-answers : map (λ every. map (answer_by every)
+    (solved.Installable ∷ solved.Uninstallable ∷ solved.Undecided ∷ []))
+    (solved.Installable ∷ solved.Uninstallable ∷ solved.Undecided ∷ [])
+    ≡ (Installable ∷ Installable ∷ Installable ∷ [])
+    ∷ (Unsure ∷ Uninstallable ∷ Undecided ∷ [])
+    ∷ (Undecided ∷ Undecided ∷ Undecided ∷ []) ∷ []
+worked-answers = refl
+
+-- of a package without verdicts nothing is known
+worked-at : map (answer_at (solved.Installable ∷ solved.Uninstallable ∷ [])
+    (solved.Installable ∷ [])) (0 ∷ 1 ∷ 2 ∷ []) ≡ Installable ∷ Undecided ∷ Undecided ∷ []
+worked-at = refl

@@ -1,0 +1,14 @@
+pub mod Members
+pub mod Passing
+pub mod Installable
+pub mod Rows
+pub mod StoredRows
+pub mod Buildable
+pub mod NameMeanings
+pub mod Laws
+pub mod Building
+pub mod Candidates
+pub mod Keeping
+pub mod Universes
+pub mod Answers
+pub mod Installing

@@ -1,0 +1,131 @@
+//! What is known of whether each package can be installed, and its line.
+
+ghost use Rattle.std.specs.Prelude.{◌≡◌, ◌++◌, ◌<◌, ◌^◌, ◌-◌, length, slice_index_or, IfOk, OnOk};
+ghost use Rattle.deb_index.specs.Indexes.{packages_of};
+ghost use Rattle.deb_index.specs.Kept.{listed_of};
+ghost use Rattle.deb_index.specs.ReportText.{canonical_version, package_line};
+ghost use Rattle.deb_health.specs.Lines.{line_at};
+ghost use Rattle.deb_solve.specs.declared.verdict.Verdict.TheVariants as solved;
+ghost use Rattle.deb_install.specs.Answers.{answer_at, answer_by, answer_line, answer_lines};
+
+use deb_index::{Index, Package};
+use deb_solve::Verdict;
+use deb_unmet::append_spaced;
+use itoa::Buffer;
+use std::alloc::{AllocError, Global};
+
+/// What is known of whether a package can be installed.
+#[derive(Clone, Copy, Debug, PartialEq, Eq)]
+pub enum Answer {
+    /// In every reading of architecture lists a healthy set contains it.
+    Installable,
+    /// In no reading a healthy set contains it.
+    Uninstallable,
+    /// A healthy set contains it in one reading, and not in every one.
+    Unsure,
+    /// Nothing: the budget was spent.
+    Undecided,
+}
+
+/// Returns the lines of the packages of an index, by verdicts in every reading and in one.
+pub(crate) fn lines_of(
+    alloc: Global,
+    index: &Index,
+    every: &[Verdict],
+    one: &[Verdict],
+) -> Result<Vec<u8>, AllocError>
+    ensures { IfOk result (λ text. text.items
+        ≡ answer_lines (answer_at every.now one.now) (packages_of index.now)) }
+{
+    let mut text = Vec::new(alloc);
+    for count in 0..index.len() {
+        let answer = answer_at(every, one, count + 1);
+        append_answer(&mut text, answer, index, count as u64 + 1)?;
+    }
+    Ok(text)
+}
+
+/// Returns the answer of the package with a number.
+fn answer_at(every: &[Verdict], one: &[Verdict], number: usize) -> Answer
+    ensures { result ≡ answer_at every.now one.now number }
+{
+    answer_by(verdict_at(every, number), verdict_at(one, number))
+}
+
+fn verdict_at(verdicts: &[Verdict], number: usize) -> Verdict
+    ensures { result ≡ slice_index_or «verdicts».now number solved.Undecided }
+{
+    match verdicts.get(number) {
+        Some(verdict) => *verdict,
+        None => Verdict::Undecided,
+    }
+}
+
+/// Returns the answer by the verdict in every reading and the one in one reading.
+fn answer_by(every: Verdict, one: Verdict) -> Answer
+    ensures { result ≡ answer_by every one }
+{
+    match every {
+        Verdict::Installable => Answer::Installable,
+        Verdict::Undecided => Answer::Undecided,
+        Verdict::Uninstallable => match one {
+            Verdict::Installable => Answer::Unsure,
+            Verdict::Uninstallable => Answer::Uninstallable,
+            Verdict::Undecided => Answer::Undecided,
+        },
+    }
+}
+
+/// Appends the line of the package with this number, if it has one.
+fn append_answer(
+    out: &mut Vec<u8>,
+    answer: Answer,
+    index: &Index,
+    number: u64,
+) -> Result<(), AllocError>
+    ensures { OnOk result (out.new.items
+        ≡ out.old.items ++ line_at (answer_line answer) (packages_of index.now) number) }
+{
+    match index.package(number) {
+        Some(package) => append_line(out, answer, number, &package),
+        None => Ok(()),
+    }
+}
+
+/// Appends the line of a package, if it has one.
+fn append_line(
+    out: &mut Vec<u8>,
+    answer: Answer,
+    number: u64,
+    package: &Package<'_>,
+) -> Result<(), AllocError>
+    ensures { OnOk result (out.new.items
+        ≡ out.old.items ++ answer_line answer (number, listed_of «package».now)) }
+{
+    match answer {
+        Answer::Installable => Ok(()),
+        Answer::Uninstallable => append_with(out, b"uninstallable", number, package),
+        Answer::Unsure => append_with(out, b"unsure", number, package),
+        Answer::Undecided => append_with(out, b"undecided", number, package),
+    }
+}
+
+/// Appends a line that begins with a word.
+fn append_with(
+    out: &mut Vec<u8>,
+    word: &[u8],
+    number: u64,
+    package: &Package<'_>,
+) -> Result<(), AllocError>
+    ensures { OnOk result (out.new.items ≡ out.old.items
+        ++ (word.now ++ package_line canonical_version (number, listed_of «package».now))) }
+{
+    let mut buffer = Buffer::new();
+    out.extend_from_slice(word)?;
+    append_spaced(out, buffer.format(number).as_bytes())?;
+    append_spaced(out, package.name())?;
+    append_spaced(out, package.version())?;
+    append_spaced(out, package.architecture())?;
+    out.push(b'\n')?;
+    Ok(())
+}

@@ -1,0 +1,31 @@
+//! Which packages of an index can be installed (Debian Policy 7.2 to 7.5).
+//!
+//! A set of packages is healthy if what each of them depends on is in the set, and none excludes
+//! another. A package is installable if a healthy set contains it.
+//!
+//! ```text
+//! let environment = Env::new(alloc, b"amd64", &[])?;
+//! let request = InstallRequest { members: Members::All, strength: Strength::Depends, budget };
+//! let summary = installable(alloc, &environment, request, &mut packages, &mut writer)?;
+//! summary.is_empty; // no line was written: each package can be installed
+//! ```
+//!
+//! - A package without a line is installable, and one that is `uninstallable` isn't.
+//! - The set of a package is found by its number, over rows of numbers that are proved to be what
+//!   the packages need and exclude.
+//! - `specs/` defines what is installable; `laws` has the theorems about these definitions.
+#![tactic(auto)]
+
+mod answer;
+mod exclusions;
+mod groups;
+mod kept;
+pub mod laws;
+mod needs;
+mod readings;
+mod universe;
+mod verdicts;
+
+pub use answer::Answer;
+pub use readings::Readings;
+pub use verdicts::{InstallRequest, installable};

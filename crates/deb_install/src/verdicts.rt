@@ -1,0 +1,213 @@
+//! Writes which packages of a file can't be installed.
+
+ghost use Rattle.std.specs.Prelude.{◌≡◌, ℕ, List, length, Some, IfOk, IfErr};
+ghost use Rattle.std.specs.List.{filter};
+ghost use Rattle.deb_base.specs.Bodies.{file_limit};
+ghost use Rattle.deb_base.specs.Devices.{read_failures_after, write_failures_after, ReadFaultIffFailed, WriteFaultIffFailed};
+ghost use Rattle.deb_base.specs.Reading.{TakesNoMore};
+ghost use Rattle.deb_control.specs.Calls.{IfRefused};
+ghost use Rattle.deb_control.specs.Checking.{IsRefusalOfDocument};
+ghost use Rattle.deb_control.specs.Documents.{Meaning, refusal_of};
+ghost use Rattle.deb_control.specs.Pairs.{Pairwise};
+ghost use Rattle.deb_index.specs.Indexes.{packages_of};
+ghost use Rattle.deb_index.specs.Listing.{Lists};
+ghost use Rattle.deb_index.specs.Members.{KeepsMembers, ListsMembers, doc_of};
+ghost use Rattle.deb_relation.specs.Environments.{environment_of};
+ghost use Rattle.deb_unmet.specs.Asking.{IsWritersFault};
+ghost use Rattle.deb_unmet.specs.Files.{is_nothing};
+ghost use Rattle.deb_install.specs.Answers.{AreVerdictsIn, HasAnswers};
+ghost use Rattle.deb_install.specs.Installing.{StopsAnswers, WritesAnswers, asks_installable};
+ghost use Rattle.deb_install.specs.Keeping.{HoldsGiven, HoldsValues};
+ghost use Rattle.deb_install.specs.declared.readings.Readings.TheVariants.{Every, One};
+
+use crate::answer::lines_of;
+use crate::kept::KeptMembers;
+use crate::readings::Readings;
+use crate::universe::{Listing, universe_of};
+use deb_base::{Fault, Sink, Source, put_all};
+use deb_health::Kept;
+use deb_index::{Index, Members};
+use deb_relation::Env;
+use deb_solve::{Budget, Verdict, solve};
+use deb_unmet::{Strength, Summary};
+use std::alloc::{AllocError, Global};
+
+/// Which packages of a file are asked, and how long the search may take.
+#[derive(Clone, Copy)]
+pub struct InstallRequest {
+    /// Which paragraphs of the file are its packages.
+    pub members: Members,
+    /// Which relations a package needs.
+    pub strength: Strength,
+    /// How long each of the two searches may take: in every reading, and in one.
+    pub budget: Budget,
+}
+
+/// Reads an index or the installed packages of a status file once, and writes a line for each
+/// package that can't be installed (Debian Policy 7.2 to 7.5): no healthy set of the file's
+/// packages contains it.
+///
+/// - `uninstallable`: it can't be installed, however architecture lists are read.
+/// - `unsure`: it can be installed in one reading, and not in every one.
+/// - `undecided`: the budget was spent before the search found out.
+///
+/// The word is followed by the number, the name, the version and the architecture of the package.
+/// The number counts the packages from 1. The lines are in the order of the packages. A package
+/// without a line can be installed in every reading.
+///
+/// At most 4,295,032,831 bytes are read: a file of the most bytes, and one piece. Promises about
+/// the text of the file hold for a reader whose bytes are known.
+///
+/// # Errors
+///
+/// - `Fault::Refused`: the file isn't accepted. This is its first refusal, with a code from 1 to 21
+///   and a line of the file, counted from 1. Nothing was written.
+/// - `Fault::Read`: a read failed in this call. Nothing was written.
+/// - `Fault::Memory`: a growth of memory was refused. Nothing was written.
+/// - `Fault::Write`: a write failed in this call. A prefix of the lines of an accepted file was
+///   written.
+pub fn installable<R: Source, W: Sink>(
+    alloc: Global,
+    environment: &Env,
+    request: InstallRequest,
+    reader: &mut R,
+    writer: &mut W,
+) -> Result<Summary, Fault>
+    ensures ok { (text : List ℕ) → R.left reader.old ≡ Some text
+        → IfOk result (λ summary. WritesAnswers (asks_installable request.members request.strength
+        (environment_of environment.now)) text summary (W.held writer.old) (W.held writer.new)) }
+    ensures refused { (text : List ℕ) → R.left reader.old ≡ Some text
+        → IfRefused result (λ refusal. refusal_of (doc_of request.members) text ≡ Some refusal) }
+    ensures stopped { (text : List ℕ) → R.left reader.old ≡ Some text
+        → IfErr result (λ fault. StopsAnswers fault (asks_installable request.members
+        request.strength (environment_of environment.now)) text (W.held writer.old)
+        (W.held writer.new)) }
+    ensures reads_at_most { (text : List ℕ) → R.left reader.old ≡ Some text
+        → TakesNoMore text file_limit (R.left reader.new) }
+
+    // Whether or not the reader's bytes are known.
+    ensures unwritten { IfRefused result (λ _. writer.new ≡ writer.old) }
+    ensures refusal { IfRefused result IsRefusalOfDocument }
+    ensures counts_read_failure { R.failures reader.new ≡ read_failures_after
+        (R.failures reader.old) result }
+    ensures counts_write_failure { W.failures writer.new ≡ write_failures_after
+        (W.failures writer.old) result }
+    ensures fault_iff_read_failed { ReadFaultIffFailed (R.failures reader.old)
+        (R.failures reader.new) result }
+    ensures fault_iff_write_failed { WriteFaultIffFailed (W.failures writer.old)
+        (W.failures writer.new) result }
+{
+    let mut kept = KeptMembers::new(alloc);
+    let index = Index::read_members(alloc, reader, request.members, &mut kept)?;
+    write_answers(alloc, &index, environment, request, &kept.members, writer)
+}
+
+/// Writes the lines of the packages of an index, of which this is kept.
+///
+/// # Errors
+///
+/// Out of memory: nothing was written. `Fault::Write`: a prefix was.
+fn write_answers<W: Sink>(
+    alloc: Global,
+    index: &Index,
+    environment: &Env,
+    request: InstallRequest,
+    kept: &[Kept],
+    writer: &mut W,
+) -> Result<Summary, Fault>
+    ensures ok { (text : List ℕ) → ListsMembers request.members text (packages_of index.now)
+        → KeepsMembers request.members (HoldsGiven request.members kept.now) text
+        → IfOk result (λ summary. WritesAnswers (asks_installable request.members request.strength
+        (environment_of environment.now)) text summary (W.held writer.old) (W.held writer.new)) }
+    ensures stopped { (text : List ℕ) → ListsMembers request.members text (packages_of index.now)
+        → KeepsMembers request.members (HoldsGiven request.members kept.now) text
+        → IfErr result (λ fault. StopsAnswers fault (asks_installable request.members
+        request.strength (environment_of environment.now)) text (W.held writer.old)
+        (W.held writer.new)) }
+    ensures counts_failure { W.failures writer.new ≡ write_failures_after
+        (W.failures writer.old) result }
+    ensures fault { IsWritersFault result }
+{
+    let text = text_of(alloc, index, environment, request, kept)?;
+    put_all(writer, &text)?;
+    Ok(Summary {
+        paragraphs: index.len() as u64,
+        is_empty: is_nothing(&text),
+    })
+}
+
+fn is_nothing(text: &[u8]) -> bool
+    ensures { result ≡ is_nothing text.now }
+{
+    text.is_empty()
+}
+
+/// Returns the lines of the packages of an index, of which this is kept.
+fn text_of(
+    alloc: Global,
+    index: &Index,
+    environment: &Env,
+    request: InstallRequest,
+    kept: &[Kept],
+) -> Result<Vec<u8>, AllocError>
+    ensures { (meaning : Meaning) → Pairwise HoldsValues meaning kept.now
+        → Pairwise Lists meaning (packages_of index.now) → IfOk result (λ text. HasAnswers
+        request.strength (environment_of environment.now) (packages_of index.now) meaning
+        text.items) }
+{
+    let listing = Listing {
+        index,
+        environment,
+        strength: request.strength,
+        readings: Readings::Every,
+    };
+    let every = verdicts_of(alloc, &listing, kept, request.budget)?;
+    let listing = Listing {
+        readings: Readings::One,
+        ..listing
+    };
+    let one = verdicts_if(alloc, &listing, kept, request.budget, &every)?;
+    lines_of(alloc, index, &every, &one)
+}
+
+/// Returns a verdict for each package, by its number, in the readings of a listing.
+fn verdicts_of(
+    alloc: Global,
+    listing: &Listing<'_>,
+    kept: &[Kept],
+    budget: Budget,
+) -> Result<Vec<Verdict>, AllocError>
+    ensures { (meaning : Meaning) → Pairwise HoldsValues meaning kept.now
+        → Pairwise Lists meaning (packages_of listing.now.index.now) → IfOk result (λ verdicts.
+        AreVerdictsIn listing.now.readings listing.now.strength
+        (environment_of listing.now.environment.now) (packages_of listing.now.index.now) meaning
+        verdicts.items) }
+{
+    let universe = universe_of(alloc, listing, kept)?;
+    solve(alloc, &universe, budget)
+}
+
+/// Returns such verdicts, if a package isn't installable by other ones; else none, and no search.
+fn verdicts_if(
+    alloc: Global,
+    listing: &Listing<'_>,
+    kept: &[Kept],
+    budget: Budget,
+    others: &[Verdict],
+) -> Result<Vec<Verdict>, AllocError>
+    ensures { (meaning : Meaning) → Pairwise HoldsValues meaning kept.now
+        → Pairwise Lists meaning (packages_of listing.now.index.now) → IfOk result (λ verdicts.
+        AreVerdictsIn listing.now.readings listing.now.strength
+        (environment_of listing.now.environment.now) (packages_of listing.now.index.now) meaning
+        verdicts.items) }
+{
+    if others.iter().any(is_uninstallable) {
+        verdicts_of(alloc, listing, kept, budget)
+    } else {
+        Ok(Vec::new(alloc))
+    }
+}
+
+fn is_uninstallable(verdict: &Verdict) -> bool {
+    *verdict == Verdict::Uninstallable
+}

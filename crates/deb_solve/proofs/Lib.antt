@@ -1,0 +1,5 @@
+pub mod Deriving
+pub mod Healthy
+pub mod Marked
+pub mod RowsKept
+pub mod Verdicts
