@@ -79,7 +79,11 @@ impl Env {
         let native = Vec::from_slice(alloc, target)?;
         let target = Vec::from_slice(alloc, target)?;
         let profiles = copies_of(alloc, profiles)?;
-        Ok(Env { target, native, profiles })
+        Ok(Env {
+            target,
+            native,
+            profiles,
+        })
     }
 
     /// Copies the environment with another target, and the same native architecture.
@@ -105,7 +109,11 @@ impl Env {
         let target = Vec::from_slice(alloc, target)?;
         let native = Vec::from_slice(alloc, &self.native)?;
         let profiles = copies_again(alloc, &self.profiles)?;
-        Ok(Env { target, native, profiles })
+        Ok(Env {
+            target,
+            native,
+            profiles,
+        })
     }
 
     /// Returns the target architecture.
