@@ -14,6 +14,7 @@ use crate::all_jobs::run_check_all;
 use crate::diff_job::{DiffOptions, form_asked, run_diff};
 use crate::document_jobs::{run_check, run_normalise};
 use crate::health_job::{SetAsked, run_healthy};
+use crate::install_job::{InstallAsked, run_installable};
 use crate::query_from::run_query_from;
 use crate::query_job::{QueryOptions, QueryWords, index_members, run_query};
 use crate::same_job::run_same;
@@ -171,6 +172,19 @@ fn run_job<R: Source, S: Source, W: Sink, E: Sink>(
                 strength: *strength,
             };
             run_healthy(alloc, arch.as_str(), set, first, out, err)
+        }
+        Job::Installable {
+            arch,
+            members,
+            strength,
+            budget,
+        } => {
+            let asked = InstallAsked {
+                members: index_members(*members),
+                strength: *strength,
+                budget: *budget,
+            };
+            run_installable(alloc, arch.as_str(), asked, first, out, err)
         }
         Job::Diff { .. } | Job::Query { .. } | Job::QueryFrom { .. } => {
             run_in_detail(alloc, job, first, second, out, err)
