@@ -65,3 +65,13 @@ pub returns-in-Healthy-clause-reports_answer : goal.returns-in-Healthy-clause-re
 returns-in-Healthy-clause-reports_answer g c =
     let second = reader_of (g.S.Source.left c.args.second.now) (g.S.Source.failures c.args.second.now) (g.S.Source.failures c.args.second.now) in
     reported_as c.args.job.now _ c.in-Healthy.is _ _ _ _ c.run_healthy.result (rw (c.as_str-in-Healthy.ensures.value, c.index_members.ensures) at (c.run_healthy.ensures.reports_answer second))
+
+pub returns-in-Installable-clause-first_untouched_if_refused : goal.returns-in-Installable-clause-first_untouched_if_refused
+returns-in-Installable-clause-first_untouched_if_refused g c =
+    subst (λ (asked : Job). IfRefusedWords asked (c.run_installable.new.first ≡ c.args.first.now)) (sym c.in-Installable.is)
+    (rw c.as_str-in-Installable.ensures.value at c.run_installable.ensures.first_untouched_if_refused)
+
+pub returns-in-Installable-clause-reports_answer : goal.returns-in-Installable-clause-reports_answer
+returns-in-Installable-clause-reports_answer g c =
+    let second = reader_of (g.S.Source.left c.args.second.now) (g.S.Source.failures c.args.second.now) (g.S.Source.failures c.args.second.now) in
+    reported_as c.args.job.now _ c.in-Installable.is _ _ _ _ c.run_installable.result (rw (c.as_str-in-Installable.ensures.value, c.index_members-in-Installable.ensures) at (c.run_installable.ensures.reports_answer second))
