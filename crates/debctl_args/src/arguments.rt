@@ -8,9 +8,10 @@ ghost use Rattle.debctl_args.specs.Fitting.{Answers, AnswersError, AnswersMet, I
 use crate::code_argument::code_named;
 use crate::commands::{command_of, debctl_command, kinds_help, row_named};
 use crate::found_arguments::{
-    all_given, budget_in, detail_in, diff_detail_in, end_in, extent_in, flag_in, given, has_input_beside,
-    index_in, is_standard_input_twice, kind_in, least_in, members_in, names_file, owned_texts,
-    packages_in, path_in, profiles_in, strength_in, version_text_in, versions_in, word_in,
+    all_given, budget_in, detail_in, diff_detail_in, end_in, extent_in, flag_in, given,
+    has_input_beside, index_in, is_standard_input_twice, kind_in, least_in, members_in, names_file,
+    owned_texts, packages_in, path_in, profiles_in, strength_in, version_text_in, versions_in,
+    word_in,
 };
 use crate::jobs::{Audit, Call, Demands, Dependents, DiffKind, Explain, Extent, Files, Job, Task};
 use crate::operator_argument::operator_named;

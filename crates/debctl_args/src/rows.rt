@@ -8,15 +8,16 @@ ghost use Rattle.debctl_args.specs.Commands.{row_in};
 
 use crate::arguments::{
     UsageFault, audit_task, canon_version_task, check_task, compare_task, diff_task, explain_task,
-    healthy_task, help_on, installable_task, query_task, same_task, sort_task, unmet_task, version_key_task,
+    healthy_task, help_on, installable_task, query_task, same_task, sort_task, unmet_task,
+    version_key_task,
 };
 use crate::found_arguments::{given, kind_in, path_in};
 use crate::jobs::{Call, Job, Task};
 use crate::options::{
-    ALL, ARCH, Argument, BUDGET, CODE, COMMAND, COMPLETE, DEPENDENTS, DIFF_KIND, FIRST, INDEX, INSTALLED,
-    KIND, LEAST, LEFT, LIST, NEW, NULL, OLD, OPERATOR, PATH, PATHS, PROFILES, QUERIED, RECOMMENDS,
-    RELATION, RELATION_FILE, RELATION_TEXT, REVERSE, RIGHT, SECOND, SPELLED, UNMET_KIND, VALUES,
-    VERSION, VERSION_TEXT, VERSIONS, WHY,
+    ALL, ARCH, Argument, BUDGET, CODE, COMMAND, COMPLETE, DEPENDENTS, DIFF_KIND, FIRST, INDEX,
+    INSTALLED, KIND, LEAST, LEFT, LIST, NEW, NULL, OLD, OPERATOR, PATH, PATHS, PROFILES, QUERIED,
+    RECOMMENDS, RELATION, RELATION_FILE, RELATION_TEXT, REVERSE, RIGHT, SECOND, SPELLED,
+    UNMET_KIND, VALUES, VERSION, VERSION_TEXT, VERSIONS, WHY,
 };
 use clap::ArgMatches;
 use std::alloc::Global;

@@ -1,5 +1,5 @@
--- What the job of `installable` answers and reports. Its lines are those of `deb_install`; the order
--- of refusals is this project's own.
+-- What the job of `installable` answers and reports. Its lines are those of `deb_install`; the
+-- order of refusals is this project's own.
 use Rattle.std.specs.Prelude.{◌≡◌, ◌⊎◌, ℕ, List, [], Some, Result, IfErr, IfOk, IsTrue}
 use Rattle.deb_base.specs.Devices.{read_failures_after, write_failures_after}
 use Rattle.deb_base.specs.declared.fault.Fault.{Fault}

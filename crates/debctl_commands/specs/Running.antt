@@ -149,8 +149,8 @@ IfSecondUnread (Unmet arch profiles members dependents versions) P =
     IsTrue (is_index dependents) → P
 IfSecondUnread _ P = P
 
--- A query, `unmet`, `healthy` or `installable` whose words are refused leaves the first reader as it
--- was.
+-- A query, `unmet`, `healthy` or `installable` whose words are refused leaves the first reader as
+-- it was.
 abbrev pub IfRefusedWords : Job → Type 0 → Type 0
 IfRefusedWords (Query arch profiles relation members detail versions) P =
     AreRefused (asked arch profiles relation) → P
