@@ -94,7 +94,23 @@ reports_of_jobs : ((promise (job.Check Source)).report tt ≡ by_status 0)
     × ((promise (installable 9)).report (record { paragraphs = 3; is_empty = true })
     ≡ by_status 0)
 reports_of_jobs = (
-  refl, refl, refl, refl, refl, refl, refl, refl, refl, refl, refl, refl, refl, refl, refl, refl)
+  refl,
+  refl,
+  refl,
+  refl,
+  refl,
+  refl,
+  refl,
+  refl,
+  refl,
+  refl,
+  refl,
+  refl,
+  refl,
+  refl,
+  refl,
+  refl,
+)
 
 -- whatever the budget, `installable` promises the same
 promises_of_budgets : (few many : ℕ) → promise (installable few) ≡ promise (installable many)

@@ -95,7 +95,6 @@ fn run_in_environment<R: Source, W: Sink, E: Sink>(
         strength: fields_tried(asked.strength),
         budget: Budget {
             one_search: asked.budget,
-            all_searches: asked.budget.saturating_mul(100),
         },
     };
     let answer = installable(alloc, environment, request, first, out);
