@@ -134,6 +134,12 @@ HasDetail (Query arch profiles relation members detail versions) = Unit {0}
 HasDetail (QueryFrom arch profiles members detail versions) = Unit {0}
 HasDetail _ = ⊥
 
+-- The job is on all packages of a file.
+abbrev pub IsOnPackages : Job → Type 0
+IsOnPackages (Healthy arch members strength) = Unit {0}
+IsOnPackages (Installable arch members strength budget) = Unit {0}
+IsOnPackages _ = ⊥
+
 -- Comparing two versions takes no memory.
 abbrev pub IfCompare : Job → Type 0 → Type 0
 IfCompare (Compare former operator latter) P = P
