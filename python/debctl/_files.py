@@ -278,9 +278,9 @@ def installable(
     recommends: bool = False,
     budget: int = 100_000,
 ) -> InstallReport:
-    """Finds which packages of a file can't be installed, for this architecture: no set of packages of
-    the file that is healthy, as `healthy` has it, contains them. Its lines are those that the program
-    `debctl installable` writes. `kind` and `recommends` are those of `healthy`.
+    """Finds which packages of a file can't be installed, for this architecture: no set of packages
+    of the file that is healthy, as `healthy` has it, contains them. Its lines are those that the
+    program `debctl installable` writes. `kind` and `recommends` are those of `healthy`.
 
         >>> import debctl
         >>> aa = "Package: aa\\nVersion: 1\\nArchitecture: all\\nDepends: bb\\nConflicts: cc\\n\\n"

@@ -104,8 +104,8 @@ class HealthReason(NamedTuple):
 
 class NotInstallable(NamedTuple):
     """A package that can't be installed, or may not be: its number, its name, its canonical version
-    and its architecture. An architecture wildcard decides about one that is "unsure"; of one that is
-    "undecided" the search took all its steps."""
+    and its architecture. An architecture wildcard decides about one that is "unsure"; of one that
+    is "undecided" the search took all its steps."""
 
     verdict: Literal["uninstallable", "unsure", "undecided"]
     number: int

@@ -7,8 +7,8 @@ mod printed;
 
 use debctl::{
     canonical, check, check_all, compare, diff, explain, explain_all, explain_relation,
-    explain_version, healthy, installable, key, normalise, paragraphs, query, query_why, relations, same,
-    spelled_relations, unmet, AllChecked, Asked, Compared, Error, Explanation, Index, Kind,
+    explain_version, healthy, installable, key, normalise, paragraphs, query, query_why, relations,
+    same, spelled_relations, unmet, AllChecked, Asked, Compared, Error, Explanation, Index, Kind,
     Members, ReadError, Reader, Refusal, Report, Version,
 };
 use printed::Printed;

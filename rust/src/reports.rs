@@ -1,5 +1,5 @@
-//! Which packages meet a relation, which relations of a file nothing meets, whether a set of packages
-//! is healthy, and which packages can't be installed.
+//! Which packages meet a relation, which relations of a file nothing meets, whether a set of
+//! packages is healthy, and which packages can't be installed.
 
 use crate::library::{self, Answer, Text};
 use crate::refusals::answered_of;
@@ -459,12 +459,12 @@ pub fn healthy(
     })
 }
 
-/// Finds which packages of a file can't be installed, for a target architecture: no set of packages of
-/// the file that is healthy, as [`healthy`] has it, contains them. The lines are those that the program
-/// `debctl installable` writes.
+/// Finds which packages of a file can't be installed, for a target architecture: no set of packages
+/// of the file that is healthy, as [`healthy`] has it, contains them. The lines are those that the
+/// program `debctl installable` writes.
 ///
-/// The search for one package takes at most `budget` steps, 100,000 without it. All searches take at
-/// most a hundred times as many, and at most 4,294,967,295.
+/// The search for one package takes at most `budget` steps, 100,000 if there is none. All searches
+/// take at most a hundred times as many, and at most 4,294,967,295.
 ///
 /// ```
 /// use debctl::{installable, InstallFault, Members};

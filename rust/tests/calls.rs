@@ -211,13 +211,7 @@ fn packages_that_cannot_be_installed_have_lines() -> Result<(), Error> {
         (Code::BadVersion, 2, Some("Version".to_owned()))
     );
     assert_eq!(
-        refused(installable(
-            Members::Installed,
-            false,
-            None,
-            "amd64",
-            index
-        )),
+        refused(installable(Members::Installed, false, None, "amd64", index)),
         (Code::MissingField, 1, Some("Status".to_owned()))
     );
     Ok(())
