@@ -83,10 +83,7 @@ pub extern "C" fn deb_installable(
 /// How long the search may take, if this is the most steps for one package.
 fn budget_of(steps: u32) -> Budget {
     let one_search = if steps == 0 { STEPS } else { steps };
-    Budget {
-        one_search,
-        all_searches: one_search.saturating_mul(100),
-    }
+    Budget { one_search }
 }
 
 /// The lines of the packages of a file in memory, and its summary. Else a refusal: of the target;
