@@ -377,8 +377,8 @@ struct deb_answer deb_healthy(uint8_t kind, uint8_t recommends,
  * `uninstallable`, or `unsure` if an architecture wildcard decides it, or `undecided` if the search took
  * all its steps. They are the lines that the program `debctl installable` writes. `kind` and
  * `recommends` are those of deb_healthy, and numbers count the packages that `kind` means. `budget` is
- * the most steps of the search for one package; 0 means 100,000. All searches take at most a hundred
- * times as many, and at most 4,294,967,295.
+ * the most steps of the search for one package; 0 means 100,000. All searches take at most so
+ * many, and 100 for each package.
  * DEB_YES: there is no line, each package can be installed; DEB_NO: there is one; both with the number
  * of packages. DEB_REFUSED: the target (DEB_BAD_ENVIRONMENT) or the file, in this order; DEB_NO_ROOM;
  * DEB_NO_MEMORY; DEB_NO_KIND: `kind` is neither DEB_PACKAGES nor DEB_STATUS. */

@@ -293,7 +293,7 @@ def installable(
         [('uninstallable', 1, 'aa')]
 
     The search for one package takes at most `budget` steps, from 1 to 4294967295, and all searches
-    take at most a hundred times as many.
+    take at most so many, and 100 for each package.
 
     Raises Refused if the architecture or the file is refused, and ValueError for another kind or
     budget.

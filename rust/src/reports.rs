@@ -464,7 +464,7 @@ pub fn healthy(
 /// program `debctl installable` writes.
 ///
 /// The search for one package takes at most `budget` steps, 100,000 if there is none. All searches
-/// take at most a hundred times as many, and at most 4,294,967,295.
+/// take at most so many, and 100 for each package.
 ///
 /// ```
 /// use debctl::{installable, InstallFault, Members};

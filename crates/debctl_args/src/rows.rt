@@ -632,7 +632,8 @@ left out, and no set has to contain the Essential packages.
 
 `undecided`: the search for a set took all of its steps. N of `--budget`, from 1 to
 1000000000, is the most steps of the search for one package. All searches together take
-at most a hundred times as many, and as many again to tell `uninstallable` from `unsure`.
+at most N, and 100 for each package, and as many again to tell `uninstallable` from
+`unsure`.
 
 With `--installed` the file is a status file of dpkg, and its packages are the installed
 ones. Their numbers count them alone.

@@ -30,8 +30,8 @@ use std::alloc::Global;
 pub(crate) struct InstallAsked {
     pub members: Members,
     pub strength: Strength,
-    /// The most steps of the search for one package. All searches together take at most a hundred
-    /// times as many.
+    /// The most steps of the search for one package. All searches together take at most so many,
+    /// and 100 for each package.
     pub budget: u32,
 }
 

@@ -35,8 +35,8 @@ const STEPS: u32 = 100_000;
 /// small; `len` is the length that it needs. 5: out of memory. 6: `kind` is another number.
 ///
 /// The search for one package takes at most `budget` steps, 100,000 if that is 0; all searches take
-/// at most a hundred times as many, and at most 4,294,967,295. A package of which that was too few
-/// has the line `undecided`.
+/// at most so many, and 100 for each package. A package of which that was too few has the line
+/// `undecided`.
 ///
 /// Status 2, refused: the target, with the code 23 and the line 0; else the file, with its first
 /// refusal. Except for status 0 and 1, `out` is unchanged.
