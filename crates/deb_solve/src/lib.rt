@@ -6,7 +6,7 @@
 //! universe.needs.push_row(&[0])?; // package 0 needs group 0
 //! universe.groups.push_row(&[1, 2])?; // package 1 or 2 meets group 0
 //! universe.excludes.push_row(&[])?; // package 0 excludes none
-//! let budget = Budget { one_search: 100_000, all_searches: 1_000_000 };
+//! let budget = Budget { one_search: 100_000 };
 //! let verdicts = solve(alloc, &universe, budget)?;
 //! verdicts[0]; // Verdict::Installable, Uninstallable or Undecided
 //! ```

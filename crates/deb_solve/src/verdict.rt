@@ -36,7 +36,20 @@ struct Searches<'t> {
     search: Search<'t>,
     growth: Growth,
     poor: u32,
-    budget: Budget,
+    one_search: u32,
+    all_searches: u32,
+}
+
+impl Searches<'_> {
+    /// Returns the steps that the next search may take.
+    fn steps_left(&self) -> u32 {
+        let left = self.all_searches.saturating_sub(self.search.steps);
+        if self.one_search < left {
+            self.one_search
+        } else {
+            left
+        }
+    }
 }
 
 /// Finds which packages of a universe can be installed: returns a verdict for each.
@@ -53,7 +66,8 @@ pub fn solve(alloc: Global, universe: &Universe, budget: Budget) -> Result<Vec<V
         search: Search::new(alloc, &tables, &known)?,
         growth: Growth::new(alloc, universe.needs.len())?,
         poor: 0,
-        budget,
+        one_search: budget.one_search,
+        all_searches: budget.all_searches(narrow(verdicts.len())),
     };
     searches.search.prune_all(alloc, &mut known)?;
     for number in 0..narrow(verdicts.len()) {
@@ -87,7 +101,7 @@ fn decide(
     if !is_undecided(verdicts, number) || known.is_out(number) {
         return Ok(());
     }
-    let steps = searches.budget.next(searches.search.steps);
+    let steps = searches.steps_left();
     if searches.search.run(alloc, known, number, steps)? == Outcome::Ended {
         return Ok(());
     }
