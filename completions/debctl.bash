@@ -6,7 +6,7 @@ _debctl() {
     # What each command offers: its options, their values, and its words by their number.
     local -A offers=(
         [:options]='--help --version'
-        [:0]='check explain audit normalise same diff compare canon-version version-key sort query unmet healthy help'
+        [:0]='check explain audit normalise same diff compare canon-version version-key sort query unmet healthy installable help'
         [check:options]='--kind --all --complete --least --help'
         [check:0]=files
         [check:-k]='binary packages source sources status any'
@@ -65,8 +65,12 @@ _debctl() {
         [healthy:options]='--arch --recommends --installed --help'
         [healthy:0]=files
         [healthy:--arch]='$(dpkg-architecture -L 2>/dev/null)'
+        [installable:options]='--arch --recommends --installed --budget --help'
+        [installable:0]=files
+        [installable:--arch]='$(dpkg-architecture -L 2>/dev/null)'
+        [installable:--budget]=''
         [help:options]=--help
-        [help:0]='check explain audit normalise same diff compare canon-version version-key sort query unmet healthy help kinds'
+        [help:0]='check explain audit normalise same diff compare canon-version version-key sort query unmet healthy installable help kinds'
     )
     local command='' given=0 ended='' i key offer
     for ((i = 1; i < cword; i++)); do
@@ -76,7 +80,7 @@ _debctl() {
         fi
         case ${words[i]} in
             --) ended=yes ;;
-            -k | --kind | --least | --arch | --profiles) ((i++)) ;;
+            -k | --kind | --least | --arch | --profiles | --budget) ((i++)) ;;
             # The value is in place of a word, as it is if it is a word of its own.
             --code=* | --relation=* | --version-text=* | --files0-from=* | --relation-from=*) ((given++)) ;;
         esac

@@ -9,7 +9,7 @@ function __debctl_arguments
             case --
                 string join -- \n $words[2..]
                 return
-            case -k --kind --least --arch --profiles
+            case -k --kind --least --arch --profiles --budget
                 set words $words[2..]
             case - '--code=*' '--relation=*' '--version-text=*' '--files0-from=*' '--relation-from=*'
                 printf '%s\n' $words[1]
@@ -42,6 +42,7 @@ complete -c debctl -n __debctl_at -a sort -d 'Sorts the lines of a file, each a 
 complete -c debctl -n __debctl_at -a query -d 'Finds the packages of an index that meet a relation'
 complete -c debctl -n __debctl_at -a unmet -d 'Finds the dependencies of a whole file that no package of an index meets'
 complete -c debctl -n __debctl_at -a healthy -d 'Checks whether a set of packages is consistent'
+complete -c debctl -n __debctl_at -a installable -d 'Finds the packages of an index that can'"'"'t be installed'
 complete -c debctl -n __debctl_at -a help -d 'Prints the help of the program or of a command'
 complete -c debctl -n __debctl_at -s h -l help -d 'Print help'
 complete -c debctl -n __debctl_at -s V -l version -d 'Print version'
@@ -108,5 +109,11 @@ complete -c debctl -n '__debctl_at healthy' -l arch -x -a '(dpkg-architecture -L
 complete -c debctl -n '__debctl_at healthy' -l recommends -d 'Try the groups of Recommends too'
 complete -c debctl -n '__debctl_at healthy' -l installed -d 'Read a status file such as /var/lib/dpkg/status'
 complete -c debctl -n '__debctl_at healthy' -s h -l help -d 'Print help'
-complete -c debctl -n '__debctl_at help 0' -a 'check explain audit normalise same diff compare canon-version version-key sort query unmet healthy help kinds'
+complete -c debctl -n '__debctl_at installable 0' -F
+complete -c debctl -n '__debctl_at installable' -l arch -x -a '(dpkg-architecture -L 2>/dev/null)' -d 'The target architecture, such as amd64'
+complete -c debctl -n '__debctl_at installable' -l recommends -d 'Try the groups of Recommends too'
+complete -c debctl -n '__debctl_at installable' -l installed -d 'Read a status file such as /var/lib/dpkg/status'
+complete -c debctl -n '__debctl_at installable' -l budget -x -d 'Search at most N steps for each package'
+complete -c debctl -n '__debctl_at installable' -s h -l help -d 'Print help'
+complete -c debctl -n '__debctl_at help 0' -a 'check explain audit normalise same diff compare canon-version version-key sort query unmet healthy installable help kinds'
 complete -c debctl -n '__debctl_at help' -s h -l help -d 'Print help'

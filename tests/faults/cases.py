@@ -185,8 +185,8 @@ def read_cases(folder):
         cases += Reading(path).read()
     if not cases:
         raise Malformed(f"{folder}: there is no file of cases")
-    long = [*many_fields(), *long_paragraph(), *many_groups(), *many_versions(), *several_writes()]
-    return [*cases, *long, *several_refusals(), *many_paragraphs(), *lengths()]
+    long = [*many_fields(), *long_paragraph(), *many_groups(), *many_versions(), *many_choices()]
+    return [*cases, *long, *several_writes(), *several_refusals(), *many_paragraphs(), *lengths()]
 
 
 P3 = b"Package: aa\nVersion: 1\nArchitecture: all\n"
@@ -285,6 +285,7 @@ def many_paragraphs():
         (["unmet", *arch, "old", "new"], b"unmet 400 p400 2 all Depends zz\n", 1),
         (["healthy", *arch, "new"], b"unmet 400 p400 2 all Depends zz\n", 1),
         (["healthy", *installed, "status"], b"unmet 400 p400 1 all Depends zz\n", 1),
+        (["installable", *arch, "new"], b"uninstallable 400 p400 2 all\n", 1),
         (["unmet", *installed, "status"], b"unmet 400 p400 1 all Depends zz\n", 1),
         (["query", *installed, "vv", "status"], b"met vv\n" + met, 0),
         (["sort", "versions"], files["versions"], 0), (["audit", "old", "new"], audited, 0),
@@ -324,6 +325,22 @@ def many_versions():
     report = b"met aa (= 3)\n 3 aa 3 all\nmet vv (>= 18)\n 18 aa 18 all\nunmet ww (<< 1)\n"
     query = ["query", "--arch", "amd64", "ww (<< 1), vv (>= 18), aa (= 3)", "versions"]
     return [Case("18 versions", query, files, None, report, b"", 1)]
+
+
+def many_choices():
+    """Five packages that each need one of four places, which takes many choices back: they can't be
+    installed together."""
+    package = b"Package: %s\nVersion: 1\nArchitecture: all\n%s\n"
+    together = b"Depends: " + b", ".join(b"p%d" % at for at in range(1, 6)) + b"\n"
+    text = package % (b"pp", together)
+    for at in range(1, 6):
+        places = b" | ".join(b"p%d-%d" % (at, place) for place in range(1, 5))
+        text += package % (b"p%d" % at, b"Depends: " + places + b"\n")
+        for place in range(1, 5):
+            taken = b"Provides: place-%d\nConflicts: place-%d\n" % (place, place)
+            text += package % (b"p%d-%d" % (at, place), taken)
+    words = ["installable", "--arch", "amd64", "choices"]
+    return [Case("5 packages", words, {"choices": text}, None, b"uninstallable 1 pp 1 all\n", b"", 1)]
 
 
 # Lengths of a name at which a text that is made of a paragraph or a relation outgrows its room, each

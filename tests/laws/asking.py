@@ -3,7 +3,7 @@ import os
 import random as chance
 import re
 import signal
-from dataclasses import dataclass
+from dataclasses import dataclass, replace
 from typing import Iterator, NamedTuple
 
 from laws.changes import changed, lines_with
@@ -12,6 +12,7 @@ from laws.documents import alternative, made, mistaken, read, text_of
 from laws.reasons import FIELDS, Fault, fault_of, nearly
 from laws.refusals import REFUSAL, AllRefusals
 from laws.spelling import planted, respelled, spoiled
+from laws.universes import NAMES, package, universe
 
 SECONDS = 10
 REASON_LINE = re.compile(rb"^(name|place|reason): (.*)$", re.M)
@@ -19,6 +20,9 @@ GROUP_LINE = re.compile(rb"^(?:met|unmet|ignored) (.+)$", re.M)
 LINE = re.compile(rb"[^\n]*\n")
 STATUS = re.compile(rb"^status:(.*(?:\n[ \t].*)*)", re.M | re.I)
 KINDS = tuple(REQUIRED)
+# What a package is that isn't installable in every reading, and what any is.
+MAYBE = {b"uninstallable", b"unsure"}
+ANY = {b"", *MAYBE}
 
 
 class Answer(NamedTuple):
@@ -125,8 +129,11 @@ class Asked:
             yield from self.of_changes(normal)
         if normal.status == 0 and case.kind == "packages":
             yield from self.of_query(normal)
+        if case.kind == "packages":
+            yield from self.of_installable(normal)
         yield from self.of_bound()
         yield from self.of_reason()
+        yield from self.of_universe()
         yield from AllRefusals(self.program, case.kind, case.text).wrong(case.random)
         yield from self.of_planted_faults()
         if case.kind == "status":
@@ -255,7 +262,8 @@ class Asked:
         random, paragraphs = self.case.random, paragraphs_of(normal.out)
         kept = file_of([it for it in paragraphs if is_installed(it)])
         relation = b", ".join(alternative(random) for _ in range(random.randint(1, 4)))
-        for call, *more in (["healthy"], ["healthy", "--recommends"], ["unmet"], ["query", relation]):
+        calls = ["healthy"], ["healthy", "--recommends"], ["installable"], ["unmet"], ["query", relation]
+        for call, *more in calls:
             words = [call, "--arch", "amd64", *more]
             answer = self.program.run([*words, "--installed"], [self.case.text])
             if normal.status == 2:
@@ -267,6 +275,99 @@ class Asked:
                     wanted = with_states(wanted, paragraphs)
             if answer != wanted:
                 yield f"{words!r} with --installed: {shown(answer)}, and not {shown(wanted)}"
+
+    def installable(self, text, *words) -> Answer:
+        """What `installable` answers of an index."""
+        return self.program.run(["installable", *words], [text])
+
+    def of_installable(self, normal):
+        """`installable` has the refusals that `check` has, and then no line. Of an accepted file and of
+        its normal text it has the same lines, none if the packages are a healthy set, and one of each
+        package with a line of `unmet`."""
+        arch = ["--arch", "amd64"]
+        answer = self.installable(self.case.text, *arch)
+        if normal.status == 2:
+            if answer != Answer(b"", normal.err, 2):
+                yield f"installable: {shown(answer)}, and not {shown(normal)}"
+            return
+        again = self.installable(normal.out, *arch)
+        if answer.status not in (0, 1) or answer != again:
+            yield f"installable: {shown(answer)}; of normal text {shown(again)}"
+        yield from self.of_other_lines(self.case.text, arch, words_of(answer.out))
+
+    def of_other_lines(self, text, words, found):
+        """No package of a healthy set has a word of `installable`. One with a line `unmet` is
+        uninstallable, and one with a line `unsure` may be."""
+        if found and self.program.run(["healthy", *words], [text]).status == 0:
+            yield f"installable of {text!r}: the set is healthy, and {found!r}"
+        for line in LINE.findall(self.program.run(["unmet", *words], [text]).out):
+            word, number, *_ = line.split(b" ")
+            if found.get(int(number)) not in ({b"uninstallable"} if word == b"unmet" else MAYBE):
+                yield f"installable of {text!r}: {found!r}, but unmet has {line!r}"
+
+    def of_universe(self):
+        """Which packages of a small universe can be installed is what trying each set says, and `healthy`
+        accepts them if they are such a set. That doesn't depend on the spelling and on the order; with
+        steps of one some answers are missing, and none is another one; a package more makes none
+        uninstallable; and in a status file the other packages don't count."""
+        random = self.case.random
+        made = universe(random)
+        words, is_healthy = made.solved()
+        lines = made.lines(words)
+        answer = self.installable(made.text, *made.words)
+        if answer != Answer(lines, b"", int(bool(lines))):
+            yield f"installable {made.words} of {made.text!r}: {shown(answer)}, and not {lines!r}"
+        healthy = self.program.run(["healthy", *made.words], [made.text])
+        if (healthy.status, healthy.out == b"") != (int(not is_healthy), is_healthy):
+            yield f"healthy {made.words} of {made.text!r}: {shown(healthy)}, and not {is_healthy}"
+        yield from self.of_other_lines(made.text, made.words, words_of(lines))
+        law = random.choice((self.of_order, self.of_budget, self.of_more, self.of_states))
+        yield from law(made, words)
+
+    def of_order(self, made, words):
+        """In another spelling the lines are the same, in another order they come in that."""
+        random = self.case.random
+        order = random.sample(range(len(words)), len(words))
+        there = replace(made, packages=[made.packages[at] for at in order])
+        lines = there.lines([words[at] for at in order])
+        answer = self.installable(respelled(random, "packages", read(there.text)), *made.words)
+        if answer != Answer(lines, b"", int(bool(lines))):
+            yield f"installable of {there.text!r} as respelled: {shown(answer)}, and not {lines!r}"
+
+    def of_budget(self, made, words):
+        """With few steps each word is that with many, or `undecided`."""
+        budget = self.case.random.choice(("1", "2", "3", "1000000000"))
+        answer = self.installable(made.text, *made.words, "--budget", budget)
+        found = words_of(answer.out)
+        few = [found.get(number, b"") for number in range(1, len(words) + 1)]
+        is_whole = budget == "1000000000"
+        if any(it != word and (is_whole or it != b"undecided") for it, word in zip(few, words)):
+            yield f"installable --budget {budget} of {made.text!r}: {shown(answer)}, and not {words!r}"
+
+    def of_more(self, made, words):
+        """A package more, anywhere, makes no other one uninstallable."""
+        random = self.case.random
+        at = random.randint(0, len(words))
+        packages = [*made.packages[:at], package(random, NAMES), *made.packages[at:]]
+        there = replace(made, packages=packages)
+        found = words_of(self.installable(there.text, *made.words).out)
+        for number, word in enumerate(words, 1):
+            later = found.get(number + (number > at), b"")
+            if later not in {b"": {b""}, b"unsure": {b"", b"unsure"}}.get(word, ANY):
+                yield f"installable of {there.text!r}: {found!r}; without package {at + 1} {words!r}"
+
+    def of_states(self, made, words):
+        """As installed packages of a status file they have the same lines, whatever others there are."""
+        random, paragraphs = self.case.random, []
+        states = b"deinstall ok config-files", b"install ok unpacked", b"install ok triggers-pending"
+        for it in made.packages:
+            paragraphs.append(it.paragraph(b"Status: hold ok installed"))
+            if random.random() < 0.5:
+                paragraphs.append(package(random, NAMES).paragraph(b"Status: " + random.choice(states)))
+        lines = made.lines(words)
+        answer = self.installable(b"\n".join(paragraphs), *made.words, "--installed")
+        if answer != Answer(lines, b"", int(bool(lines))):
+            yield f"installable --installed of {paragraphs!r}: {shown(answer)}, and not {lines!r}"
 
     def of_bound(self):
         """A package meets a bound where `compare` says so of its version."""
@@ -315,6 +416,11 @@ class Asked:
         paragraph = b"Package: aa\nVersion: 1\nArchitecture: all\nDepends: %s\n"
         answer = self.program.run(["normalise"], [paragraph % b", ".join(groups)])
         return answer.out.partition(b"\nDepends: ")[2].partition(b"\n")[0]
+
+
+def words_of(out: bytes):
+    """The words of `installable`, by the numbers of the packages that have a line."""
+    return {int(line.split(b" ")[1]): line.split(b" ")[0] for line in LINE.findall(out)}
 
 
 def paragraphs_of(text: bytes):
