@@ -52,3 +52,6 @@ pub returns-in-Unmet-clause-reports_answer : goal.returns-in-Unmet-clause-report
 returns-in-Unmet-clause-reports_answer g c =
     unmet_reported c.args.job.now c.in-Unmet.arch c.in-Unmet.profiles c.in-Unmet.members c.in-Unmet.dependents c.in-Unmet.versions c.in-Unmet.is c.unmet_words-words.result.target.now c.unmet_words-words.result.profiles.now c.unmet_words-words.result.members c.unmet_words-words.result.dependents c.unmet_words-words.result.versions c.unmet_words-words.ensures.target (c.unmet_words-words.ensures.profiles ∙ c.deref-in-Unmet.ensures.value) (c.unmet_words-words.ensures.members ∙ c.index_members-members.ensures) c.unmet_words-words.ensures.dependents c.unmet_words-words.ensures.versions
     _ _ _ _ c.run_unmet.result c.run_unmet.ensures.reports_answer
+
+pub returns-in-Healthy-clause-reports_answer : goal.returns-in-Healthy-clause-reports_answer
+returns-in-Healthy-clause-reports_answer g c = c.run_on_packages.ensures.reports_answer _
