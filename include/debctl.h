@@ -1,9 +1,9 @@
 /* Debian control data for programs in C and C++: versions, files of control data and their fields,
  * why they are refused, which packages of an index meet a relation, which relations of a file nothing
- * meets, and whether a set of packages is consistent. The functions of the library return what the
- * program debctl prints; that, and the sizes that two of them return, is proved. Only tested are the
- * functions with a body in this header, and that deb_index_free and deb_reader_free free all that was
- * held.
+ * meets, whether a set of packages is consistent, and which packages can't be installed. The functions
+ * of the library return what the program debctl prints; that, and the sizes that two of them return, is
+ * proved. Only tested are the functions with a body in this header, and that deb_index_free and
+ * deb_reader_free free all that was held.
  *
  * Texts. A text is a pointer to bytes and their number; no NUL is needed after them. The bytes are
  * only read, and only during the call. A pointer may be NULL only if its length is 0. No function
@@ -46,14 +46,14 @@ extern "C" {
 enum deb_status {
     DEB_YES = 0,            /* done, or yes */
     DEB_NO = 1,             /* deb_same, deb_diff: the files differ; deb_query, deb_unmet: a group is
-                             * unmet; deb_healthy: the set isn't healthy; deb_index_package: there is
-                             * no such package */
+                             * unmet; deb_healthy: the set isn't healthy; deb_installable: a package
+                             * has a line; deb_index_package: there is no such package */
     DEB_REFUSED = 2,        /* a text is refused, or the first of two */
     DEB_SECOND_REFUSED = 3, /* the first text is accepted, and the second is refused */
     DEB_NO_ROOM = 4,        /* the buffer is too small; its length is what it needs */
     DEB_NO_MEMORY = 5,      /* out of memory */
     DEB_NO_KIND = 6,        /* no kind of document has this number, or no detail; deb_diff, deb_unmet,
-                             * deb_healthy: the call doesn't take this kind */
+                             * deb_healthy, deb_installable: the call doesn't take this kind */
     DEB_NO_INDEX = 7        /* the index that is asked holds none, since it was refused */
 };
 
@@ -122,7 +122,7 @@ struct deb_answer {
                      * deb_normalise, deb_explain, deb_explain_all and deb_fields, and for DEB_YES
                      * and DEB_NO of deb_unmet; of the paragraphs that pass, for DEB_REFUSED of
                      * deb_check_all and deb_explain_all; of the packages, for DEB_YES and DEB_NO of
-                     * deb_healthy, and for DEB_YES of deb_index_read */
+                     * deb_healthy and deb_installable, and for DEB_YES of deb_index_read */
 };
 
 /* The answer of a comparison of two versions. */
@@ -372,6 +372,21 @@ struct deb_answer deb_healthy(uint8_t kind, uint8_t recommends,
                               const uint8_t *index, size_t index_length,
                               uint8_t *out, size_t out_size, size_t *length);
 
+/* Writes which packages of a file can't be installed, for a target architecture: no set of packages of
+ * the file that is healthy, as deb_healthy has it, contains them. There is a line for each: its word is
+ * `uninstallable`, or `unsure` if an architecture wildcard decides it, or `undecided` if the search took
+ * all its steps. They are the lines that the program `debctl installable` writes. `kind` and
+ * `recommends` are those of deb_healthy, and numbers count the packages that `kind` means. `budget` is
+ * the most steps of the search for one package; 0 means 100,000. All searches take at most so
+ * many, and 100 for each package.
+ * DEB_YES: there is no line, each package can be installed; DEB_NO: there is one; both with the number
+ * of packages. DEB_REFUSED: the target (DEB_BAD_ENVIRONMENT) or the file, in this order; DEB_NO_ROOM;
+ * DEB_NO_MEMORY; DEB_NO_KIND: `kind` is neither DEB_PACKAGES nor DEB_STATUS. */
+struct deb_answer deb_installable(uint8_t kind, uint8_t recommends, uint32_t budget,
+                                  const uint8_t *target, size_t target_length,
+                                  const uint8_t *index, size_t index_length,
+                                  uint8_t *out, size_t out_size, size_t *length);
+
 /* An index that is read once and asked often. It lies in memory of the caller, as many bytes as
  * deb_index_size returns, aligned as malloc aligns. deb_index_read fills that memory, whatever its
  * status is, and deb_index_free empties it; what lies there may not be copied or moved in between.
@@ -486,7 +501,8 @@ enum deb_form {
     DEB_UNMET_LINES = 1, /* deb_unmet, deb_index_unmet */
     DEB_DIFF_LINES = 2,  /* deb_diff */
     DEB_EXPLANATION = 3, /* deb_explain, deb_explain_all, deb_explain_relation, deb_explain_version */
-    DEB_HEALTH_LINES = 4 /* deb_healthy */
+    DEB_HEALTH_LINES = 4, /* deb_healthy */
+    DEB_INSTALLABLE_LINES = 5 /* deb_installable */
 };
 
 /* What a line of a text says, and its cells. */
@@ -517,7 +533,10 @@ enum deb_row_kind {
     DEB_ROW_UNSURE_CONFLICT = 23, /* the same */
     DEB_ROW_DUPLICATE = 24,     /* number, package, version, architecture; number, version,
                                  * architecture of the later one */
-    DEB_ROW_STATE = 25          /* number, package, version, architecture, status; `-` for none */
+    DEB_ROW_STATE = 25,         /* number, package, version, architecture, status; `-` for none */
+    DEB_ROW_UNINSTALLABLE = 26, /* number, package, version, architecture */
+    DEB_ROW_UNSURE = 27,        /* the same */
+    DEB_ROW_UNDECIDED = 28      /* the same */
 };
 
 /* A line of a text. `fields` is one cell, with a space between two names. */

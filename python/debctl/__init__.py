@@ -30,15 +30,17 @@ from ._explanations import (
     AllExplained, Explanation, explain, explain_all, explain_relation, explain_version,
 )
 from ._files import (
-    AllChecked, HealthReport, Report, UnmetReport, check, check_all, diff, healthy, normalise,
-    query, same, unmet,
+    AllChecked, HealthReport, InstallReport, Report, UnmetReport, check, check_all, diff, healthy,
+    installable, normalise, query, same, unmet,
 )
 from ._index import Details, Index, Package
 from ._library import Kind, Text, lib
 from ._paragraphs import Paragraph, paragraphs
 from ._refusals import Code, Refused
 from ._relations import Alternative, applies, relations, satisfies
-from ._rows import Change, Group, HealthReason, NumberedPackage, Reason, UnmetGroup
+from ._rows import (
+    Change, Group, HealthReason, NotInstallable, NumberedPackage, Reason, UnmetGroup,
+)
 from ._versions import Parts, Version, canonical, compare, key
 
 __version__ = "0.1.0"
@@ -52,16 +54,17 @@ def library_version() -> str:
 
 __all__ = [
     "AllChecked", "AllExplained", "Alternative", "Change", "Code", "Details", "Explanation",
-    "Group", "HealthReason", "HealthReport", "Index", "Kind", "NumberedPackage", "Package",
-    "Paragraph", "Parts", "Reason", "Refused", "Report", "Text", "UnmetGroup", "UnmetReport",
-    "Version", "applies", "canonical", "check", "check_all", "compare", "diff", "explain",
-    "explain_all", "explain_relation", "explain_version", "healthy", "key", "library_version",
-    "normalise", "paragraphs", "query", "relations", "same", "satisfies", "unmet",
+    "Group", "HealthReason", "HealthReport", "Index", "InstallReport", "Kind", "NotInstallable",
+    "NumberedPackage", "Package", "Paragraph", "Parts", "Reason", "Refused", "Report", "Text",
+    "UnmetGroup", "UnmetReport", "Version", "applies", "canonical", "check", "check_all", "compare",
+    "diff", "explain", "explain_all", "explain_relation", "explain_version", "healthy",
+    "installable", "key", "library_version", "normalise", "paragraphs", "query", "relations",
+    "same", "satisfies", "unmet",
 ]
 
 for _public in (
     AllChecked, AllExplained, Alternative, Change, Code, Details, Explanation, Group, HealthReason,
-    HealthReport, Index, NumberedPackage, Package, Paragraph, Parts, Reason, Refused, Report,
-    UnmetGroup, UnmetReport, Version,
+    HealthReport, Index, InstallReport, NotInstallable, NumberedPackage, Package, Paragraph, Parts,
+    Reason, Refused, Report, UnmetGroup, UnmetReport, Version,
 ):
     _public.__module__ = __name__

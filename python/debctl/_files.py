@@ -1,6 +1,7 @@
 """Files of control data, and questions to an index of packages."""
 
 import functools
+import operator
 from typing import Iterable, List, NamedTuple, Tuple
 
 from ._explanations import answered_file, explain_all
@@ -10,8 +11,8 @@ from ._library import (
 )
 from ._refusals import Refused
 from ._rows import (
-    Change, Group, HealthReason, UnmetGroup, changes_of, groups_of, health_reasons_of,
-    unmet_groups_of,
+    Change, Group, HealthReason, NotInstallable, UnmetGroup, changes_of, groups_of,
+    health_reasons_of, not_installable_of, unmet_groups_of,
 )
 
 _PACKAGES = 1
@@ -68,6 +69,21 @@ class HealthReport(NamedTuple):
     def reasons(self) -> List[HealthReason]:
         """Why the set isn't healthy, in the order of the text."""
         return health_reasons_of(self.text)
+
+
+class InstallReport(NamedTuple):
+    """The report on which packages can't be installed, which is true if each can, and its text."""
+
+    installable: bool
+    text: str
+
+    def __bool__(self) -> bool:
+        return self.installable
+
+    @property
+    def packages(self) -> List[NotInstallable]:
+        """The packages that can't be installed, or may not be, in the order of the text."""
+        return not_installable_of(self.text)
 
 
 def check(text: Text, kind: Kind = "packages") -> int:
@@ -252,3 +268,43 @@ def healthy(
     if answer.status == NO_KIND:
         raise ValueError(f"there are no sets of {kind!r}")
     return HealthReport(answered_file(answer, number, data).status == YES, lines.decode())
+
+
+def installable(
+    index: Text,
+    arch: Text,
+    *,
+    kind: Kind = "packages",
+    recommends: bool = False,
+    budget: int = 100_000,
+) -> InstallReport:
+    """Finds which packages of a file can't be installed, for this architecture: no set of packages
+    of the file that is healthy, as `healthy` has it, contains them. Its lines are those that the
+    program `debctl installable` writes. `kind` and `recommends` are those of `healthy`.
+
+        >>> import debctl
+        >>> aa = "Package: aa\\nVersion: 1\\nArchitecture: all\\nDepends: bb\\nConflicts: cc\\n\\n"
+        >>> bb = "Package: bb\\nVersion: 1\\nArchitecture: all\\nDepends: cc\\n\\n"
+        >>> cc = "Package: cc\\nVersion: 1\\nArchitecture: all\\n"
+        >>> report = debctl.installable(aa + bb + cc, "amd64")
+        >>> print(bool(report), report.text, end="")
+        False uninstallable 1 aa 1 all
+        >>> [(it.verdict, it.number, it.package) for it in report.packages]
+        [('uninstallable', 1, 'aa')]
+
+    The search for one package takes at most `budget` steps, from 1 to 4294967295, and all searches
+    take at most so many, and 100 for each package.
+
+    Raises Refused if the architecture or the file is refused, and ValueError for another kind or
+    budget.
+    """
+    number, (data, length), steps = kind_of(kind), text_of(index), operator.index(budget)
+    if not 0 < steps < 1 << 32:
+        raise ValueError(f"no budget: {budget!r}")
+    call = functools.partial(
+        lib.deb_installable, number, bool(recommends), steps, *text_of(arch), data, length
+    )
+    answer, lines = written(length + 1, call)
+    if answer.status == NO_KIND:
+        raise ValueError(f"there are no sets of {kind!r}")
+    return InstallReport(answered_file(answer, number, data).status == YES, lines.decode())

@@ -81,6 +81,7 @@ _PROFILES: List[Any] = [ctypes.POINTER(TextAt), ctypes.c_size_t]
 _MEMORY: List[Any] = [ctypes.c_void_p]
 _TO_ANSWER: List[Any] = [ctypes.POINTER(Answer)]
 _NUMBER: List[Any] = [ctypes.c_uint64]
+_BUDGET: List[Any] = [ctypes.c_uint32]
 _QUERY: List[Any] = _TEXT + _PROFILES + _TEXT
 _FUNCTIONS: List[Tuple[str, Any, List[Any]]] = [
     ("deb_version_compare", Comparison, _TEXT + _TEXT),
@@ -97,6 +98,7 @@ _FUNCTIONS: List[Tuple[str, Any, List[Any]]] = [
     ("deb_query_why", Answer, _QUERY + _TEXT + _BUFFER),
     ("deb_unmet", Answer, _KIND + _KIND + _QUERY + _TEXT + _BUFFER),
     ("deb_healthy", Answer, _KIND + _KIND + _TEXT + _TEXT + _BUFFER),
+    ("deb_installable", Answer, _KIND + _KIND + _BUDGET + _TEXT + _TEXT + _BUFFER),
     ("deb_index_size", ctypes.c_size_t, []),
     ("deb_index_read", None, _MEMORY + _TEXT + _TO_ANSWER),
     ("deb_index_free", None, _MEMORY),

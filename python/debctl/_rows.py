@@ -6,12 +6,13 @@ from typing import Dict, Iterator, List, Literal, NamedTuple, Optional, Tuple
 
 from ._library import YES, lib, tables
 
-REPORT, UNMET_LINES, DIFF_LINES, EXPLANATION, HEALTH_LINES = range(5)
+REPORT, UNMET_LINES, DIFF_LINES, EXPLANATION, HEALTH_LINES, INSTALLABLE_LINES = range(6)
 (
     MET, UNMET, IGNORED, PACKAGE, REASON, PACKAGE_REASON, UNMET_GROUP, UNSURE_GROUP, REMOVED,
     CHANGED, UPGRADED, ADDED, OLD_LINE, NEW_LINE, KEY, END, OK, SUMMARY, VALID,
-    DOWNGRADED, UNMET_NEED, UNSURE_NEED, CONFLICT, UNSURE_CONFLICT, DUPLICATE, STATE,
-) = range(26)
+    DOWNGRADED, UNMET_NEED, UNSURE_NEED, CONFLICT, UNSURE_CONFLICT, DUPLICATE, STATE, UNINSTALLABLE,
+    UNSURE, UNDECIDED,
+) = range(29)
 _ROW = struct.Struct("@BB6x20N")  # its kind, how many cells it has, and where they are
 
 Row = Tuple[int, List[str]]
@@ -23,6 +24,9 @@ _WORDS: Dict[int, Literal["changed", "upgraded", "downgraded"]] = {
 
 _HEALTH: Dict[int, Literal["unmet", "conflict", "unsure"]] = {
     UNMET_NEED: "unmet", UNSURE_NEED: "unsure", CONFLICT: "conflict", UNSURE_CONFLICT: "unsure"
+}
+_INSTALLABLE: Dict[int, Literal["uninstallable", "unsure", "undecided"]] = {
+    UNINSTALLABLE: "uninstallable", UNSURE: "unsure", UNDECIDED: "undecided"
 }
 
 
@@ -98,6 +102,18 @@ class HealthReason(NamedTuple):
     status: Optional[str] = None
 
 
+class NotInstallable(NamedTuple):
+    """A package that can't be installed, or may not be: its number, its name, its canonical version
+    and its architecture. An architecture wildcard decides about one that is "unsure"; of one that
+    is "undecided" the search took all its steps."""
+
+    verdict: Literal["uninstallable", "unsure", "undecided"]
+    number: int
+    package: str
+    version: str
+    architecture: str
+
+
 class Change(NamedTuple):
     """What became of a paragraph: the number that it has in the old file or, if it was added, in
     the new one; its versions, canonical; the names of the fields that differ. `old` and `new` are
@@ -169,6 +185,14 @@ def _health_reason(kind: int, cells: List[str]) -> HealthReason:
 def health_reasons_of(text: str) -> List[HealthReason]:
     """Returns the reasons of a report on a set of packages."""
     return [_health_reason(kind, cells) for kind, cells in rows_of(HEALTH_LINES, text)]
+
+
+def not_installable_of(text: str) -> List[NotInstallable]:
+    """Returns the packages of a report on which ones can't be installed."""
+    return [
+        NotInstallable(_INSTALLABLE[kind], int(cells[0]), *cells[1:])
+        for kind, cells in rows_of(INSTALLABLE_LINES, text)
+    ]
 
 
 def _change(head: Row, below: List[Row], text: str) -> Change:

@@ -7,14 +7,15 @@ mod printed;
 
 use debctl::{
     canonical, check, check_all, compare, diff, explain, explain_all, explain_relation,
-    explain_version, healthy, key, normalise, paragraphs, query, query_why, relations, same,
-    spelled_relations, unmet, AllChecked, Asked, Compared, Error, Explanation, Index, Kind,
+    explain_version, healthy, installable, key, normalise, paragraphs, query, query_why, relations,
+    same, spelled_relations, unmet, AllChecked, Asked, Compared, Error, Explanation, Index, Kind,
     Members, ReadError, Reader, Refusal, Report, Version,
 };
 use printed::Printed;
 use std::env::args_os;
 use std::fs::read;
 use std::io::{stdout, Read, Write};
+use std::num::NonZeroU32;
 
 const KINDS: [Kind; 6] = [
     Kind::Binary,
@@ -189,6 +190,31 @@ fn of_unmet(number: usize, files: &[Vec<u8>]) -> Result<String, Error> {
     } + &differs)
 }
 
+/// What is asked of a set: the target and the file.
+fn of_set(call: &str, number: usize, files: &[Vec<u8>]) -> Result<String, Error> {
+    let (target, index) = (&files[0], &files[1]);
+    let members = match KINDS[number % 8] {
+        Kind::Status => Members::Installed,
+        _ => Members::All,
+    };
+    let recommends = number / 8 % 2 == 1;
+    if call == "healthy" {
+        let report = healthy(members, recommends, target, index)?;
+        return Ok(with_rows(
+            &done(report.healthy, 0),
+            &report.text,
+            &report.printed(),
+        ));
+    }
+    let budget = NonZeroU32::new((number / 16) as u32);
+    let report = installable(members, recommends, budget, target, index)?;
+    Ok(with_rows(
+        &done(report.installable, 0),
+        &report.text,
+        &report.printed(),
+    ))
+}
+
 /// What changed between two files.
 fn of_diff(number: usize, files: &[Vec<u8>]) -> Result<String, Error> {
     let kind = match KINDS[number % 8] {
@@ -233,14 +259,7 @@ fn answer(call: &str, number: usize, files: &[Vec<u8>]) -> Result<Vec<u8>, Error
         }
         "query" | "why" => of_query(call, files)?,
         "unmet" => of_unmet(number, files)?,
-        "healthy" => {
-            let members = match KINDS[number % 8] {
-                Kind::Status => Members::Installed,
-                _ => Members::All,
-            };
-            let report = healthy(members, number >= 8, &files[0], &files[1])?;
-            with_rows(&done(report.healthy, 0), &report.text, &report.printed())
-        }
+        "healthy" | "installable" => of_set(call, number, files)?,
         "diff" => of_diff(number, files)?,
         "check" => {
             let checked = check(KINDS[number], &files[0]);

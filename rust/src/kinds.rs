@@ -105,7 +105,8 @@ impl Asked {
     }
 }
 
-/// Which packages of a file are a set, for [`healthy`](crate::healthy).
+/// Which packages of a file are a set, for [`healthy`](crate::healthy) and
+/// [`installable`](crate::installable).
 #[derive(Clone, Copy, Debug, PartialEq, Eq, Hash)]
 #[non_exhaustive]
 pub enum Members {

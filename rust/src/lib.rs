@@ -51,8 +51,8 @@ pub use reader::{ReadError, Reader};
 pub use refusals::{Code, Error, Refusal};
 pub use relations::{applies, relations, satisfies, spelled_relations, Alternative};
 pub use reports::{
-    healthy, query, query_why, unmet, Group, HealthFault, HealthReason, HealthReport, Reason,
-    Report, UnmetGroup, UnmetReport, Verdict,
+    healthy, installable, query, query_why, unmet, Group, HealthFault, HealthReason, HealthReport,
+    InstallFault, InstallReport, NotInstallable, Reason, Report, UnmetGroup, UnmetReport, Verdict,
 };
 pub use versions::{canonical, compare, key, Version};
 

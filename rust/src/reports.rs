@@ -1,11 +1,12 @@
-//! Which packages meet a relation, which relations of a file nothing meets, and whether a set of
-//! packages is healthy.
+//! Which packages meet a relation, which relations of a file nothing meets, whether a set of
+//! packages is healthy, and which packages can't be installed.
 
 use crate::library::{self, Answer, Text};
 use crate::refusals::answered_of;
 use crate::texts::{self, rows, string, written, Form, Row};
 use crate::{Asked, Error, Kind, Members, Package};
 use std::fmt;
+use std::num::NonZeroU32;
 
 /// The report on a relation.
 #[derive(Clone, Debug, PartialEq, Eq, Hash)]
@@ -151,6 +152,40 @@ pub enum HealthFault {
     },
 }
 
+/// The report on which packages of a file can't be installed.
+#[derive(Clone, Debug, PartialEq, Eq, Hash)]
+#[non_exhaustive]
+pub struct InstallReport {
+    /// Whether each package can be installed: there is no package in the report.
+    pub installable: bool,
+    /// The packages that can't be installed, or may not be, in the order of the lines.
+    pub packages: Vec<NotInstallable>,
+    /// The lines of the report.
+    pub text: String,
+}
+
+/// A package that can't be installed, or may not be.
+#[derive(Clone, Debug, PartialEq, Eq, Hash)]
+#[non_exhaustive]
+pub struct NotInstallable {
+    /// The package. The number counts the packages of the report alone.
+    pub package: Package,
+    /// What is known about it.
+    pub fault: InstallFault,
+}
+
+/// What is known about a package that isn't found to be installable.
+#[derive(Clone, Copy, Debug, PartialEq, Eq, Hash)]
+#[non_exhaustive]
+pub enum InstallFault {
+    /// It can't be installed.
+    Uninstallable,
+    /// An architecture wildcard decides whether it can be.
+    Unsure,
+    /// The search took all its steps.
+    Undecided,
+}
+
 impl fmt::Display for Report {
     fn fmt(&self, out: &mut fmt::Formatter<'_>) -> fmt::Result {
         out.write_str(&self.text)
@@ -164,6 +199,12 @@ impl fmt::Display for UnmetReport {
 }
 
 impl fmt::Display for HealthReport {
+    fn fmt(&self, out: &mut fmt::Formatter<'_>) -> fmt::Result {
+        out.write_str(&self.text)
+    }
+}
+
+impl fmt::Display for InstallReport {
     fn fmt(&self, out: &mut fmt::Formatter<'_>) -> fmt::Result {
         out.write_str(&self.text)
     }
@@ -273,6 +314,18 @@ fn health_reason(row: Row) -> HealthReason {
     HealthReason {
         package: package(&row, 0),
         fault,
+    }
+}
+
+/// Returns the package that a row is.
+fn not_installable(row: Row) -> NotInstallable {
+    NotInstallable {
+        package: package(&row, 0),
+        fault: match row.kind {
+            texts::UNINSTALLABLE => InstallFault::Uninstallable,
+            texts::UNSURE => InstallFault::Unsure,
+            _ => InstallFault::Undecided,
+        },
     }
 }
 
@@ -402,6 +455,51 @@ pub fn healthy(
     Ok(HealthReport {
         healthy: answer.status == library::YES,
         reasons: rows(Form::HealthLines, &text).map(health_reason).collect(),
+        text,
+    })
+}
+
+/// Finds which packages of a file can't be installed, for a target architecture: no set of packages
+/// of the file that is healthy, as [`healthy`] has it, contains them. The lines are those that the
+/// program `debctl installable` writes.
+///
+/// The search for one package takes at most `budget` steps, 100,000 if there is none. All searches
+/// take at most so many, and 100 for each package.
+///
+/// ```
+/// use debctl::{installable, InstallFault, Members};
+///
+/// let index = "Package: aa\nVersion: 1\nArchitecture: all\nDepends: bb\nConflicts: cc\n\n\
+///     Package: bb\nVersion: 1\nArchitecture: all\nDepends: cc\n\n\
+///     Package: cc\nVersion: 1\nArchitecture: all\n";
+/// let report = installable(Members::All, false, None, "amd64", index)?;
+/// assert!(!report.installable);
+/// assert_eq!(report.text, "uninstallable 1 aa 1 all\n");
+/// assert_eq!(report.packages[0].package.name, "aa");
+/// assert_eq!(report.packages[0].fault, InstallFault::Uninstallable);
+/// # Ok::<(), debctl::Error>(())
+/// ```
+pub fn installable(
+    members: Members,
+    recommends: bool,
+    budget: Option<NonZeroU32>,
+    target: impl AsRef<[u8]>,
+    index: impl AsRef<[u8]>,
+) -> Result<InstallReport, Error> {
+    let (target, file) = (target.as_ref(), (members.kind(), index.as_ref()));
+    let steps = budget.map_or(0, NonZeroU32::get);
+    let asked = (file.0 as u8, u8::from(recommends), steps);
+    let call = |out: &mut [u8], length: &mut usize| {
+        library::installable(asked, (target, file.1), out, length)
+    };
+    let (answer, text) = written(file.1.len(), call);
+    let answer = answered_of(answer, file, file)?;
+    let text = string(text);
+    Ok(InstallReport {
+        installable: answer.status == library::YES,
+        packages: rows(Form::InstallableLines, &text)
+            .map(not_installable)
+            .collect(),
         text,
     })
 }

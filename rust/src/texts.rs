@@ -67,6 +67,7 @@ pub(crate) enum Form {
     DiffLines = 2,
     Explanation = 3,
     HealthLines = 4,
+    InstallableLines = 5,
 }
 
 /// A line of a text: its kind, its cells, and where the line ends.
@@ -96,6 +97,8 @@ pub(crate) const CONFLICT: u8 = 22;
 pub(crate) const UNSURE_CONFLICT: u8 = 23;
 pub(crate) const DUPLICATE: u8 = 24;
 pub(crate) const STATE: u8 = 25;
+pub(crate) const UNINSTALLABLE: u8 = 26;
+pub(crate) const UNSURE: u8 = 27;
 
 impl Row<'_> {
     /// Returns the number in a cell.
@@ -197,6 +200,7 @@ mod tests {
             13 => drop((loaded.package(1)?, loaded.details(1)?)),
             14 => drop((key("1:2.0~rc1-3")?, canonical("1:2.0~rc1-3")?)),
             15 => drop(healthy(Members::All, true, "amd64", old)?),
+            16 => drop(installable(Members::All, true, None, "amd64", old)?),
             _ => drop(relations(relation)?),
         }
         Ok(())
@@ -206,7 +210,7 @@ mod tests {
     fn the_first_room_is_enough() -> Result<(), Error> {
         let (old, new) = (index("1"), index("2"));
         let loaded = Index::read(&old)?;
-        for asked in 0..=16 {
+        for asked in 0..=17 {
             let before = REPEATED.with(Cell::get);
             answer(asked, &old, &new, &loaded)?;
             assert_eq!(REPEATED.with(Cell::get), before, "call {asked}");

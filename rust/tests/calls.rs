@@ -1,9 +1,9 @@
-//! Versions and their keys, relations, unmet relations, sets of packages, and the paragraphs of a file
-//! and all its refusals.
+//! Versions and their keys, relations, unmet relations, sets of packages, which packages can be
+//! installed, and the paragraphs of a file and all its refusals.
 
 use debctl::{
-    check, check_all, compare, diff, explain, explain_all, healthy, key, paragraphs, query,
-    relations, unmet, Asked, Code, Compared, Error, Index, Kind, Members, Refusal, Version,
+    check, check_all, compare, diff, explain, explain_all, healthy, installable, key, paragraphs,
+    query, relations, unmet, Asked, Code, Compared, Error, Index, Kind, Members, Refusal, Version,
 };
 use std::collections::HashSet;
 
@@ -168,6 +168,51 @@ fn a_set_has_the_installed_packages_of_a_status_file() -> Result<(), Error> {
     assert_eq!(
         refused(healthy(Members::Installed, false, "amd64", wrong)),
         (Code::BadVersion, 4, Some("Version".to_owned()))
+    );
+    Ok(())
+}
+
+#[test]
+fn packages_that_cannot_be_installed_have_lines() -> Result<(), Error> {
+    let package = |name: &str, more: &str| {
+        format!("Package: {name}\nVersion: 01\nArchitecture: all\n{more}\n")
+    };
+    let index = [
+        package("aa", "Depends: bb\nConflicts: cc\n"),
+        package("bb", "Depends: cc\nRecommends: aa\n"),
+        package("cc", ""),
+    ]
+    .concat();
+    let aa = "uninstallable 1 aa 1 all\n";
+    let report = installable(Members::All, false, None, "amd64", &index)?;
+    assert_eq!((report.installable, report.text.as_str()), (false, aa));
+    assert_eq!(report.to_string(), report.text);
+    let report = installable(Members::All, true, None, b"amd64", index.as_bytes())?;
+    assert_eq!(report.text, format!("{aa}uninstallable 2 bb 1 all\n"));
+    for index in ["", &package("aa", "Recommends: zz\n")] {
+        let report = installable(Members::All, false, None, "amd64", index)?;
+        assert!(report.installable && report.text.is_empty());
+    }
+    let status = [
+        package("bb", "Status: deinstall ok config-files\n"),
+        package("aa", "Status: install ok installed\nDepends: bb\n"),
+    ]
+    .concat();
+    let report = installable(Members::Installed, false, None, "amd64", &status)?;
+    assert_eq!(report.text, aa);
+    assert!(installable(Members::All, false, None, "amd64", status)?.installable);
+    assert_eq!(
+        refused(installable(Members::All, true, None, "any", "x")),
+        (Code::BadEnvironment, 0, None)
+    );
+    let wrong = index.replacen("01", "1_", 1);
+    assert_eq!(
+        refused(installable(Members::All, false, None, "amd64", wrong)),
+        (Code::BadVersion, 2, Some("Version".to_owned()))
+    );
+    assert_eq!(
+        refused(installable(Members::Installed, false, None, "amd64", index)),
+        (Code::MissingField, 1, Some("Status".to_owned()))
     );
     Ok(())
 }

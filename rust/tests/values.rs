@@ -3,11 +3,12 @@
 
 use debctl::{
     applies, canonical, compare, diff, explain, explain_relation, explain_version, healthy,
-    paragraphs, query, query_why, relations, satisfies, spelled_relations, unmet, Alternative,
-    Asked, ChangeKind, Code, Compared, Error, Explanation, HealthFault, Index, Kind, Members,
-    Verdict, Version,
+    installable, paragraphs, query, query_why, relations, satisfies, spelled_relations, unmet,
+    Alternative, Asked, ChangeKind, Code, Compared, Error, Explanation, HealthFault, Index,
+    InstallFault, Kind, Members, Verdict, Version,
 };
 use std::collections::HashMap;
+use std::num::NonZeroU32;
 
 const INDEX: &str = "Package: aa\nVersion: 01.5-1\nArchitecture: amd64\nMulti-Arch: same\n\
     Provides: mta, virt (= 02)\n\n\nPackage: bb\nVersion: 2\nArchitecture: all\n";
@@ -160,6 +161,41 @@ fn a_report_on_a_status_file_has_states() -> Result<(), Error> {
             (3, ["cc", "-", "-"], "-")
         ]
     );
+    Ok(())
+}
+
+#[test]
+fn a_report_on_installable_packages_has_faults() -> Result<(), Error> {
+    let index = "Package: aa\nVersion: 1\nArchitecture: all\nDepends: bb | cc, dd | ee\n\n\
+        Package: bb\nVersion: 1\nArchitecture: all\nConflicts: dd, ee\n\n\
+        Package: cc\nVersion: 1\nArchitecture: all\nConflicts: dd, ee\n\n\
+        Package: dd\nVersion: 1\nArchitecture: all\n\n\
+        Package: ee\nVersion: 1\nArchitecture: all\n\n\
+        Package: ff\nVersion: 01\nArchitecture: i386\nDepends: zz [linux-any]\n\n\
+        Package: gg\nVersion: 1\nArchitecture: all\nDepends: zz\n";
+    let loaded = Index::read(index)?;
+    let package = |number| Ok::<_, Error>(loaded.package(number)?.expect("a package"));
+    for (budget, first) in [
+        (None, InstallFault::Uninstallable),
+        (NonZeroU32::new(1), InstallFault::Undecided),
+        (Some(NonZeroU32::MAX), InstallFault::Uninstallable),
+    ] {
+        let report = installable(Members::All, false, budget, "amd64", index)?;
+        let found: Vec<_> = report
+            .packages
+            .iter()
+            .map(|it| (it.package.clone(), it.fault))
+            .collect();
+        let wanted = [
+            (package(1)?, first),
+            (package(6)?, InstallFault::Unsure),
+            (package(7)?, InstallFault::Uninstallable),
+        ];
+        assert_eq!(found, wanted);
+        assert!(!report.installable);
+    }
+    let report = installable(Members::All, true, None, "amd64", INDEX)?;
+    assert!(report.installable && report.packages.is_empty());
     Ok(())
 }
 

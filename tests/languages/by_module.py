@@ -114,6 +114,12 @@ def answered(call, number, texts, loaded):
         more = {"kind": KINDS[number % 8], "recommends": number >= 8}
         it = debctl.healthy(texts[1], texts[0], **more)
         return b"%d 0 0 0\n" % (not it) + by_rows(it.text, it)
+    if call == "installable":
+        more = {"kind": KINDS[number % 8], "recommends": number // 8 % 2 == 1}
+        if number >= 16:
+            more["budget"] = number // 16
+        it = debctl.installable(texts[1], texts[0], **more)
+        return b"%d 0 0 0\n" % (not it) + by_rows(it.text, it)
     if call in ("explain", "explain-relation", "explain-version"):
         return explained(call, number, texts)
     if call in ("check-all", "explain-all"):

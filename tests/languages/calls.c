@@ -213,12 +213,21 @@ static void try_order(void) {
         length = 9;
         IS(is(deb_healthy(others[at], 0, any, 3, no, 1, NULL, 0, &length), DEB_NO_KIND, 0, 0, 0) &&
            length == 0);
+        length = 9;
+        IS(is(deb_installable(others[at], 0, 1, any, 3, no, 1, NULL, 0, &length), DEB_NO_KIND, 0, 0,
+              0) &&
+           length == 0);
     }
     for (at = 0; at < sizeof sets; at++) {
         IS(is(deb_healthy(sets[at], 0, any, 3, no, 1, NULL, 0, &length), DEB_REFUSED,
               DEB_BAD_ENVIRONMENT, 0, 0));
         IS(is(deb_healthy(sets[at], 0, any, 2, no, 1, NULL, 0, &length), DEB_REFUSED, DEB_NO_COLON, 1,
               0) &&
+           length == 0);
+        IS(is(deb_installable(sets[at], 0, 1, any, 3, no, 1, NULL, 0, &length), DEB_REFUSED,
+              DEB_BAD_ENVIRONMENT, 0, 0));
+        IS(is(deb_installable(sets[at], 0, 1, any, 2, no, 1, NULL, 0, &length), DEB_REFUSED,
+              DEB_NO_COLON, 1, 0) &&
            length == 0);
     }
     IS(is(deb_explain(6, no, 1, NULL, 0, &length), DEB_NO_KIND, 0, 0, 0) && length == 0);

@@ -113,6 +113,15 @@ static std::string unhealthy(const std::string &text, deb_kind kind = DEB_PACKAG
     return std::to_string(answer.status) + ' ' + std::string(out.begin(), out.begin() + length);
 }
 
+// Which packages of a text can't be installed.
+static std::string uninstallable(const std::string &text, uint32_t budget = 0) {
+    std::vector<uint8_t> out(256);
+    size_t length = 0;
+    deb_answer answer = deb_installable(DEB_PACKAGES, 0, budget, bytes("amd64"), 5, bytes(text),
+                                        text.size(), out.data(), out.size(), &length);
+    return std::to_string(answer.status) + ' ' + std::string(out.begin(), out.begin() + length);
+}
+
 int main() {
     const std::string text = "vERSION: 01.0-0\npackage:hello\nArchitecture: amd64\n";
     int failed = 0;
@@ -137,6 +146,9 @@ int main() {
               unhealthy(removed + text + "Status: install ok unpacked\n", DEB_STATUS) !=
                   "1 state 2 hello 1.0 amd64 unpacked\n" ||
               unhealthy(text, DEB_STATUS) != "2 " || unhealthy(text, DEB_ANY) != "6 ";
-    std::printf("cpp: %d passed, %d failed\n", 13 - failed, failed);
+    failed += uninstallable(text) != "0 " || uninstallable(text + "\n" + text, 1) != "0 " ||
+              uninstallable(text + "Depends: aa\n\n" + text) !=
+                  "1 uninstallable 1 hello 1.0 amd64\n";
+    std::printf("cpp: %d passed, %d failed\n", 14 - failed, failed);
     return failed != 0;
 }

@@ -82,6 +82,8 @@ TAKE_TEXT = {
     "a profile": lambda text: debctl.query("hello", HELLO, "amd64", [text]),
     "healthy's index": lambda text: debctl.healthy(text, "amd64"),
     "healthy's arch": lambda text: debctl.healthy(HELLO, text),
+    "installable's index": lambda text: debctl.installable(text, "amd64"),
+    "installable's arch": lambda text: debctl.installable(HELLO, text),
 }
 TAKE_KIND = {
     "check's kind": lambda kind: debctl.check(HELLO, kind),
@@ -91,6 +93,7 @@ TAKE_KIND = {
     "explain_all's kind": lambda kind: debctl.explain_all(HELLO, kind),
     "same's kind": lambda kind: debctl.same(HELLO, HELLO, kind),
     "healthy's kind": lambda kind: debctl.healthy(HELLO, "amd64", kind=kind),
+    "installable's kind": lambda kind: debctl.installable(HELLO, "amd64", kind=kind),
 }
 BYTES_LIKE = [bytes, bytearray, memoryview, lambda text: array.array("B", text)]
 

@@ -16,10 +16,12 @@ struct file {
     size_t length;
 };
 
-/* What is asked: the number, three files, and all further files as profiles. */
+/* What is asked: the number, three files, and all further files as profiles. The number is that of a
+ * kind, and with more that is asked: 8 times a detail or whether Recommends is asked, and 16 times a
+ * budget. */
 struct question {
     const char *call;
-    int number;
+    long long number;
     struct file files[FILES];
     struct deb_text *profiles;
     size_t profile_count;
@@ -93,6 +95,10 @@ static struct deb_answer ask(const struct question *q, uint8_t *out, size_t room
     if (calls(q, "healthy"))
         return deb_healthy((uint8_t)(q->number % 8), (uint8_t)(q->number / 8), target->bytes,
                            target->length, first->bytes, first->length, out, room, length);
+    if (calls(q, "installable"))
+        return deb_installable((uint8_t)(q->number % 8), (uint8_t)(q->number / 8 % 2),
+                               (uint32_t)(q->number / 16), target->bytes, target->length,
+                               first->bytes, first->length, out, room, length);
     return ask_file(q, out, room, length);
 }
 
@@ -129,6 +135,7 @@ static int rows_agree(const struct question *q, const uint8_t *text, size_t leng
     uint8_t form = is_query(q)         ? DEB_REPORT
                    : calls(q, "unmet") ? DEB_UNMET_LINES
                    : calls(q, "healthy") ? DEB_HEALTH_LINES
+                   : calls(q, "installable") ? DEB_INSTALLABLE_LINES
                    : calls(q, "diff")  ? DEB_DIFF_LINES
                                        : DEB_EXPLANATION;
     struct deb_row *rows;
@@ -350,7 +357,7 @@ int main(int count, char **words) {
     static struct question q;
     int at;
     q.call = count > 1 ? words[1] : "";
-    q.number = count > 2 ? atoi(words[2]) : 0;
+    q.number = count > 2 ? atoll(words[2]) : 0;
     q.profile_count = count > 3 + FILES ? (size_t)count - 3 - FILES : 0;
     q.profiles = malloc((q.profile_count + 1) * sizeof *q.profiles);
     for (at = 3; at < count; at++) {

@@ -67,6 +67,16 @@ static const char *installed =
     "Package: dd\nStatus: install ok half-configured\nVersion: 3\nArchitecture: all\n\n"
     "Package: bb\nStatus: install ok installed\nVersion: 2\nArchitecture: all\nDepends: aa | cc\n";
 
+/* The search learns that no choice of the first package is right, and an architecture wildcard decides
+ * about the last one. */
+static const char *uninstallable =
+    "Package: aa\nVersion: 1\nArchitecture: all\nDepends: bb | cc, dd | mta\nRecommends: ee\n\n"
+    "Package: bb\nVersion: 1\nArchitecture: all\nConflicts: dd, ee\n\n"
+    "Package: cc\nVersion: 1\nArchitecture: all\nBreaks: dd (<< 2), mta\n\n"
+    "Package: dd\nVersion: 1\nArchitecture: all\n\n"
+    "Package: ee\nVersion: 1\nArchitecture: all\nProvides: mta (= 2), other\n\n"
+    "Package: ff\nVersion: 1\nArchitecture: all\nDepends: zz [linux-any]\n";
+
 static uint8_t out[1024];
 static size_t length;
 
@@ -214,6 +224,12 @@ static struct deb_answer call(int which) {
     case 31:
         return deb_healthy(DEB_STATUS, 1, bytes("amd64"), 5, bytes(installed), strlen(installed), out,
                            sizeof out, &length);
+    case 32:
+        return deb_installable(DEB_PACKAGES, 1, 0, bytes("amd64"), 5, bytes(uninstallable),
+                               strlen(uninstallable), out, sizeof out, &length);
+    case 33:
+        return deb_installable(DEB_STATUS, 1, 0, bytes("amd64"), 5, bytes(installed),
+                               strlen(installed), out, sizeof out, &length);
     default:
         return deb_query(bytes("amd64"), 5, &profile, 1, bytes("hello (>= 1) | xx, mta"), 22, text,
                          size, out, sizeof out, &length);
@@ -232,6 +248,7 @@ int main(void) {
                                   "explain_version, refused",  "explain_version",
                                   "relation_parts",    "reader_feed", "reader_feed, refused",
                                   "index_new",         "healthy",     "healthy, installed",
+                                  "installable",       "installable, installed",
                                   "query"};
     enum { CALLS = sizeof names / sizeof *names };
     static const int statuses[CALLS] = {
@@ -240,7 +257,7 @@ int main(void) {
         DEB_YES, DEB_YES, DEB_NO,  DEB_NO,  DEB_REFUSED, DEB_YES,
         DEB_REFUSED, DEB_NO,  DEB_NO,  DEB_YES, DEB_REFUSED, DEB_YES,
         DEB_REFUSED, DEB_YES, DEB_YES, DEB_YES, DEB_REFUSED, DEB_YES,
-        DEB_NO,  DEB_NO,  DEB_YES,
+        DEB_NO,  DEB_NO,  DEB_NO,  DEB_NO,  DEB_YES,
     };
     struct deb_answer reading;
     int which, passed = 0, failed = 0;

@@ -7,7 +7,9 @@ import sys
 from pathlib import Path
 
 import debctl
-from debctl import Alternative, HealthReason, NumberedPackage, Parts, Reason, Refused, Version
+from debctl import (
+    Alternative, HealthReason, NotInstallable, NumberedPackage, Parts, Reason, Refused, Version,
+)
 from printed import printed
 
 INDEX = (
@@ -99,6 +101,25 @@ def states():
             HealthReason("state", NumberedPackage(2, "bb", "2", "all"), None, None, None, "unpacked"),
             HealthReason("state", NumberedPackage(3, "cc", "-", "-"), None, None, None, "-"),
         ]
+    )
+
+
+def not_installable():
+    """Whether a report on which packages can't be installed has each with its verdict."""
+    choices = "\n".join([
+        HELLO + "Depends: aa | bb, cc | dd\n", HELLO.replace("hello", "aa") + "Conflicts: cc, dd\n",
+        HELLO.replace("hello", "bb") + "Conflicts: cc, dd\n", HELLO.replace("hello", "cc"),
+        HELLO.replace("hello", "dd"), HELLO.replace("hello", "ee") + "Pre-Depends: zz [linux-any]\n",
+    ])
+    report, brief = debctl.installable(choices, "amd64"), debctl.installable(choices, "amd64", budget=1)
+    hello = NotInstallable("uninstallable", 1, "hello", "1", "all")
+    ee = NotInstallable("unsure", 6, "ee", "1", "all")
+    whole = debctl.installable(INDEX, "amd64")
+    return (
+        not report and not brief and bool(whole) and whole == (True, "") and whole.packages == []
+        and report.packages == [hello, ee]
+        and brief.packages == [hello._replace(verdict="undecided"), ee]
+        and all(printed(it) == it.text.encode() for it in (report, brief, whole))
     )
 
 
@@ -332,7 +353,7 @@ def texts():
 
 TESTS = {
     "groups": groups(), "reports": reports(), "health": health(), "states": states(),
-    "changes": changes(), "explanations": explanations(), "parts": parts(),
+    "not installable": not_installable(), "changes": changes(), "explanations": explanations(), "parts": parts(),
     "versions and texts": versions_and_texts(), "spelled": spelled(),
     "profiles": profiles(), "one alternative": one_alternative(), "details": details(),
     "pieces": pieces(), "texts": texts(),

@@ -1,4 +1,5 @@
-"""The Python module: keys, relations, unmet relations, sets of packages, and paragraphs with their fields."""
+"""The Python module: keys, relations, unmet relations, sets of packages, which packages can be installed,
+and paragraphs with their fields."""
 
 import functools
 import io
@@ -219,6 +220,50 @@ def refused_sets():
     )
 
 
+def installable():
+    """Whether each package that can't be installed has the line that the program prints of it, from each
+    type of text, and by the packages of each kind of file."""
+    texts = [SET, SET.encode(), bytearray(SET.encode()), memoryview(SET.encode())]
+    removed = "Status: deinstall ok config-files\nPackage: bb\nVersion: 1\nArchitecture: all\n\n"
+    last = "Status: install ok installed\nPackage: aa\nVersion: 01\nArchitecture: all\nRecommends: bb\n"
+    aa, status = "uninstallable 1 aa 1 amd64\n", removed + last
+    return (
+        all(
+            debctl.installable(it, "amd64") == debctl.installable(it, b"amd64", recommends=True)
+            == debctl.installable(it, memoryview(b"amd64"), budget=1) == (False, aa)
+            for it in texts
+        )
+        and debctl.installable(status, "amd64", kind="status") == (True, "")
+        and debctl.installable(status, "amd64", kind="status", recommends=True)
+        == (False, "uninstallable 1 aa 1 all\n")
+        and debctl.installable(status, "amd64", recommends=True) == (True, "")
+        and debctl.installable("", "amd64") == debctl.installable("", "amd64", kind="status")
+        == (True, "")
+    )
+
+
+def refused_installable():
+    """Whether a file, a target, a kind and a budget that are wrong have their exceptions."""
+    ask = functools.partial(error, debctl.installable)
+    found = [
+        ask(CONTROL.replace("01", "1-"), "amd64"), ask(INDEX, "amd64", kind="status"), ask("x", "any"),
+    ]
+    others, budgets = ["binary", "source", "sources", "any"], [0, -1, 1 << 32, 1 << 64]
+    return (
+        [(it.name, it.line, it.second, it.field) for it in found] == [
+            ("BadVersion", 2, False, "Version"), ("MissingField", 1, False, "Status"),
+            ("BadEnvironment", 0, False, None),
+        ]
+        and [str(ask("x", "any", kind=it)) for it in others]
+        == [f"there are no sets of {it!r}" for it in others]
+        and isinstance(ask("x", "any", kind="installed"), ValueError)
+        and [str(ask("x", "any", budget=it)) for it in budgets] == [f"no budget: {it}" for it in budgets]
+        and all(isinstance(ask("x", "any", budget=it), TypeError) for it in (None, "1", 1.0))
+        and isinstance(ask(SET, "amd64", "packages"), TypeError)
+        and debctl.installable("", "amd64", budget=(1 << 32) - 1).installable
+    )
+
+
 BB, CC, EE = (
     f"unmet 1 aa 1 amd64 {it}" for it in ("Depends bb", "Depends cc | dd", "Recommends ee")
 )
@@ -263,6 +308,8 @@ TESTS = {
     ]
     == [("BadVersion", 2, False, "Version")],
     "healthy, no target": [error(debctl.healthy, "x", it).line for it in ("any", "all", "")] == [0] * 3,
+    "installable": installable(),
+    "installable, refused": refused_installable(),
     "paragraphs": read(FILE)
     == [(2, {"Package": "hello", "Depends": "aa,\n bb"}), (6, {"x": ""})],
     "no paragraphs": read("") == read("\n \n") == [],

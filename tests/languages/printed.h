@@ -17,6 +17,7 @@ static const char *const rules[] = {
     "unmet | | | | | |", "unsure | | | | | |",
     "conflict | | | | | | by | | | |", "unsure | | | | | | by | | | |", "duplicate | | | | with | | |",
     "state | | | | |",
+    "uninstallable | | | |", "unsure | | | |", "undecided | | | |",
 };
 
 /* Appends a row to `to`, with the newline, and returns its end; NULL if the row isn't one of its

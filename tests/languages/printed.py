@@ -1,6 +1,6 @@
 """The texts of the Python module's objects, printed again from what the objects say alone."""
 
-from debctl import AllExplained, Explanation, HealthReport, Report, UnmetReport
+from debctl import AllExplained, Explanation, HealthReport, InstallReport, Report, UnmetReport
 
 
 def of_package(package):
@@ -36,6 +36,11 @@ def of_health(reason):
         return " ".join([*line, reason.status])
     line += [reason.field, reason.group]
     return " ".join(line if reason.by is None else [*line, "by", of_package(reason.by)])
+
+
+def of_not_installable(it):
+    """The line of a package that can't be installed, or may not be."""
+    return " ".join([it.verdict, str(it.number), it.package, it.version, it.architecture])
 
 
 def of_change(change):
@@ -85,6 +90,8 @@ def printed(it):
         lines = [of_unmet(group) for group in it.groups]
     elif isinstance(it, HealthReport):
         lines = [of_health(reason) for reason in it.reasons]
+    elif isinstance(it, InstallReport):
+        lines = [of_not_installable(package) for package in it.packages]
     elif isinstance(it, Explanation):
         lines = of_explanation(it)
     elif isinstance(it, AllExplained):

@@ -9,7 +9,9 @@ ORDERS = {
 }
 LONGEST_RELATION = 16_777_216  # in a file that the program reads; the libraries have no such limit
 FLAGS = ["--recommends", "--installed", "--all", "--why", "--values"]
-VALUES = ["--kind", "--arch", "--profiles", "--relation", "--version-text", "--relation-from"]
+VALUES = [
+    "--kind", "--arch", "--profiles", "--relation", "--version-text", "--relation-from", "--budget",
+]
 
 
 class Unknown(Exception):
@@ -83,6 +85,16 @@ def healthy_question(options, others, given):
     return "healthy", number, texts
 
 
+def installable_question(options, others, given):
+    """A question which packages can be installed: its number is that of a question whether they are
+    healthy, and 16 for each step of the budget, if there is one; its texts are the target and the file."""
+    budget = options.pop("--budget", "0")
+    if not budget.isdecimal() or int(budget) > 1_000_000_000:
+        raise Unknown
+    _, number, texts = healthy_question(options, others, given)
+    return "installable", number + 16 * int(budget), texts
+
+
 def query_question(options, others, given):
     """A query, whose number is how many profiles are active; its texts are the target, the relation, the
     index and the profiles."""
@@ -149,6 +161,8 @@ def question(words, given):
             asked = unmet_question(options, others, given)
         elif call == "healthy":
             asked = healthy_question(options, others, given)
+        elif call == "installable":
+            asked = installable_question(options, others, given)
         elif call == "query":
             asked = query_question(options, others, given)
         else:

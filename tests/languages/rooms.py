@@ -66,6 +66,10 @@ TESTS = {
     "unmet": (lambda: debctl.unmet(INDEX, INDEX, "amd64").groups, 2),
     "healthy": (lambda: debctl.healthy(INDEX, "amd64").reasons, 2),
     "healthy, of a status file": (lambda: debctl.healthy(STATUS, "amd64", kind="status").reasons, 2),
+    "installable": (lambda: debctl.installable(INDEX, "amd64").packages, 2),
+    "installable, of a status file": (
+        lambda: debctl.installable(STATUS, "amd64", kind="status", recommends=True).packages, 2,
+    ),
     "Index": (lambda: debctl.Index(INDEX), 2),  # and frees it
     "Index.query": (lambda: LOADED.query(NAMES, "amd64").groups, 2),
     "Index.unmet": (lambda: LOADED.unmet(INDEX, "amd64").groups, 2),

@@ -56,6 +56,11 @@ static const struct lined all[] = {
      "1/aa/1/amd64/Depends/bb | by (>= 1) [by x]/1/aa/1/amd64/Depends/x [any] | by/"
      "1/aa/1/amd64/Conflicts/mm/2/by/2/all/2/by/2/all/Breaks/by (<< 2) [3 by linux-any]/1/aa/1/amd64/"
      "1/aa/1/amd64/3/1.1/amd64/4/dd/1/all/Breaks/by/5/by/6/all/7/ee/-/all/x:/"},
+    {DEB_INSTALLABLE_LINES,
+     "uninstallable 1 aa 1:2-3 amd64\nunsure 12 bb 1 all\nundecided 345 by 1~ i386\n",
+     3,
+     {DEB_ROW_UNINSTALLABLE, DEB_ROW_UNSURE, DEB_ROW_UNDECIDED},
+     "1/aa/1:2-3/amd64/12/bb/1/all/345/by/1~/i386/"},
     {DEB_EXPLANATION, "ok 12\nok\n", 2, {DEB_ROW_OK, DEB_ROW_VALID}, "12/"},
 };
 
@@ -130,12 +135,16 @@ static void try_others(void) {
         "state 1 aa 1 all\n",
         "state 1 aa  all unpacked\n",
         "state - aa 1 all unpacked\n",
+        "uninstallable 1 aa 1\n",
+        "uninstallable 1 aa 1 all Depends\n",
+        "unsure x aa 1 all\n",
+        "undecided 1 aa 1 all:\n",
     };
-    static const uint8_t forms[] = {5, 6, 128, 255};
+    static const uint8_t forms[] = {6, 7, 128, 255};
     uint8_t form;
     size_t at, count;
     for (at = 0; at < sizeof texts / sizeof *texts; at++)
-        for (form = 0; form < 5; form++) {
+        for (form = 0; form < 6; form++) {
             struct deb_row *rows = sevens(4 * sizeof *rows);
             struct deb_answer answer;
             count = 99;
@@ -147,7 +156,7 @@ static void try_others(void) {
             free(rows);
         }
     for (at = 0; at < sizeof all / sizeof *all; at++)
-        for (form = 0; form < 5; form++)
+        for (form = 0; form < 6; form++)
             if (form != all[at].form && all[at].count &&
                 (form != DEB_HEALTH_LINES || all[at].form != DEB_UNMET_LINES))
                 IS(is(deb_rows(form, bytes(all[at].text), strlen(all[at].text), NULL, 0, &count),

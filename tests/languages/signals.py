@@ -25,6 +25,7 @@ FIXED = {
     "unmet": lambda: debctl.unmet(INDEX, INDEX, "amd64"),
     "healthy": lambda: debctl.healthy(INDEX, "amd64"),
     "healthy, of a status file": lambda: debctl.healthy(STATUS, "amd64", kind="status"),
+    "installable": lambda: debctl.installable(INDEX, "amd64", budget=1),
     "paragraphs": lambda: [dict(it) for it in debctl.paragraphs(INDEX)],
     "value": lambda: next(debctl.paragraphs(INDEX, "packages")).canonical("Depends"),
     "diff": lambda: debctl.diff(INDEX, ""),

@@ -1,5 +1,5 @@
-/* Keys of versions, canonical relations, unmet relations, sets of packages, and the tables of fields
- * and of refusals. */
+/* Keys of versions, canonical relations, unmet relations, sets of packages, which packages can be
+ * installed, and the tables of fields and of refusals. */
 #include "debctl.h"
 
 #include <stdio.h>
@@ -193,14 +193,56 @@ static const char status_file[] =
     "Package: cc\nStatus: install ok installed\nVersion: 02\nArchitecture: all\nDepends: aa, cc\n"
     "Recommends: bb\n";
 
+/* What is asked of a set of packages, and the answer; no lines are written if these are NULL. */
+struct of_set {
+    int kind, recommends;
+    const char *target, *index;
+    int status, code;
+    uint64_t line, count;
+    const char *lines;
+};
+
+typedef struct deb_answer set_asker(const struct of_set *q, uint8_t *out, size_t room,
+                                    size_t *length);
+
+static struct deb_answer ask_healthy(const struct of_set *q, uint8_t *out, size_t room,
+                                     size_t *length) {
+    size_t target = strlen(q->target), size = strlen(q->index);
+    return deb_healthy((uint8_t)q->kind, (uint8_t)q->recommends, target ? bytes(q->target) : NULL,
+                       target, size ? bytes(q->index) : NULL, size, out, room, length);
+}
+
+static struct deb_answer ask_installable(const struct of_set *q, uint8_t *out, size_t room,
+                                         size_t *length) {
+    size_t target = strlen(q->target), size = strlen(q->index);
+    return deb_installable((uint8_t)q->kind, (uint8_t)q->recommends, 0,
+                           target ? bytes(q->target) : NULL, target, size ? bytes(q->index) : NULL,
+                           size, out, room, length);
+}
+
+/* Asks with a buffer that is a byte too short, one that is long enough, and a longer one. */
+static void try_set(set_asker *ask, const struct of_set *q) {
+    size_t whole = q->lines ? strlen(q->lines) : 0, room, length;
+    for (room = whole ? whole - 1 : 0; room <= whole + 1; room++) {
+        uint8_t *out = malloc(room + 1);
+        struct deb_answer answer;
+        memset(out, 7, room + 1);
+        length = 99;
+        answer = ask(q, out, room, &length);
+        IS(length == whole);
+        if (!q->lines)
+            IS(is(answer, q->status, q->code, q->line, 0) && untouched(out, room + 1));
+        else if (room < whole)
+            IS(is(answer, DEB_NO_ROOM, 0, 0, 0) && untouched(out, room + 1));
+        else
+            IS(is(answer, q->status, 0, 0, q->count) && memcmp(out, q->lines, whole) == 0 &&
+               untouched(out + whole, room + 1 - whole));
+        free(out);
+    }
+}
+
 static void try_healthy(void) {
-    static const struct {
-        int kind, recommends;
-        const char *target, *index;
-        int status, code;
-        uint64_t line, count;
-        const char *lines;
-    } all[] = {
+    static const struct of_set all[] = {
         {1, 0, "amd64", set, DEB_NO, 0, 0, 4, UNMET_IN_SET UNHEALTHY},
         {1, 1, "amd64", set, DEB_NO, 0, 0, 4,
          UNMET_IN_SET "unmet 1 aa 1 amd64 Recommends ee\n" UNHEALTHY},
@@ -235,30 +277,89 @@ static void try_healthy(void) {
         {255, 1, "amd64", set, DEB_NO_KIND, 0, 0, 0, NULL},
     };
     size_t at;
-    for (at = 0; at < sizeof all / sizeof *all; at++) {
-        size_t whole = all[at].lines ? strlen(all[at].lines) : 0, room, length;
-        size_t target = strlen(all[at].target), size = strlen(all[at].index);
-        for (room = whole ? whole - 1 : 0; room <= whole + 1; room++) {
-            uint8_t *out = malloc(room + 1);
-            struct deb_answer answer;
-            memset(out, 7, room + 1);
-            length = 99;
-            answer = deb_healthy((uint8_t)all[at].kind, (uint8_t)all[at].recommends,
-                                 target ? bytes(all[at].target) : NULL, target,
-                                 size ? bytes(all[at].index) : NULL, size, out, room, &length);
-            IS(length == whole);
-            if (!all[at].lines)
-                IS(is(answer, all[at].status, all[at].code, all[at].line, 0) &&
-                   untouched(out, room + 1));
-            else if (room < whole)
-                IS(is(answer, DEB_NO_ROOM, 0, 0, 0) && untouched(out, room + 1));
-            else
-                IS(is(answer, all[at].status, 0, 0, all[at].count) &&
-                   memcmp(out, all[at].lines, whole) == 0 &&
-                   untouched(out + whole, room + 1 - whole));
-            free(out);
-        }
-    }
+    for (at = 0; at < sizeof all / sizeof *all; at++)
+        try_set(ask_healthy, &all[at]);
+}
+
+/* aa needs bb, which needs cc, which aa excludes. dd may need zz, which isn't there, and ee needs dd or
+ * aa. */
+static const char chain[] =
+    "Package: aa\nVersion: 01\nArchitecture: all\nDepends: bb\nConflicts: cc\n\n"
+    "Package: bb\nVersion: 1\nArchitecture: all\nDepends: cc\nRecommends: aa\n\n"
+    "Package: cc\nVersion: 1\nArchitecture: amd64\n\n"
+    "Package: dd\nVersion: 1\nArchitecture: all\nPre-Depends: zz [linux-any]\n\n"
+    "Package: ee\nVersion: 1:0\nArchitecture: amd64\nDepends: aa | dd\n";
+
+static void try_installable(void) {
+    static const struct of_set all[] = {
+        {1, 0, "amd64", set, DEB_NO, 0, 0, 4, "uninstallable 1 aa 1 amd64\n"},
+        {1, 0, "amd64", chain, DEB_NO, 0, 0, 5,
+         "uninstallable 1 aa 1 all\nunsure 4 dd 1 all\nunsure 5 ee 1:0 amd64\n"},
+        {1, 1, "amd64", chain, DEB_NO, 0, 0, 5,
+         "uninstallable 1 aa 1 all\nuninstallable 2 bb 1 all\nunsure 4 dd 1 all\n"
+         "unsure 5 ee 1:0 amd64\n"},
+        {1, 255, "amd64", "Package: aa\nVersion: 1\nArchitecture: all\nRecommends: bb\n", DEB_NO, 0,
+         0, 1, "uninstallable 1 aa 1 all\n"},
+        {1, 0, "amd64", "Package: aa\nVersion: 1\nArchitecture: all\nRecommends: bb\n", DEB_YES, 0,
+         0, 1, ""},
+        {1, 0, "amd64", "", DEB_YES, 0, 0, 0, ""},
+        {1, 0, "any", "x", DEB_REFUSED, DEB_BAD_ENVIRONMENT, 0, 0, NULL},
+        {1, 0, "", set, DEB_REFUSED, DEB_BAD_ENVIRONMENT, 0, 0, NULL},
+        {1, 1, "amd64", "\nx", DEB_REFUSED, DEB_NO_COLON, 2, 0, NULL},
+        {1, 0, "amd64", status_file, DEB_NO, 0, 0, 3,
+         "uninstallable 1 aa 1 all\nuninstallable 3 cc 2 all\n"},
+        {5, 0, "amd64", status_file, DEB_NO, 0, 0, 1, "uninstallable 1 cc 2 all\n"},
+        {5, 0, "amd64", "Package: aa\nStatus: not-installed\n", DEB_YES, 0, 0, 0, ""},
+        {5, 1, "amd64", "", DEB_YES, 0, 0, 0, ""},
+        {5, 0, "any", "x", DEB_REFUSED, DEB_BAD_ENVIRONMENT, 0, 0, NULL},
+        {5, 0, "amd64", set, DEB_REFUSED, DEB_MISSING_FIELD, 1, 0, NULL},
+        {5, 1, "amd64", "Package: aa\nStatus: deinstall ok config-files\nVersion: 1_\n", DEB_REFUSED,
+         DEB_BAD_VERSION, 3, 0, NULL},
+        {0, 0, "amd64", set, DEB_NO_KIND, 0, 0, 0, NULL},
+        {2, 1, "any", "x", DEB_NO_KIND, 0, 0, 0, NULL},
+        {3, 0, "amd64", "", DEB_NO_KIND, 0, 0, 0, NULL},
+        {4, 255, "amd64", status_file, DEB_NO_KIND, 0, 0, 0, NULL},
+        {6, 0, "", "", DEB_NO_KIND, 0, 0, 0, NULL},
+        {255, 1, "amd64", set, DEB_NO_KIND, 0, 0, 0, NULL},
+    };
+    size_t at;
+    for (at = 0; at < sizeof all / sizeof *all; at++)
+        try_set(ask_installable, &all[at]);
+}
+
+/* aa needs one of bb and cc, and one of dd and ee; neither of the first goes with one of the others. So
+ * no choice is the right one. */
+static const char choices[] =
+    "Package: aa\nVersion: 1\nArchitecture: all\nDepends: bb | cc, dd | ee\n\n"
+    "Package: bb\nVersion: 1\nArchitecture: all\nConflicts: dd, ee\n\n"
+    "Package: cc\nVersion: 1\nArchitecture: all\nConflicts: dd, ee\n\n"
+    "Package: dd\nVersion: 1\nArchitecture: all\n\n"
+    "Package: ee\nVersion: 1\nArchitecture: all\n";
+
+static int has_lines_within(uint32_t budget, const char *index, const char *lines) {
+    uint8_t out[256];
+    size_t length = 0;
+    struct deb_answer answer = deb_installable(DEB_PACKAGES, 0, budget, bytes("amd64"), 5,
+                                               bytes(index), strlen(index), out, sizeof out, &length);
+    return answer.status == (*lines ? DEB_NO : DEB_YES) && length == strlen(lines) &&
+           memcmp(out, lines, length) == 0;
+}
+
+/* One step doesn't find out that no choice is right. Of versions of one package, which exclude each
+ * other, each takes a step, and all together take at most a hundred for each that one may take. */
+static void try_budgets(void) {
+    enum { VERSIONS = 102 };
+    char versions[VERSIONS * 48], *to = versions;
+    unsigned at;
+    for (at = 1; at <= VERSIONS; at++)
+        to += sprintf(to, "Package: aa\nVersion: %u\nArchitecture: all\n\n", at);
+    IS(has_lines_within(0, choices, "uninstallable 1 aa 1 all\n"));
+    IS(has_lines_within(1, choices, "undecided 1 aa 1 all\n"));
+    IS(has_lines_within(4294967295, choices, "uninstallable 1 aa 1 all\n"));
+    IS(has_lines_within(0, versions, ""));
+    IS(has_lines_within(1, versions, "undecided 101 aa 101 all\nundecided 102 aa 102 all\n"));
+    IS(has_lines_within(2, versions, ""));
+    IS(has_lines_within(4294967295, versions, ""));
 }
 
 /* ---- fields */
@@ -439,6 +540,8 @@ int main(void) {
     try_relation("aa (", NULL);
     try_unmet();
     try_healthy();
+    try_installable();
+    try_budgets();
     try_fields();
     try_refusals();
     try_many_refusals();

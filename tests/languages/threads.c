@@ -88,6 +88,9 @@ static void *run(void *wrong) {
         *(int *)wrong += deb_healthy(DEB_PACKAGES, 0, bytes("amd64"), 5, text, size, out, sizeof out,
                                      &length)
                              .status != DEB_YES;
+        *(int *)wrong += deb_installable(DEB_PACKAGES, 0, 0, bytes("amd64"), 5, text, size, out,
+                                         sizeof out, &length)
+                             .status != DEB_YES;
         *(int *)wrong += ask_more(text, size);
     }
     return NULL;

@@ -40,7 +40,11 @@ asked_aa = record {
     equals_are = refl;
   };
   wildcard = false;
-  environment = record { target = vector (codes "amd64") refl; profiles = vector [] refl };
+  environment = record {
+    target = vector (codes "amd64") refl;
+    native = vector (codes "amd64") refl;
+    profiles = vector [] refl;
+  };
   wildcard_is = refl;
 }
 

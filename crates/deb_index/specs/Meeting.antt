@@ -6,7 +6,7 @@ use Rattle.std.specs.Str.{bytes_eq}
 use Rattle.deb_version.specs.Order.{version_cmp}
 use Rattle.deb_version.specs.Parts.{Meaning as Version}
 use Rattle.deb_relation.specs.Applying.{Environment, holds}
-use Rattle.deb_relation.specs.Environments.{with_target}
+use Rattle.deb_relation.specs.Environments.{environment_with, with_target}
 use Rattle.deb_relation.specs.Meaning.{Alternative}
 use Rattle.deb_relation.specs.declared.operator.Op.{Op}
 use Rattle.deb_relation.specs.declared.operator.Op.TheVariants.{Earlier, EarlierEqual, Equal, LaterEqual, Later}
@@ -241,7 +241,7 @@ worked-provided_other = refl
 
 -- the architecture that is asked for is the target's, whichever it is
 abbrev other_target : List ℕ → Environment
-other_target name = record { target = name; profiles = [] }
+other_target name = environment_with name []
 
 worked-other_targets : map
     (λ name. map (λ architecture. meets (other_target name) (alone (codes "aa"))

@@ -140,6 +140,7 @@ questions : (about_aa (codes "amd64") (codes "cross" ∷ codes "nocheck" ∷ [])
 })
     × (environment_in (about_aa (codes "amd64") (codes "cross" ∷ codes "nocheck" ∷ [])) ≡ record {
       target = codes "amd64";
+      native = codes "amd64";
       profiles = codes "cross" ∷ codes "nocheck" ∷ [];
     })
 questions = (refl, refl)

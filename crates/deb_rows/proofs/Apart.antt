@@ -75,12 +75,16 @@ health_kind text =
     cond (get_or text 0 0 == 99) kind.Conflict
     (cond (get_or text 0 0 == 100) kind.Duplicate (cond (get_or text 0 0 == 115) kind.State (cond (get_or text 2 0 == 109) kind.UnmetNeed (unsure_kind (drop 7 text)))))
 
+abbrev pub installable_kind : List ℕ → RowKind
+installable_kind text = cond (get_or text 2 0 == 105) kind.Uninstallable (cond (get_or text 2 0 == 115) kind.Unsure kind.Undecided)
+
 abbrev pub text_kind : Form → List ℕ → RowKind
 text_kind form.Report text = report_kind text
 text_kind form.UnmetLines text = unmet_kind text
 text_kind form.DiffLines text = diff_kind text
 text_kind form.Explanation text = explanation_kind text
 text_kind form.HealthLines text = health_kind text
+text_kind form.InstallableLines text = installable_kind text
 
 -- ---- cells, one by one
 
@@ -396,3 +400,6 @@ line_kind kind.Conflict cells more e = refl
 line_kind kind.UnsureConflict cells more e = unsure_conflict_kind cells more e
 line_kind kind.Duplicate cells more e = refl
 line_kind kind.State cells more e = refl
+line_kind kind.Uninstallable cells more e = refl
+line_kind kind.Unsure cells more e = refl
+line_kind kind.Undecided cells more e = refl

@@ -173,6 +173,9 @@ cells_close kind.Conflict = package_and_closes field_and_excluded excluded_close
 cells_close kind.UnsureConflict = package_and_closes field_and_excluded excluded_closes
 cells_close kind.Duplicate = twice_closes
 cells_close kind.State = package_and_closes any_text text_closes
+cells_close kind.Uninstallable = package_closes
+cells_close kind.Unsure = package_closes
+cells_close kind.Undecided = package_closes
 
 -- a kind is one of these
 abbrev pub IsAmong : RowKind → List RowKind → Type 0
@@ -206,6 +209,9 @@ is_among kind.Conflict = inr (inr (inl refl))
 is_among kind.UnsureConflict = inr (inr (inr (inl refl)))
 is_among kind.Duplicate = inr (inr (inr (inr (inl refl))))
 is_among kind.State = inr (inr (inr (inr (inr (inl refl)))))
+is_among kind.Uninstallable = inl refl
+is_among kind.Unsure = inr (inl refl)
+is_among kind.Undecided = inr (inr (inl refl))
 
 -- these kinds are of a form
 abbrev pub AreOf : Form → List RowKind → Type 0
@@ -218,3 +224,4 @@ are_of_form form.UnmetLines = (refl, (refl, tt))
 are_of_form form.DiffLines = (refl, (refl, (refl, (refl, (refl, (refl, (refl, tt)))))))
 are_of_form form.Explanation = (refl, (refl, (refl, (refl, (refl, tt)))))
 are_of_form form.HealthLines = (refl, (refl, (refl, (refl, (refl, (refl, tt))))))
+are_of_form form.InstallableLines = (refl, (refl, (refl, tt)))

@@ -45,6 +45,9 @@ front_of kind.Conflict = codes "conflict "
 front_of kind.UnsureConflict = codes "unsure "
 front_of kind.Duplicate = codes "duplicate "
 front_of kind.State = codes "state "
+front_of kind.Uninstallable = codes "uninstallable "
+front_of kind.Unsure = codes "unsure "
+front_of kind.Undecided = codes "undecided "
 
 -- a number, name, version and architecture, each with a space after it, and more
 abbrev pub package_and : List Piece → List Piece
@@ -104,6 +107,9 @@ pieces_of kind.Conflict = package_and field_and_excluded
 pieces_of kind.UnsureConflict = package_and field_and_excluded
 pieces_of kind.Duplicate = package_twice
 pieces_of kind.State = package_and any_text
+pieces_of kind.Uninstallable = package_last
+pieces_of kind.Unsure = package_last
+pieces_of kind.Undecided = package_last
 
 -- the number of a kind in a table
 abbrev pub number_of : RowKind → ℕ
@@ -133,6 +139,9 @@ number_of kind.Conflict = 22
 number_of kind.UnsureConflict = 23
 number_of kind.Duplicate = 24
 number_of kind.State = 25
+number_of kind.Uninstallable = 26
+number_of kind.Unsure = 27
+number_of kind.Undecided = 28
 
 -- the form of the texts that have a kind
 abbrev pub form_of : RowKind → Form
@@ -162,6 +171,9 @@ form_of kind.Conflict = form.HealthLines
 form_of kind.UnsureConflict = form.HealthLines
 form_of kind.Duplicate = form.HealthLines
 form_of kind.State = form.HealthLines
+form_of kind.Uninstallable = form.InstallableLines
+form_of kind.Unsure = form.InstallableLines
+form_of kind.Undecided = form.InstallableLines
 
 -- the kinds of a form
 abbrev pub kinds_of : Form → List RowKind
@@ -175,6 +187,7 @@ kinds_of form.Explanation = kind.Key ∷ kind.End ∷ kind.Count ∷ kind.Summar
 kinds_of form.HealthLines =
     kind.UnmetNeed ∷ kind.UnsureNeed ∷ kind.Conflict ∷ kind.UnsureConflict ∷ kind.Duplicate
     ∷ kind.State ∷ []
+kinds_of form.InstallableLines = kind.Uninstallable ∷ kind.Unsure ∷ kind.Undecided ∷ []
 
 -- Worked cases.
 
@@ -200,17 +213,26 @@ pieces_of_sets : (pieces_of kind.UnmetNeed ≡ (Number, codes " ") ∷ (Word, co
     × (pieces_of kind.State ≡ pieces_of kind.Changed)
 pieces_of_sets = (refl, refl, refl, refl, refl, refl)
 
+pieces_of_verdicts : map pieces_of (kinds_of form.InstallableLines)
+    ≡ replicate 3 ((Number, codes " ") ∷ (Word, codes " ") ∷ (Word, codes " ")
+    ∷ (Word, codes "\n") ∷ [])
+pieces_of_verdicts = refl
+
 -- the kinds have the numbers of `deb_row_kind` in `include/debctl.h`
 numbers : map (map number_of)
     (kinds_of form.Report ∷ kinds_of form.UnmetLines ∷ kinds_of form.DiffLines
-    ∷ kinds_of form.Explanation ∷ kinds_of form.HealthLines ∷ [])
+    ∷ kinds_of form.Explanation ∷ kinds_of form.HealthLines ∷ kinds_of form.InstallableLines
+    ∷ [])
     ≡ (0 ∷ 1 ∷ 2 ∷ 3 ∷ 4 ∷ 5 ∷ []) ∷ (6 ∷ 7 ∷ []) ∷ (8 ∷ 9 ∷ 10 ∷ 11 ∷ 12 ∷ 13 ∷ 19 ∷ [])
-    ∷ (14 ∷ 15 ∷ 16 ∷ 17 ∷ 18 ∷ []) ∷ (20 ∷ 21 ∷ 22 ∷ 23 ∷ 24 ∷ 25 ∷ []) ∷ []
+    ∷ (14 ∷ 15 ∷ 16 ∷ 17 ∷ 18 ∷ []) ∷ (20 ∷ 21 ∷ 22 ∷ 23 ∷ 24 ∷ 25 ∷ [])
+    ∷ (26 ∷ 27 ∷ 28 ∷ []) ∷ []
 numbers = refl
 
 forms : map (map form_of)
     (kinds_of form.Report ∷ kinds_of form.UnmetLines ∷ kinds_of form.DiffLines
-    ∷ kinds_of form.Explanation ∷ kinds_of form.HealthLines ∷ [])
+    ∷ kinds_of form.Explanation ∷ kinds_of form.HealthLines ∷ kinds_of form.InstallableLines
+    ∷ [])
     ≡ replicate 6 form.Report ∷ replicate 2 form.UnmetLines ∷ replicate 7 form.DiffLines
-    ∷ replicate 5 form.Explanation ∷ replicate 6 form.HealthLines ∷ []
+    ∷ replicate 5 form.Explanation ∷ replicate 6 form.HealthLines
+    ∷ replicate 3 form.InstallableLines ∷ []
 forms = refl

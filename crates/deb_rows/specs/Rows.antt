@@ -180,6 +180,15 @@ conflicts : (row_line (row kind.Conflict
     ≡ codes "state 3 dd - all installed\n")
 conflicts = (refl, refl, refl, refl)
 
+verdicts : (row_line (row kind.Uninstallable
+    (codes "4" ∷ codes "aa" ∷ codes "1:2-1" ∷ codes "amd64" ∷ []))
+    ≡ codes "uninstallable 4 aa 1:2-1 amd64\n")
+    × (row_line (row kind.Unsure (codes "5" ∷ codes "bb" ∷ codes "1" ∷ codes "all" ∷ []))
+    ≡ codes "unsure 5 bb 1 all\n")
+    × (row_line (row kind.Undecided (codes "6" ∷ codes "cc" ∷ codes "1.0" ∷ codes "i386" ∷ []))
+    ≡ codes "undecided 6 cc 1.0 i386\n")
+verdicts = (refl, refl, refl)
+
 lines : rows_text (row kind.Met (codes "a" ∷ []) ∷ row kind.Unmet (codes "b" ∷ []) ∷ [])
     ≡ codes "met a\nunmet b\n"
 lines = refl

@@ -18,6 +18,8 @@ pub enum Form {
     Explanation,
     /// Why a set of packages isn't healthy.
     HealthLines,
+    /// Which packages can't be installed.
+    InstallableLines,
 }
 
 /// The kinds of the lines of a text.
@@ -58,5 +60,6 @@ pub(crate) fn kinds_of(form: Form) -> &'static [RowKind]
             RowKind::Duplicate,
             RowKind::State,
         ],
+        Form::InstallableLines => &[RowKind::Uninstallable, RowKind::Unsure, RowKind::Undecided],
     }
 }

@@ -65,6 +65,12 @@ pub enum RowKind {
     /// A package of a status file that is neither in the set nor removed: number, package, version,
     /// architecture, status.
     State = 25,
+    /// A package that can't be installed: number, package, version, architecture.
+    Uninstallable = 26,
+    /// A package of which that is unsure, likewise.
+    Unsure = 27,
+    /// A package of which the search didn't find that out, likewise.
+    Undecided = 28,
 }
 
 /// The text before the first cell of a line of this kind.
@@ -76,10 +82,13 @@ pub(crate) fn front_of(kind: RowKind) -> &'static [u8]
         RowKind::Unmet | RowKind::UnmetGroup | RowKind::UnmetNeed => b"unmet ",
         RowKind::Ignored => b"ignored ",
         RowKind::Package | RowKind::Reason | RowKind::PackageReason => b" ",
-        RowKind::UnsureGroup | RowKind::UnsureNeed | RowKind::UnsureConflict => b"unsure ",
+        RowKind::UnsureGroup | RowKind::UnsureNeed | RowKind::UnsureConflict | RowKind::Unsure =>
+            b"unsure ",
         RowKind::Conflict => b"conflict ",
         RowKind::Duplicate => b"duplicate ",
         RowKind::State => b"state ",
+        RowKind::Uninstallable => b"uninstallable ",
+        RowKind::Undecided => b"undecided ",
         RowKind::Removed => b"removed ",
         RowKind::Changed => b"changed ",
         RowKind::Upgraded => b"upgraded ",
@@ -177,7 +186,12 @@ pub(crate) fn pieces_of(kind: RowKind) -> Pieces
         RowKind::Met | RowKind::Unmet | RowKind::Ignored | RowKind::OldLine | RowKind::NewLine => {
             ANY_TEXT
         }
-        RowKind::Package | RowKind::Removed | RowKind::Added => PACKAGE_LAST,
+        RowKind::Package
+        | RowKind::Removed
+        | RowKind::Added
+        | RowKind::Uninstallable
+        | RowKind::Unsure
+        | RowKind::Undecided => PACKAGE_LAST,
         RowKind::Reason => REASON,
         RowKind::PackageReason => PACKAGE_REASON,
         RowKind::Changed | RowKind::State => PACKAGE_AND_TEXT,

@@ -1,5 +1,5 @@
 //! Reads the rows of a text that this library wrote: of a report on a relation, of the lines of
-//! `deb_unmet`, `deb_diff` and `deb_health`, and of explanations.
+//! `deb_unmet`, `deb_diff`, `deb_health` and `deb_install`, and of explanations.
 //!
 //! ```
 //! let text = b"met hello\n 1 hello 2.10 amd64\n";

@@ -11,6 +11,9 @@ use crate::rows::Rows;
 use crate::universe::Universe;
 use std::alloc::{AllocError, Global};
 
+/// The derived lists keep four times as many numbers as the universe, and this many more.
+const SPARE: usize = 1_000_000;
+
 /// Why a package isn't in a set together with certain others.
 #[derive(Clone, Copy)]
 pub(crate) enum Reason {
@@ -74,6 +77,19 @@ impl<'u> Refuter<'u> {
         ensures { IfSome result (λ list. IsNogood self.now.universe.now list.now) }
     {
         self.lists.row(number)
+    }
+
+    /// Returns whether the derived lists keep as many numbers as they may.
+    pub(crate) fn is_full(&self) -> bool {
+        let most = self.universe.size().saturating_mul(4).saturating_add(SPARE);
+        self.lists.size() >= most
+    }
+
+    /// Forgets the derived lists.
+    pub(crate) fn forget(&mut self, alloc: Global)
+        ensures { self.new.universe.now ≡ self.old.universe.now }
+    {
+        self.lists = Rows::new(alloc);
     }
 
     /// Notes that a package is out if all packages are that meet one of its groups; returns whether

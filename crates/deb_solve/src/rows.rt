@@ -50,6 +50,11 @@ impl Rows {
         row_in(&self.numbers, &self.ends, number)
     }
 
+    /// Returns how many numbers it keeps: those of the rows, and where each row ends.
+    pub(crate) fn size(&self) -> usize {
+        self.numbers.len().saturating_add(self.ends.len())
+    }
+
     /// Appends a row.
     ///
     /// # Errors

@@ -162,6 +162,11 @@ impl<'t> Search<'t> {
         self.undo(0);
         for _ in 0..steps {
             self.steps = self.steps.saturating_add(1);
+            if known.is_full() {
+                known.forget(alloc);
+                self.forget_lists();
+                level = 0;
+            }
             if level == 0 {
                 if known.is_out(package) {
                     return Ok(Outcome::Ended);

@@ -12,3 +12,11 @@ pub struct Universe {
     /// For each package those that can't be installed together with it.
     pub excludes: Rows,
 }
+
+impl Universe {
+    /// Returns how many numbers its rows keep.
+    pub(crate) fn size(&self) -> usize {
+        let rows = self.needs.size().saturating_add(self.groups.size());
+        rows.saturating_add(self.excludes.size())
+    }
+}

@@ -16,7 +16,7 @@ fn words(alloc: Global, line: &str) -> Result<Vec<String>, AllocError> {
 }
 
 /// A command line, and the task or the fault that it has.
-const LINES: [(&str, &str); 42] = [
+const LINES: [(&str, &str); 45] = [
     (
         "check",
         "Ok(Run(Call { job: Check(Packages), first: None, second: None }))",
@@ -131,6 +131,20 @@ const LINES: [(&str, &str); 42] = [
         "healthy --recommends --installed --arch=amd64",
         "Ok(Run(Call { job: Healthy { arch: \"amd64\", members: Installed, strength: Recommends }, \
         first: None, second: None }))",
+    ),
+    (
+        "installable --arch amd64 x",
+        "Ok(Run(Call { job: Installable { arch: \"amd64\", members: All, strength: Depends, \
+        budget: 100000 }, first: Some(\"x\"), second: None }))",
+    ),
+    (
+        "installable --recommends --installed --budget 1000000000 --arch=amd64",
+        "Ok(Run(Call { job: Installable { arch: \"amd64\", members: Installed, \
+        strength: Recommends, budget: 1000000000 }, first: None, second: None }))",
+    ),
+    (
+        "installable --arch amd64 --budget 1000000001 x",
+        "Err(Usage(\"usage: --budget takes a number from 1 to 1000000000\"))",
     ),
     ("compare 1 xx 2", "Err(Usage(\"usage: unknown operator\"))"),
     ("check --kind foo", "Err(Usage(\"usage: unknown kind\"))"),

@@ -7,7 +7,7 @@ use Rattle.std.specs.List.{slice_split}
 use Rattle.std.specs.Option.{option_map_or}
 use Rattle.clap.specs.Simple.{App, subcommand_of}
 use Rattle.clap.specs.Walk.{Row, Rule, Text, all_of, first_of}
-use Rattle.debctl_args.specs.Commands.{CommandRow, all_rule, arch_rule, code_rule, complete_rule, has_row, installed_rule, kind_rule, least_rule, list_rule, null_rule, optional_rule, paths_rule, profiles_rule, program_of, recommends_rule, relation_file_rule, relation_rule, required_rule, reverse_rule, spelled_rule, values_rule, version_rule, versions_rule, why_rule}
+use Rattle.debctl_args.specs.Commands.{CommandRow, all_rule, arch_rule, budget_rule, code_rule, complete_rule, has_row, installed_rule, kind_rule, least_rule, list_rule, null_rule, optional_rule, paths_rule, profiles_rule, program_of, recommends_rule, relation_file_rule, relation_rule, required_rule, reverse_rule, spelled_rule, values_rule, version_rule, versions_rule, why_rule}
 use Rattle.deb_base.specs.Codes.{name_of, number_of}
 use Rattle.deb_base.specs.declared.code.Code.{Code}
 use Rattle.deb_base.specs.declared.code.Code.TheVariants as code
@@ -93,6 +93,9 @@ commands =
     -- `healthy --arch A [--recommends] [--installed] [PATH]`
     ∷ row (codes "healthy") (arch_rule ∷ recommends_rule ∷ installed_rule
     ∷ optional_rule (codes "path") ∷ [])
+    -- `installable --arch A [--recommends] [--installed] [--budget N] [PATH]`
+    ∷ row (codes "installable") (arch_rule ∷ recommends_rule ∷ installed_rule ∷ budget_rule
+    ∷ optional_rule (codes "path") ∷ [])
     -- `help [COMMAND]`
     ∷ row (codes "help") (optional_rule (codes "command") ∷ []) ∷ []
 
@@ -157,6 +160,20 @@ code_named word = find (names_code word) all_codes
 abbrev pub least_asked : Option Text → Option ℕ
 least_asked None = Some 0
 least_asked (Some word) = number_named word
+
+-- a search may take so many steps
+abbrev pub is_budget : ℕ → Bool
+is_budget steps = nat_lt 0 steps && not (nat_lt 1000000000 steps)
+
+-- the steps of a search that a word allows: such a number, from 1 to 1000000000
+abbrev pub budget_named : Text → Option ℕ
+budget_named word =
+    option_map_or (λ steps. if is_budget steps then Some steps else None) (number_named word) None
+
+-- the most steps of the search for one package: 100000 without a word
+abbrev pub budget_asked : Option Text → Option ℕ
+budget_asked None = Some 100000
+budget_asked (Some word) = budget_named word
 
 -- what stands between the commas (44) of a text
 abbrev pub comma_pieces : Text → List Text
@@ -234,6 +251,7 @@ pub data Wanted : Type 0 where
   queries_from : Text → List Text → Members → Detail → VersionText → Wanted
   finds_unmet : Text → List Text → Members → Dependents → VersionText → Wanted
   checks_health : Text → Members → Strength → Wanted
+  finds_uninstallable : Text → Members → Strength → ℕ → Wanted
   explains : Doc → Wanted
   explains_all : Doc → Wanted
   explains_rule : Code → Wanted
@@ -267,6 +285,8 @@ wanted_of (job.QueryFrom arch profiles members detail versions) =
 wanted_of (job.Unmet arch profiles members dependents versions) =
     finds_unmet (string_bytes arch) (map string_bytes profiles.items) members dependents versions
 wanted_of (job.Healthy arch members strength) = checks_health (string_bytes arch) members strength
+wanted_of (job.Installable arch members strength budget) =
+    finds_uninstallable (string_bytes arch) members strength budget
 
 -- the files that a job reads
 abbrev pub reads_of : Job → Reads
@@ -284,6 +304,7 @@ reads_of (job.Query arch profiles relation members detail versions) = OneFile
 reads_of (job.QueryFrom arch profiles members detail versions) = Paths
 reads_of (job.Unmet arch profiles members dependents versions) = Paths
 reads_of (job.Healthy arch members strength) = OneFile
+reads_of (job.Installable arch members strength budget) = OneFile
 
 -- the kind that is named for the files of a job whose refusals are lines on standard error
 abbrev pub document_of : Job → Option Doc
@@ -342,13 +363,14 @@ pub data Asked : Type 0 where
   no_recommends : Asked
   kind_of_path : Asked
   no_number : Asked
+  no_budget : Asked
   first_or_whole : Asked
 
 -- a word that a command has to have; `clap` refuses words without it
 abbrev pub word_in : Text → List Row → Text
 word_in id rows = unwrap_or (first_of id rows) []
 
--- which packages the index of `query` and `unmet` has, or the set of `healthy`
+-- which packages the index of `query` and `unmet` has, or the file of `healthy` and `installable`
 abbrev pub members_in : List Row → Members
 members_in rows = members_asked (flag_asked (first_of (codes "installed") rows))
 
@@ -624,7 +646,7 @@ unmet_of_sources rows dependents =
     if flag_asked (first_of (codes "recommends") rows) then no_recommends
     else unmet_of_path rows dependents
 
--- which fields of binary packages `unmet` and `healthy` try
+-- which fields of binary packages `unmet`, `healthy` and `installable` try
 abbrev pub strength_in : List Row → Strength
 strength_in rows = strength_asked (flag_asked (first_of (codes "recommends") rows))
 
@@ -657,6 +679,17 @@ healthy_asked rows =
       second = None;
     })
 
+-- `installable`, by its architecture, the fields that it tries and its budget
+abbrev pub installable_asked : List Row → Asked
+installable_asked rows = option_map_or
+    (λ budget. asks (record {
+      wanted = finds_uninstallable (word_in (codes "arch") rows) (members_in rows)
+          (strength_in rows) budget;
+      first = first_of (codes "path") rows;
+      second = None;
+    }))
+    (budget_asked (first_of (codes "budget") rows)) no_budget
+
 abbrev pub help_asked : Option Text → Asked
 help_asked None = asks_help
 help_asked (Some word) = if has_help word then asks_help else unknown_command
@@ -677,6 +710,7 @@ asked_by name rows =
     else if bytes_eq name (codes "query") then query_asked rows
     else if bytes_eq name (codes "unmet") then unmet_asked rows
     else if bytes_eq name (codes "healthy") then healthy_asked rows
+    else if bytes_eq name (codes "installable") then installable_asked rows
     else help_asked (first_of (codes "command") rows)
 
 -- what the command that `clap` met asks

@@ -73,6 +73,10 @@ installed_rule =
     record (new_rule (codes "installed"))
     { long = Some (codes "installed"); action = Some SetTrue }
 
+-- `--budget N`
+abbrev pub budget_rule : Rule
+budget_rule = record (new_rule (codes "budget")) { long = Some (codes "budget"); value_names = 1 }
+
 -- `--relation-from PATH`
 abbrev pub relation_file_rule : Rule
 relation_file_rule =

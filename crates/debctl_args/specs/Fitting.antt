@@ -9,7 +9,7 @@ use Rattle.deb_base.specs.declared.doc.Doc.{Doc}
 use Rattle.debctl_args.specs.declared.jobs.Task.{Task}
 use Rattle.debctl_args.specs.declared.arguments.UsageFault.{UsageFault}
 use Rattle.debctl_args.specs.declared.arguments.UsageFault.TheVariants.{Usage, Help, Memory}
-use Rattle.debctl_args.specs.Asked.{asks, asks_help, explain_takes_one, first_or_whole, kind_of_path, no_names, no_number, no_recommends, no_relations, no_status, paths_or_list, relation_or_file, request_of, standard_input_twice, unknown_code, unknown_command, unknown_kind, unknown_operator, Asked}
+use Rattle.debctl_args.specs.Asked.{asks, asks_help, explain_takes_one, first_or_whole, kind_of_path, no_budget, no_names, no_number, no_recommends, no_relations, no_status, paths_or_list, relation_or_file, request_of, standard_input_twice, unknown_code, unknown_command, unknown_kind, unknown_operator, Asked}
 
 -- the text names what isn't known, what stands twice, or what doesn't go together
 abbrev pub IsUsage : Asked → Text → Type 0
@@ -29,6 +29,7 @@ IsUsage no_recommends text = text ≡ codes "usage: unmet takes --recommends onl
 IsUsage kind_of_path text =
     text ≡ codes "usage: unmet takes another --kind only with a second path"
 IsUsage no_number text = text ≡ codes "usage: --least takes a number"
+IsUsage no_budget text = text ≡ codes "usage: --budget takes a number from 1 to 1000000000"
 IsUsage first_or_whole text = text ≡ codes "usage: --all takes neither --complete nor --least"
 IsUsage (asks _) text = ⊥
 IsUsage asks_help text = ⊥
@@ -91,6 +92,12 @@ abbrev pub MeansLeast : Option ℕ → Result ℕ UsageFault → Type 0
 MeansLeast asked (Ok least) = asked ≡ Some least
 MeansLeast (Some least) (Err error) = error ≡ Memory
 MeansLeast None (Err error) = AnswersError no_number error
+
+-- the most steps of a search, or a fault that says that the word is no number of them
+abbrev pub MeansBudget : Option ℕ → Result ℕ UsageFault → Type 0
+MeansBudget asked (Ok budget) = asked ≡ Some budget
+MeansBudget (Some budget) (Err error) = error ≡ Memory
+MeansBudget None (Err error) = AnswersError no_budget error
 
 -- help, or out of memory
 abbrev pub IsHelp : UsageFault → Type 0

@@ -4,4 +4,5 @@ pub mod Commands
 pub mod ExplainAuditCases
 pub mod Fitting
 pub mod HealthyCases
+pub mod InstallableCases
 pub mod RequestCases

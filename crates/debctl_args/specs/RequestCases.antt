@@ -4,7 +4,7 @@ use Rattle.std.specs.Prelude.{◌≡◌, ℕ, [], ◌∷◌, map, Option, Some, 
 use Rattle.std.specs.declared.alloc.Global.{Global}
 use Rattle.clap.specs.declared.error.kind.ErrorKind.TheVariants as kind
 use Rattle.deb_base.specs.declared.code.Code.TheVariants as code
-use Rattle.debctl_args.specs.Asked.{audits, canonicalises, checks, checks_all, checks_health, checks_whole, compares, document_of, explain_takes_one, explains, explains_all, explains_relation, explains_version, finds_changes, finds_unmet, first_or_whole, keys, kind_of_path, listed, no_names, no_number, no_recommends, no_relations, no_status, normalises, paths, paths_or_list, queries, queries_from, reads_of, relation_or_file, request_of, sorts, standard_input_twice, explains_rule, compares_files, unknown_code, unknown_command, unknown_kind, unknown_operator, wanted_of, Request, Wanted}
+use Rattle.debctl_args.specs.Asked.{audits, canonicalises, checks, checks_all, checks_health, checks_whole, compares, document_of, explain_takes_one, explains, explains_all, explains_relation, explains_version, finds_changes, finds_uninstallable, finds_unmet, first_or_whole, keys, kind_of_path, listed, no_budget, no_names, no_number, no_recommends, no_relations, no_status, normalises, paths, paths_or_list, queries, queries_from, reads_of, relation_or_file, request_of, sorts, standard_input_twice, explains_rule, compares_files, unknown_code, unknown_command, unknown_kind, unknown_operator, wanted_of, Request, Wanted}
 use Rattle.debctl_args.specs.Fitting.{has_mistake, has_request, is_request_kind, IsUsage, FitsKind}
 use Rattle.debctl_args.specs.declared.jobs.Demands.{Demands}
 use Rattle.debctl_args.specs.declared.jobs.Explain.TheVariants as explain
@@ -60,7 +60,9 @@ jobs_on_words : map wanted_of
     ∷ job.Query one (vector (one ∷ other ∷ []) refl) other members.Installed Reasons Canonical
     ∷ job.QueryFrom other (vector (other ∷ one ∷ []) refl) members.All Verdicts Spelled
     ∷ job.Unmet one (vector (other ∷ []) refl) members.Installed dependents.Sources Spelled
-    ∷ job.Healthy one members.All Recommends ∷ job.Healthy other members.Installed Depends ∷ [])
+    ∷ job.Healthy one members.All Recommends ∷ job.Healthy other members.Installed Depends
+    ∷ job.Installable one members.Installed Depends 7
+    ∷ job.Installable other members.All Recommends 1000000000 ∷ [])
     ≡ compares (codes "amd64") cmps.Less (codes "b-") ∷ canonicalises (codes "b-")
     ∷ keys (codes "amd64" ∷ codes "b-" ∷ [])
     ∷ queries (codes "amd64") (codes "amd64" ∷ codes "b-" ∷ []) (codes "b-") members.Installed
@@ -68,7 +70,9 @@ jobs_on_words : map wanted_of
     ∷ queries_from (codes "b-") (codes "b-" ∷ codes "amd64" ∷ []) members.All Verdicts Spelled
     ∷ finds_unmet (codes "amd64") (codes "b-" ∷ []) members.Installed dependents.Sources Spelled
     ∷ checks_health (codes "amd64") members.All Recommends
-    ∷ checks_health (codes "b-") members.Installed Depends ∷ []
+    ∷ checks_health (codes "b-") members.Installed Depends
+    ∷ finds_uninstallable (codes "amd64") members.Installed Depends 7
+    ∷ finds_uninstallable (codes "b-") members.All Recommends 1000000000 ∷ []
 unfolding one other
 jobs_on_words = refl
 
@@ -84,16 +88,16 @@ jobs =
     ∷ job.Query one (vector [] refl) other members.All Reasons Canonical
     ∷ job.QueryFrom one (vector [] refl) members.All Verdicts Spelled
     ∷ job.Unmet one (vector [] refl) members.All dependents.Sources Spelled
-    ∷ job.Healthy one members.Installed Depends ∷ []
+    ∷ job.Healthy one members.Installed Depends ∷ job.Installable one members.All Recommends 1 ∷ []
 
 files_of_jobs : map reads_of jobs
     ≡ OneFile ∷ OneFile ∷ OneFile ∷ Paths ∷ OneFile ∷ Paths ∷ Nothing ∷ Nothing ∷ Nothing
-    ∷ OneFile ∷ OneFile ∷ Paths ∷ Paths ∷ OneFile ∷ []
+    ∷ OneFile ∷ OneFile ∷ Paths ∷ Paths ∷ OneFile ∷ OneFile ∷ []
 files_of_jobs = refl
 
 documents_of_jobs : map document_of jobs
     ≡ Some docs.Binary ∷ Some docs.Source ∷ Some docs.Any ∷ Some docs.Sources ∷ None ∷ None
-    ∷ None ∷ None ∷ None ∷ None ∷ None ∷ None ∷ None ∷ None ∷ []
+    ∷ None ∷ None ∷ None ∷ None ∷ None ∷ None ∷ None ∷ None ∷ None ∷ []
 documents_of_jobs = refl
 
 -- ---- requests
@@ -189,9 +193,10 @@ texts_of_mistakes : IsUsage unknown_kind (codes "usage: unknown kind")
     × IsUsage no_recommends (codes "usage: unmet takes --recommends only for binary packages")
     × IsUsage kind_of_path (codes "usage: unmet takes another --kind only with a second path")
     × IsUsage no_number (codes "usage: --least takes a number")
+    × IsUsage no_budget (codes "usage: --budget takes a number from 1 to 1000000000")
     × IsUsage first_or_whole (codes "usage: --all takes neither --complete nor --least")
 texts_of_mistakes =
-    (refl, refl, refl, refl, refl, refl, refl, refl, refl, refl, refl, refl, refl, refl, refl)
+    (refl, refl, refl, refl, refl, refl, refl, refl, refl, refl, refl, refl, refl, refl, refl, refl)
 
 -- a call for help is answered with help, and a mistake as one
 kinds_of_errors : (FitsKind kind.DisplayHelp (Help one) ≡ (true ≡ true))

@@ -2,15 +2,16 @@
 
 ghost use Rattle.std.specs.Prelude.{◌≡◌, [], Some, None, map, true, string_bytes, IfOk, IfErr, option_copied, option_map};
 ghost use Rattle.clap.specs.Words.{fault_of, found_of, has_subcommand, kind_of, rows_of, subcommand_rows_of, takes};
-ghost use Rattle.debctl_args.specs.Asked.{asked_in, asked_of, asks, audit_asked, canon_version_asked, check_asked, checks_to, debctl_app, demands_asked, compare_asked, diff_asked, diff_of_files, explain_asked, file_explained, healthy_asked, help_asked, is_demanding, query_asked, query_of_file, query_of_word, relation_asked, request_of, rule_asked, same_asked, sort_asked, text_asked, unmet_asked, unmet_of_files, unmet_of_path, unmet_of_sources, version_asked, version_key_asked, wanted_of, word_in, Request};
+ghost use Rattle.debctl_args.specs.Asked.{asked_in, asked_of, asks, audit_asked, canon_version_asked, check_asked, checks_to, debctl_app, demands_asked, compare_asked, diff_asked, diff_of_files, explain_asked, file_explained, healthy_asked, help_asked, installable_asked, is_demanding, query_asked, query_of_file, query_of_word, relation_asked, request_of, rule_asked, same_asked, sort_asked, text_asked, unmet_asked, unmet_of_files, unmet_of_path, unmet_of_sources, version_asked, version_key_asked, wanted_of, word_in, Request};
 ghost use Rattle.debctl_args.specs.Fitting.{Answers, AnswersError, AnswersMet, IsHelp, MeansError, FitsKind, UsesText};
 
 use crate::code_argument::code_named;
 use crate::commands::{command_of, debctl_command, kinds_help, row_named};
 use crate::found_arguments::{
-    all_given, detail_in, diff_detail_in, end_in, extent_in, flag_in, given, has_input_beside,
-    index_in, is_standard_input_twice, kind_in, least_in, members_in, names_file, owned_texts,
-    packages_in, path_in, profiles_in, strength_in, version_text_in, versions_in, word_in,
+    all_given, budget_in, detail_in, diff_detail_in, end_in, extent_in, flag_in, given,
+    has_input_beside, index_in, is_standard_input_twice, kind_in, least_in, members_in, names_file,
+    owned_texts, packages_in, path_in, profiles_in, strength_in, version_text_in, versions_in,
+    word_in,
 };
 use crate::jobs::{Audit, Call, Demands, Dependents, DiffKind, Explain, Extent, Files, Job, Task};
 use crate::operator_argument::operator_named;
@@ -81,7 +82,8 @@ impl From<AllocError> for UsageFault {
 /// there are none. A version, an architecture, a profile or a relation may be any text here: the
 /// job checks it. The path `-` is returned as it is; the program reads standard input for it. After
 /// `--code` N is the number of an error code, from 1 to 23, in decimal, or its name. After
-/// `--least` it is a number below 2^64, in decimal and without zeros before it.
+/// `--least` it is a number below 2^64, in decimal and without zeros before it; after `--budget`
+/// such a number from 1 to 1,000,000,000. Without the option the budget is 100,000.
 ///
 /// # Errors
 ///
@@ -97,9 +99,9 @@ impl From<AllocError> for UsageFault {
 ///   `usage: unmet takes no --kind any`; `usage: unmet takes no --kind status`; `usage: unmet takes
 ///   --recommends only for binary packages` for the kinds `sources` and `source` with
 ///   `--recommends`; `usage: unmet takes another --kind only with a second path` for one of the
-///   kinds `binary`, `sources` and `source` without PATH; `usage: --least takes a number` for
-///   another N; `usage: --all takes neither --complete nor --least` for either with `--all`;
-///   otherwise that of `clap`.
+///   kinds `binary`, `sources` and `source` without PATH; `usage: --least takes a number` and
+///   `usage: --budget takes a number from 1 to 1000000000` for another N; `usage: --all takes
+///   neither --complete nor --least` for either with `--all`; otherwise that of `clap`.
 /// - `UsageFault::Help`: the arguments ask for help or for the version.
 /// - `UsageFault::Memory`: a growth of memory was refused.
 pub fn job_of(alloc: Global, words: &[String]) -> Result<Task, UsageFault>
@@ -541,6 +543,24 @@ pub(crate) fn healthy_task(alloc: Global, found: &ArgMatches<'_>) -> Result<Task
             arch,
             members: members_in(found),
             strength: strength_in(found),
+        },
+        first,
+        second: None,
+    }))
+}
+
+pub(crate) fn installable_task(alloc: Global, found: &ArgMatches<'_>) -> Result<Task, UsageFault>
+    ensures { Answers (installable_asked (rows_of (found_of found.now))) result }
+{
+    let budget = budget_in(alloc, found)?;
+    let arch = String::from_str(alloc, word_in(found, "arch"))?;
+    let first = path_in(alloc, found)?;
+    Ok(Task::Run(Call {
+        job: Job::Installable {
+            arch,
+            members: members_in(found),
+            strength: strength_in(found),
+            budget,
         },
         first,
         second: None,

@@ -17,7 +17,8 @@ const DEBCTL_HELP: &str = "\
 Exit statuses:
   0  success, or the answer is yes
   1  the answer is no; for `diff`: the files differ; for `query`: a group is unmet;
-     for `unmet`: a group is `unmet` or `unsure`; for `healthy`: the set isn't healthy
+     for `unmet`: a group is `unmet` or `unsure`; for `healthy`: the set isn't healthy;
+     for `installable`: a package may not be installable
   2  a file, a version, a relation, an architecture or a profile is refused:
      standard error has `line N: CODE NAME`. Line 0 means a command-line
      argument. `same`, `diff` and `unmet` write `first: ` or `second: ` before

@@ -2,15 +2,18 @@
 
 ghost use Rattle.std.specs.Prelude.{◌≡◌, nat_lt, count_by, map, codes, string_bytes, option_map, IfOk, option_copied};
 ghost use Rattle.clap.specs.Words.{all_of, first_of, found_of, rows_of};
-ghost use Rattle.debctl_args.specs.Asked.{comma_pieces, detail_asked, diff_detail_asked, end_asked, extent_asked, flag_asked, has_input_beside, index_asked, is_standard_input, kind_asked, least_asked, members_in, names_file, packages_in, profiles_asked, strength_in, texts_asked, versions_asked, word_in};
-ghost use Rattle.debctl_args.specs.Fitting.{MeansKind, MeansLeast};
+ghost use Rattle.debctl_args.specs.Asked.{budget_asked, comma_pieces, detail_asked, diff_detail_asked, end_asked, extent_asked, flag_asked, has_input_beside, index_asked, is_standard_input, kind_asked, least_asked, members_in, names_file, packages_in, profiles_asked, strength_in, texts_asked, versions_asked, word_in};
+ghost use Rattle.debctl_args.specs.Fitting.{MeansBudget, MeansKind, MeansLeast};
 
 use crate::arguments::{UsageFault, usage};
 use crate::jobs::{Dependents, Detail, DiffDetail, Extent, LineEnd, Members, Strength};
-use crate::number_argument::number_named;
+use crate::number_argument::{budget_named, number_named};
 use clap::ArgMatches;
 use deb_base::{Doc, VersionText};
 use std::alloc::{AllocError, Global};
+
+/// The text for another word than a number of steps.
+const NO_BUDGET: &str = "usage: --budget takes a number from 1 to 1000000000";
 
 /// The kind of document that `--kind` names, or a list of packages without it.
 #[tactic(auto, unfolding(crate::specs::Asked::kind_asked))]
@@ -38,6 +41,20 @@ pub(crate) fn least_in(alloc: Global, found: &ArgMatches<'_>) -> Result<u64, Usa
     match number_named(word) {
         Some(least) => Ok(least),
         None => Err(usage(alloc, "usage: --least takes a number")),
+    }
+}
+
+/// The most steps of a search that `--budget` allows, or 100000 without it.
+pub(crate) fn budget_in(alloc: Global, found: &ArgMatches<'_>) -> Result<u32, UsageFault>
+    ensures { MeansBudget (budget_asked (first_of (codes "budget") (rows_of (found_of found.now))))
+        result }
+{
+    let Some(word) = given(found, "budget") else {
+        return Ok(100_000);
+    };
+    match budget_named(word) {
+        Some(budget) => Ok(budget),
+        None => Err(usage(alloc, NO_BUDGET)),
     }
 }
 

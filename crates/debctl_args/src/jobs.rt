@@ -101,6 +101,15 @@ pub enum Job {
         members: Members,
         strength: Strength,
     },
+    /// `installable`: find the packages of a file that can't be installed, for a target
+    /// architecture. The search for one package takes at most `budget` steps, from 1 to
+    /// 1,000,000,000.
+    Installable {
+        arch: String,
+        members: Members,
+        strength: Strength,
+        budget: u32,
+    },
 }
 
 /// The files that a job reads.
@@ -122,7 +131,7 @@ impl Job {
         match self {
             Job::Check(_) | Job::CheckAll(_) | Job::Normalise(_) => Reads::OneFile,
             Job::CheckWhole { .. } | Job::Sort { .. } | Job::Query { .. } => Reads::OneFile,
-            Job::Healthy { .. } => Reads::OneFile,
+            Job::Healthy { .. } | Job::Installable { .. } => Reads::OneFile,
             Job::Same(_) | Job::Diff { .. } => Reads::Paths,
             Job::QueryFrom { .. } | Job::Unmet { .. } => Reads::Paths,
             Job::Compare(..) | Job::CanonVersion(_) | Job::VersionKey(_) => Reads::Nothing,
@@ -175,7 +184,8 @@ pub enum DiffDetail {
     Values,
 }
 
-/// The packages of the index of `query` and `unmet`, and of the set of `healthy`.
+/// The packages of the index of `query` and `unmet`, and of the file of `healthy` and
+/// `installable`.
 #[derive(Clone, Copy, Debug, PartialEq, Eq)]
 pub enum Members {
     /// The paragraphs of an index of packages.
@@ -208,7 +218,7 @@ pub enum Dependents {
     Source,
 }
 
-/// The fields of a binary package whose groups `unmet` and `healthy` try.
+/// The fields of a binary package whose groups `unmet`, `healthy` and `installable` try.
 #[derive(Clone, Copy, Debug, PartialEq, Eq)]
 pub enum Strength {
     /// Pre-Depends and Depends.
@@ -219,9 +229,9 @@ pub enum Strength {
 
 /// A command and the paths of the files that it reads.
 ///
-/// If `check`, `normalise`, `sort`, `query` or `healthy` has no path, the file is standard input.
-/// `same`, `diff`, `query --relation-from` and `unmet` have both paths, except for an `unmet` of
-/// the index itself, and no other job has a second one.
+/// If `check`, `normalise`, `sort`, `query`, `healthy` or `installable` has no path, the file is
+/// standard input. `same`, `diff`, `query --relation-from` and `unmet` have both paths, except for
+/// an `unmet` of the index itself, and no other job has a second one.
 #[derive(Debug, PartialEq, Eq, Drop)]
 pub struct Call {
     pub job: Job,

@@ -1,7 +1,7 @@
 //! The arguments that are numbers.
 
 ghost use Rattle.std.specs.Prelude.{◌≡◌};
-ghost use Rattle.debctl_args.specs.Asked.{number_named};
+ghost use Rattle.debctl_args.specs.Asked.{budget_named, number_named};
 
 use itoa::Buffer;
 
@@ -11,6 +11,16 @@ pub(crate) fn number_named(word: &str) -> Option<u64>
 {
     match word.parse::<u64>() {
         Ok(number) if Buffer::new().format(number) == word => Some(number),
+        _ => None,
+    }
+}
+
+/// The steps of a search that a word allows: such a number, from 1 to 1000000000.
+pub(crate) fn budget_named(word: &str) -> Option<u32>
+    ensures { result ≡ budget_named word.now }
+{
+    match number_named(word) {
+        Some(steps) if 0 < steps && steps <= 1_000_000_000 => Some(steps as u32),
         _ => None,
     }
 }

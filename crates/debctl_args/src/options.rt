@@ -202,6 +202,15 @@ pub(crate) const INSTALLED: Argument = Argument {
     help: Some("Read a status file such as /var/lib/dpkg/status: its installed packages"),
 };
 
+/// `--budget N`
+pub(crate) const BUDGET: Argument = Argument {
+    id: "budget",
+    short: None,
+    form: Form::Value,
+    shown: "N",
+    help: Some("Search at most N steps for each package; 100000 if the option is missing"),
+};
+
 /// `--relation-from PATH`
 pub(crate) const RELATION_FILE: Argument = Argument {
     id: "relation-from",

@@ -8,15 +8,16 @@ ghost use Rattle.debctl_args.specs.Commands.{row_in};
 
 use crate::arguments::{
     UsageFault, audit_task, canon_version_task, check_task, compare_task, diff_task, explain_task,
-    healthy_task, help_on, query_task, same_task, sort_task, unmet_task, version_key_task,
+    healthy_task, help_on, installable_task, query_task, same_task, sort_task, unmet_task,
+    version_key_task,
 };
 use crate::found_arguments::{given, kind_in, path_in};
 use crate::jobs::{Call, Job, Task};
 use crate::options::{
-    ALL, ARCH, Argument, CODE, COMMAND, COMPLETE, DEPENDENTS, DIFF_KIND, FIRST, INDEX, INSTALLED,
-    KIND, LEAST, LEFT, LIST, NEW, NULL, OLD, OPERATOR, PATH, PATHS, PROFILES, QUERIED, RECOMMENDS,
-    RELATION, RELATION_FILE, RELATION_TEXT, REVERSE, RIGHT, SECOND, SPELLED, UNMET_KIND, VALUES,
-    VERSION, VERSION_TEXT, VERSIONS, WHY,
+    ALL, ARCH, Argument, BUDGET, CODE, COMMAND, COMPLETE, DEPENDENTS, DIFF_KIND, FIRST, INDEX,
+    INSTALLED, KIND, LEAST, LEFT, LIST, NEW, NULL, OLD, OPERATOR, PATH, PATHS, PROFILES, QUERIED,
+    RECOMMENDS, RELATION, RELATION_FILE, RELATION_TEXT, REVERSE, RIGHT, SECOND, SPELLED,
+    UNMET_KIND, VALUES, VERSION, VERSION_TEXT, VERSIONS, WHY,
 };
 use clap::ArgMatches;
 use std::alloc::Global;
@@ -31,7 +32,7 @@ pub(crate) struct Row {
 }
 
 /// The commands, in the order of the program's help.
-static COMMANDS: [Row; 14] = [
+static COMMANDS: [Row; 15] = [
     Row {
         name: "check",
         about: "Checks whether a file is well formed",
@@ -109,6 +110,11 @@ static COMMANDS: [Row; 14] = [
         takes: &[ARCH, RECOMMENDS, INSTALLED, PATH],
     },
     Row {
+        name: "installable",
+        about: "Finds the packages of an index that can't be installed",
+        takes: &[ARCH, RECOMMENDS, INSTALLED, BUDGET, PATH],
+    },
+    Row {
         name: "help",
         about: "Prints the help of the program or of a command",
         takes: &[COMMAND],
@@ -138,6 +144,7 @@ pub(crate) fn help_after(name: &str) -> Option<&'static str> {
         "query" => Some(QUERY_HELP),
         "unmet" => Some(UNMET_HELP),
         "healthy" => Some(HEALTHY_HELP),
+        "installable" => Some(INSTALLABLE_HELP),
         _ => None,
     }
 }
@@ -160,6 +167,7 @@ pub(crate) fn task_by(alloc: Global, name: &str, found: &ArgMatches<'_>) -> Resu
         "query" => query_task(alloc, found),
         "unmet" => unmet_task(alloc, found),
         "healthy" => healthy_task(alloc, found),
+        "installable" => installable_task(alloc, found),
         _ => Err(help_on(alloc, given(found, "command"))),
     }
 }
@@ -602,4 +610,47 @@ Example:
   unmet 1 aa 1 all Depends bb
   conflict 1 aa 1 all Conflicts mm by 2 cc 2 amd64
   duplicate 1 aa 1 all with 3 3 all
+  1";
+
+const INSTALLABLE_HELP: &str = "\
+Prints one line for each package of a file that can't be installed, in file order:
+  uninstallable N P V A
+  unsure N P V A
+  undecided N P V A
+The package is printed as its number, from 1, its name, canonical version and
+architecture. A package without a line is installable.
+
+A package is installable if it is in a healthy set of packages of the file: in one for
+which `debctl healthy` prints nothing. With `--recommends` a set has to meet the groups
+of Recommends too. The order of unpacking, loops of Pre-Depends and clashes of files are
+left out, and no set has to contain the Essential packages.
+
+`uninstallable`: no set that contains the package is healthy.
+
+`unsure`: the answer depends on how an architecture list with a wildcard is read: see
+`debctl help unmet`.
+
+`undecided`: the search for a set took all of its steps. N of `--budget`, from 1 to
+1000000000, is the most steps of the search for one package. All searches together take
+at most N, and 100 for each package, and as many again to tell `uninstallable` from
+`unsure`.
+
+With `--installed` the file is a status file of dpkg, and its packages are the installed
+ones. Their numbers count them alone.
+
+Nothing is printed before the whole file has been read.
+
+Exit statuses:
+  0  nothing is printed: each package is installable
+  1  a line is printed
+  2  the architecture or the file is refused: standard error has
+     `line 0: 23 BadEnvironment` or `line N: CODE NAME`, and nothing is printed
+  3  wrong arguments, out of memory, or a failed read or write
+
+Example:
+  $ printf 'Package: aa\\nVersion: 1\\nArchitecture: all\\nDepends: bb, cc\\n' > index
+  $ printf '\\nPackage: bb\\nVersion: 1\\nArchitecture: all\\nConflicts: cc\\n' >> index
+  $ printf '\\nPackage: cc\\nVersion: 2\\nArchitecture: amd64\\n' >> index
+  $ debctl installable --arch amd64 index; echo $?
+  uninstallable 1 aa 1 all
   1";

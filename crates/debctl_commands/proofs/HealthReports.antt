@@ -7,18 +7,18 @@ use Rattle.deb_base.specs.declared.fault.Fault.TheVariants.{Refused, Memory, Rea
 use Rattle.deb_unmet.specs.declared.asking.Summary.{Summary}
 use Rattle.deb_index.specs.declared.members.Members.{Members}
 use Rattle.debctl_args.specs.declared.jobs.Strength.{Strength}
-use Rattle.debctl_commands.specs.HealthJob.{health_promise, health_report}
+use Rattle.debctl_commands.specs.HealthJob.{health_promise, lines_report}
 use Rattle.debctl_commands.specs.JobDevices.{ReaderOfJob, WriterOfJob}
 use Rattle.debctl_commands.specs.Promises.{Ends}
 use Rattle.debctl_commands.specs.Reporting.{ReportsBy}
 
 -- the answer is reported
-abbrev Told : {E : Type 0} → WriterOfJob E → ℕ → Result Summary Fault → Type 0
-Told err status answer = ReportsBy health_report (λ (fault : Fault). fault) fault_line err.held err.failures err.old err.new answer status
+abbrev pub Told : {E : Type 0} → WriterOfJob E → ℕ → Result Summary Fault → Type 0
+Told err status answer = ReportsBy lines_report (λ (fault : Fault). fault) fault_line err.held err.failures err.old err.new answer status
 
 module _ {E : Type 0} (err : WriterOfJob E) (status n n_after : ℕ) (rose : n < n_after) where
   -- where the count of failed reads or writes rose, the status is 3
-  read_is_three : (answer : Result Summary Fault) → n_after ≡ read_failures_after n answer → Told err status answer → status ≡ 3
+  pub read_is_three : (answer : Result Summary Fault) → n_after ≡ read_failures_after n answer → Told err status answer → status ≡ 3
   read_is_three (Err Read) counted (inl whole) = whole.status
   read_is_three (Err Read) counted (inr front) = front.status
   read_is_three (Ok summary) counted told = absurd (omega (arith, counted, rose))
@@ -26,7 +26,7 @@ module _ {E : Type 0} (err : WriterOfJob E) (status n n_after : ℕ) (rose : n <
   read_is_three (Err Memory) counted told = absurd (omega (arith, counted, rose))
   read_is_three (Err Write) counted told = absurd (omega (arith, counted, rose))
 
-  write_is_three : (answer : Result Summary Fault) → n_after ≡ write_failures_after n answer → Told err status answer → status ≡ 3
+  pub write_is_three : (answer : Result Summary Fault) → n_after ≡ write_failures_after n answer → Told err status answer → status ≡ 3
   write_is_three (Err Write) counted (inl whole) = whole.status
   write_is_three (Err Write) counted (inr front) = front.status
   write_is_three (Ok summary) counted told = absurd (omega (arith, counted, rose))

@@ -13,6 +13,7 @@ pub mod Turning
 pub mod SameReports
 pub mod FaultReports
 pub mod HealthReports
+pub mod InstallReports
 pub mod UnmetReports
 pub mod Lacks
 pub mod LongFiles

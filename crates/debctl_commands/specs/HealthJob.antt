@@ -39,18 +39,19 @@ AsksSet target members strength first out answer =
     × AsksOwn (asks_healthy members (fields_tried strength) (environment_with target []))
     first.text first.failures first.failures_after out.held out.failures out.old out.new answer)
 
-abbrev pub health_report : Summary → Report
-health_report summary = yes_or_no summary.is_empty
+-- lines that were written, or none, are the answer
+abbrev pub lines_report : Summary → Report
+lines_report summary = yes_or_no summary.is_empty
 
 -- What the job promises of these words.
 abbrev pub health_promise : {W : Type 0} → List ℕ → Members → Strength → Promise W
 health_promise target members strength =
-    plain health_report
+    plain lines_report
     (λ first second out answer. AsksSet target members strength first out answer)
 
 -- no line is status 0, and a line is 1
-reports_of_sets : (health_report (record { paragraphs = 2; is_empty = true }) ≡ by_status 0)
-    × (health_report (record { paragraphs = 0; is_empty = false }) ≡ by_status 1)
+reports_of_sets : (lines_report (record { paragraphs = 2; is_empty = true }) ≡ by_status 0)
+    × (lines_report (record { paragraphs = 0; is_empty = false }) ≡ by_status 1)
 reports_of_sets = (refl, refl)
 
 -- a wildcard isn't the architecture of a set

@@ -1,6 +1,6 @@
 -- Worked cases of jobs: what each promises and leaves as it was, and the paths of its files.
 use Rattle.std.specs.Prelude.{◌≡◌, ℕ, true, false, List, [], ◌∷◌, map, Option, Some, None, Result, Err}
-use Rattle.std.specs.Prelude.{IsTrue, String, Vec, codes, refl, ⊤}
+use Rattle.std.specs.Prelude.{IsFalse, IsTrue, String, Vec, codes, refl, ⊤}
 use Rattle.std.specs.Fmt.{digits}
 use Rattle.std.specs.Str.{is_utf8, chars}
 use lib.Utf8.{encode}
@@ -24,6 +24,7 @@ use Rattle.debctl_args.specs.declared.jobs.Job.{Job}
 use Rattle.debctl_args.specs.declared.jobs.Job.TheVariants as job
 use Rattle.debctl_args.specs.declared.jobs.Strength.TheVariants.{Depends}
 use Rattle.debctl_commands.specs.DiffJob.{IsRefusedOld}
+use Rattle.debctl_commands.specs.HealthJob.{is_architecture}
 use Rattle.debctl_commands.specs.JobDevices.{reader_of, writer_of}
 use Rattle.debctl_commands.specs.Opening.{first_of_job, first_path, second_path}
 use Rattle.debctl_commands.specs.Promises.{Promise}
@@ -64,6 +65,9 @@ diff = job.Diff diff_kinds.Source diff_details.Fields Spelled
 abbrev unmet : Dependents → Job
 unmet given = job.Unmet one names members.Installed given Spelled
 
+abbrev installable : ℕ → Job
+installable budget = job.Installable one members.Installed Depends budget
+
 -- ---- promises
 
 abbrev promise : Job → Promise (List ℕ)
@@ -85,8 +89,32 @@ reports_of_jobs : ((promise (job.Check Source)).report tt ≡ by_status 0)
     × ((promise query_from).report false ≡ by_status 1)
     × ((promise (unmet dependents.Source)).report (record { paragraphs = 0; is_empty = false })
     ≡ by_status 1)
-reports_of_jobs =
-    (refl, refl, refl, refl, refl, refl, refl, refl, refl, refl, refl, refl, refl, refl)
+    × ((promise (installable 9)).report (record { paragraphs = 3; is_empty = false })
+    ≡ by_status 1)
+    × ((promise (installable 9)).report (record { paragraphs = 3; is_empty = true })
+    ≡ by_status 0)
+reports_of_jobs = (
+  refl,
+  refl,
+  refl,
+  refl,
+  refl,
+  refl,
+  refl,
+  refl,
+  refl,
+  refl,
+  refl,
+  refl,
+  refl,
+  refl,
+  refl,
+  refl,
+)
+
+-- whatever the budget, `installable` promises the same
+promises_of_budgets : (few many : ℕ) → promise (installable few) ≡ promise (installable many)
+promises_of_budgets few many = refl
 
 -- the refusal of a file has a side where both files are of one kind, and other faults have none
 lines_of_jobs : ((promise (job.Check Source)).line Read ≡ codes "fault: read\n")
@@ -125,7 +153,7 @@ unread : (IfUnread (job.Check Source) ℕ ≡ Unit {0}) × (IfUnread (job.Same S
     × (IfSecondUnread (unmet dependents.Sources) ℕ ≡ (IsTrue false → ℕ))
 unread = (refl, refl, refl, refl, refl, refl, refl, refl, refl, refl, refl, refl)
 
--- by the words of a query and of `unmet`, and by the text of the first file
+-- by the words of a query, of `unmet` and of `installable`, and by the text of the first file
 unread_by_words : (IfRefusedWords query ℕ
     ≡ (AreRefused (question (codes "amd64") (codes "b-" ∷ codes "amd64" ∷ []) (codes "b-")) → ℕ))
     × (IfRefusedWords query_from ℕ ≡ Unit {0})
@@ -135,14 +163,15 @@ unread_by_words : (IfRefusedWords query ℕ
     × (IfRefusedRelation (unmet dependents.Source) None ℕ
     ≡ (AreRefusedBefore (words (codes "amd64") (codes "b-" ∷ codes "amd64" ∷ []) Installed
     dependents.Source Spelled) None → ℕ))
+    × (IfRefusedWords (installable 9) ℕ ≡ (IsFalse (is_architecture (codes "amd64")) → ℕ))
 unfolding one other
-unread_by_words = (refl, refl, refl, refl, refl)
+unread_by_words = (refl, refl, refl, refl, refl, refl)
 
 -- ---- paths
 
 abbrev on_one : List Job
 on_one = job.Check Source ∷ job.CheckAll Source ∷ job.CheckWhole Source (demand true 2)
-    ∷ job.Normalise Source ∷ job.Sort true ∷ query ∷ []
+    ∷ job.Normalise Source ∷ job.Sort true ∷ query ∷ installable 9 ∷ []
 
 abbrev on_two : List Job
 on_two = job.Same Source ∷ diff ∷ query_from ∷ unmet dependents.Source ∷ []

@@ -19,6 +19,7 @@ pub mod Turns
 pub mod Reporting
 pub mod UnmetJob
 pub mod HealthJob
+pub mod InstallJob
 pub mod Unopened
 pub mod Verdicts
 pub mod VersionJobs

@@ -12,6 +12,7 @@ use Rattle.debctl_commands.specs.AllJobs.{ChecksAll, summary_status}
 use Rattle.debctl_commands.specs.DiffJob.{FindsChanges, IsRefusedOld, form_asked}
 use Rattle.debctl_commands.specs.DocumentJobs.{ChecksFile, NormalisesFile}
 use Rattle.debctl_commands.specs.HealthJob.{health_promise, is_architecture}
+use Rattle.debctl_commands.specs.InstallJob.{install_promise}
 use Rattle.debctl_commands.specs.JobDevices.{ReaderOfJob, WriterOfJob}
 use Rattle.debctl_commands.specs.KeyJob.{Keys}
 use Rattle.debctl_commands.specs.Promises.{Answers, Ends, HasStatus, Promise, Refuses, Saying}
@@ -29,7 +30,7 @@ use Rattle.debctl_args.specs.declared.jobs.Members.{Members}
 use Rattle.debctl_args.specs.declared.jobs.Job.{Job}
 use Rattle.debctl_args.specs.declared.jobs.Job.TheVariants.{Check, CheckAll, CheckWhole, Normalise, Same, Diff}
 use Rattle.debctl_args.specs.declared.jobs.Job.TheVariants.{Compare, CanonVersion, Sort, Query, QueryFrom}
-use Rattle.debctl_args.specs.declared.jobs.Job.TheVariants.{Healthy, Unmet, VersionKey}
+use Rattle.debctl_args.specs.declared.jobs.Job.TheVariants.{Healthy, Installable, Unmet, VersionKey}
 
 -- the question that a query's words are
 abbrev pub asked : String Global → Vec (String Global) Global → String Global → Question
@@ -88,6 +89,8 @@ promise_of (Unmet arch profiles members dependents versions) =
     unmet_promise (words_of_unmet arch profiles members dependents versions)
 promise_of (Healthy arch members strength) =
     health_promise (string_bytes arch) (index_members members) strength
+promise_of (Installable arch members strength budget) =
+    install_promise (string_bytes arch) (index_members members) strength
 
 -- ---- what each status says
 
@@ -131,6 +134,12 @@ HasDetail (Query arch profiles relation members detail versions) = Unit {0}
 HasDetail (QueryFrom arch profiles members detail versions) = Unit {0}
 HasDetail _ = ⊥
 
+-- The job is on all packages of a file.
+abbrev pub IsOnPackages : Job → Type 0
+IsOnPackages (Healthy arch members strength) = Unit {0}
+IsOnPackages (Installable arch members strength budget) = Unit {0}
+IsOnPackages _ = ⊥
+
 -- Comparing two versions takes no memory.
 abbrev pub IfCompare : Job → Type 0 → Type 0
 IfCompare (Compare former operator latter) P = P
@@ -146,13 +155,16 @@ IfSecondUnread (Unmet arch profiles members dependents versions) P =
     IsTrue (is_index dependents) → P
 IfSecondUnread _ P = P
 
--- A query, `unmet` or `healthy` whose words are refused leaves the first reader as it was.
+-- A query, `unmet`, `healthy` or `installable` whose words are refused leaves the first reader as
+-- it was.
 abbrev pub IfRefusedWords : Job → Type 0 → Type 0
 IfRefusedWords (Query arch profiles relation members detail versions) P =
     AreRefused (asked arch profiles relation) → P
 IfRefusedWords (Unmet arch profiles members dependents versions) P =
     IsFalse (has_environment (words_of_unmet arch profiles members dependents versions)) → P
 IfRefusedWords (Healthy arch members strength) P =
+    IsFalse (is_architecture (string_bytes arch)) → P
+IfRefusedWords (Installable arch members strength budget) P =
     IsFalse (is_architecture (string_bytes arch)) → P
 IfRefusedWords _ P = Unit {0}
 

@@ -4,9 +4,9 @@ ghost use Rattle.std.specs.Prelude.{◌≡◌, ◌<◌, string_bytes};
 ghost use Rattle.deb_base.specs.Devices.{one_more};
 ghost use Rattle.debctl_commands.specs.Running.{Done, HasDetail, IfCompare, IfRefusedRelation};
 ghost use Rattle.debctl_commands.specs.Running.{IfRefusedWords, IfSecondUnread, IfUnread};
-ghost use Rattle.debctl_commands.specs.Running.{IsRefused, Reported, SaysNo};
+ghost use Rattle.debctl_commands.specs.Running.{IsOnPackages, IsRefused, Reported, SaysNo};
 ghost use Rattle.debctl_commands.specs.DiffJob.{form_asked};
-ghost use Rattle.debctl_commands.specs.JobDevices.{reader_of, writer_of};
+ghost use Rattle.debctl_commands.specs.JobDevices.{ReaderOfJob, reader_of, writer_of};
 ghost use Rattle.debctl_commands.specs.QueryJob.{index_members, query_options};
 ghost use Rattle.debctl_commands.specs.Taking.{TakesFile};
 
@@ -14,6 +14,7 @@ use crate::all_jobs::run_check_all;
 use crate::diff_job::{DiffOptions, form_asked, run_diff};
 use crate::document_jobs::{run_check, run_normalise};
 use crate::health_job::{SetAsked, run_healthy};
+use crate::install_job::{InstallAsked, run_installable};
 use crate::query_from::run_query_from;
 use crate::query_job::{QueryOptions, QueryWords, index_members, run_query};
 use crate::same_job::run_same;
@@ -161,6 +162,38 @@ fn run_job<R: Source, S: Source, W: Sink, E: Sink>(
             let words = unmet_words(arch, profiles, members, *dependents, *versions);
             run_unmet(alloc, &words, first, second, out, err)
         }
+        Job::Healthy { .. } | Job::Installable { .. } => {
+            run_on_packages(alloc, job, first, out, err)
+        }
+        Job::Diff { .. } | Job::Query { .. } | Job::QueryFrom { .. } => {
+            run_in_detail(alloc, job, first, second, out, err)
+        }
+    }
+}
+
+/// Runs a job on all packages of a file: `healthy` or `installable`.
+fn run_on_packages<R: Source, W: Sink, E: Sink>(
+    alloc: Global,
+    job: &Job,
+    first: &mut R,
+    out: &mut W,
+    err: &mut E,
+) -> u8
+    requires on_packages { IsOnPackages job.now }
+
+    // Where a call of a device failed, the status is 3.
+    ensures status_3_if_read_failed { R.failures first.old < R.failures first.new → result ≡ 3 }
+    ensures status_3_if_write_failed { W.failures out.old < W.failures out.new → result ≡ 3 }
+    ensures first_untouched_if_refused { IfRefusedWords job.now (first.new ≡ first.old) }
+    ensures reads_at_most { TakesFile (R.left first.old) (R.left first.new) }
+
+    // Whatever the status: there is an answer to the job, and that is reported.
+    ensures reports_answer { (second : ReaderOfJob) → Reported job.now
+        (reader_of (R.left first.old) (R.failures first.old) (R.failures first.new)) second
+        (writer_of W.held W.failures out.old out.new)
+        (writer_of E.held E.failures err.old err.new) result }
+{
+    match job {
         Job::Healthy {
             arch,
             members,
@@ -172,9 +205,20 @@ fn run_job<R: Source, S: Source, W: Sink, E: Sink>(
             };
             run_healthy(alloc, arch.as_str(), set, first, out, err)
         }
-        Job::Diff { .. } | Job::Query { .. } | Job::QueryFrom { .. } => {
-            run_in_detail(alloc, job, first, second, out, err)
+        Job::Installable {
+            arch,
+            members,
+            strength,
+            budget,
+        } => {
+            let asked = InstallAsked {
+                members: index_members(*members),
+                strength: *strength,
+                budget: *budget,
+            };
+            run_installable(alloc, arch.as_str(), asked, first, out, err)
         }
+        _ => unreachable!(),
     }
 }
 

@@ -6,7 +6,7 @@ ghost use Rattle.deb_base.specs.declared.fault.Fault.{Fault};
 ghost use Rattle.deb_health.specs.Health.{asks_healthy};
 ghost use Rattle.deb_relation.specs.Environments.{environment_of};
 ghost use Rattle.deb_unmet.specs.declared.asking.Summary.{Summary};
-ghost use Rattle.debctl_commands.specs.HealthJob.{health_promise, health_report, is_architecture};
+ghost use Rattle.debctl_commands.specs.HealthJob.{health_promise, lines_report, is_architecture};
 ghost use Rattle.debctl_commands.specs.JobDevices.{ReaderOfJob, reader_of, writer_of};
 ghost use Rattle.debctl_commands.specs.Promises.{Ends};
 ghost use Rattle.debctl_commands.specs.Reporting.{ReportsBy};
@@ -80,18 +80,18 @@ fn run_in_environment<R: Source, W: Sink, E: Sink>(
         × AsksOwn (asks_healthy set.members (fields_tried set.strength)
         (environment_of environment.now))
         (R.left first.old) (R.failures first.old) (R.failures first.new) W.held W.failures out.old
-        out.new answer × ReportsBy health_report (λ fault. fault) fault_line E.held E.failures
+        out.new answer × ReportsBy lines_report (λ fault. fault) fault_line E.held E.failures
         err.old err.new answer result }
     ensures reads_at_most { TakesFile (R.left first.old) (R.left first.new) }
 {
     let strength = fields_tried(set.strength);
     let answer = healthy(alloc, environment, set.members, strength, first, out);
-    report_health(answer, err)
+    report_lines(answer, err)
 }
 
-/// Reports the answer of the set, and returns the status.
-fn report_health<E: Sink>(answer: Result<Summary, Fault>, err: &mut E) -> u8
-    ensures { ReportsBy health_report (λ fault. fault) fault_line E.held E.failures err.old err.new
+/// Reports an answer that wrote lines, and returns the status: 1 if there is a line.
+pub(crate) fn report_lines<E: Sink>(answer: Result<Summary, Fault>, err: &mut E) -> u8
+    ensures { ReportsBy lines_report (λ fault. fault) fault_line E.held E.failures err.old err.new
         answer result }
 {
     match answer {

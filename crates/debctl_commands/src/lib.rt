@@ -21,6 +21,7 @@ mod explain_job;
 mod file_or_nothing;
 mod health_job;
 mod hints;
+mod install_job;
 mod listed;
 mod opening;
 mod opens;

@@ -96,28 +96,29 @@ pub record HasSetLines (members : Members) (strength : Strength) (environment : 
   pub is_empty : summary.is_empty ≡ is_nothing bytes
 
 -- The target can be that of a set, and these are the lines of the file for it.
-pub record IsOfSet (members : Members) (strength : Strength) (by : Asker) (summary : Summary)
+pub record IsOfSet (strength : Strength) (by : Asker) (members : Members) (summary : Summary)
     (bytes : List ℕ) : Type 0 where
   pub environment : IsTrue (is_environment by.target by.profiles)
   pub has : HasSetLines members strength (environment_in by) by.index summary bytes
 
 -- ---- answers
 
--- The same, and there is no line, or is one; the answer has the number of the packages.
-pub record IsToldOfSet (strength : Strength) (by : Asker) (empty : Bool) (told : Answer)
+-- These are the lines of a set, and there is none, or is one; the answer has the number of the
+-- packages.
+pub record IsToldOfSet (Lines : Members → Summary → List ℕ → Type 0) (empty : Bool) (told : Answer)
     (bytes : List ℕ) (members : Members) : Type 0 where
   pub summary : Summary
-  pub of : IsOfSet members strength by summary bytes
+  pub of : Lines members summary bytes
   pub empty_is : summary.is_empty ≡ empty
   pub count : told.count ≡ summary.paragraphs
 
--- There is no line, or there is one.
-abbrev pub ListsSet : ℕ → Strength → Asker → Answer → List ℕ → Type 0
-ListsSet kind strength by told bytes =
+-- There is no line, or there is one. `Lines` says which lines are those of a set.
+abbrev pub ListsSet : ℕ → (Members → Summary → List ℕ → Type 0) → Answer → List ℕ → Type 0
+ListsSet kind Lines told bytes =
     ((told ≡ counting 0 told.count)
-    × OfMembers kind (λ members. IsToldOfSet strength by true told bytes members))
+    × OfMembers kind (λ members. IsToldOfSet Lines true told bytes members))
     ⊎ ((told ≡ counting 1 told.count)
-    × OfMembers kind (λ members. IsToldOfSet strength by false told bytes members))
+    × OfMembers kind (λ members. IsToldOfSet Lines false told bytes members))
 
 -- The target or the file is refused; or memory is out; or the number asks for no set.
 abbrev pub SetFails : ℕ → Asker → Answer → Type 0

@@ -10,6 +10,7 @@ pub mod Queries
 pub mod Unmet
 pub mod Askers
 pub mod Health
+pub mod Installable
 pub mod Fields
 pub mod Tables
 pub mod RelationParts

@@ -3,7 +3,7 @@
 use Rattle.std.specs.Prelude.{◌≡◌, ◌⊎◌, ℕ, ◌≤◌, List, [], ◌∷◌, map, refl}
 use Rattle.deb_rows.specs.Calls.{IsOther, LacksRoom, Reads}
 use Rattle.deb_rows.specs.declared.form.Form.{Form}
-use Rattle.deb_rows.specs.declared.form.Form.TheVariants.{DiffLines, Explanation, HealthLines, Report, UnmetLines}
+use Rattle.deb_rows.specs.declared.form.Form.TheVariants.{DiffLines, Explanation, HealthLines, InstallableLines, Report, UnmetLines}
 use Rattle.deb_rows.specs.declared.row.Row.{Row}
 use Rattle.debctl_ffi.specs.Answers.{plain}
 use Rattle.debctl_ffi.specs.Buffers.{Buffer, GivesNothing}
@@ -18,17 +18,18 @@ form_number UnmetLines = 1
 form_number DiffLines = 2
 form_number Explanation = 3
 form_number HealthLines = 4
+form_number InstallableLines = 5
 
 -- The number is that of no form.
 abbrev pub IsNoForm : ℕ → Type 0
-IsNoForm number = 5 ≤ number
+IsNoForm number = 6 ≤ number
 
 numbers_of_forms : map form_number
-    (Report ∷ UnmetLines ∷ DiffLines ∷ Explanation ∷ HealthLines ∷ [])
-    ≡ 0 ∷ 1 ∷ 2 ∷ 3 ∷ 4 ∷ []
+    (Report ∷ UnmetLines ∷ DiffLines ∷ Explanation ∷ HealthLines ∷ InstallableLines ∷ [])
+    ≡ 0 ∷ 1 ∷ 2 ∷ 3 ∷ 4 ∷ 5 ∷ []
 numbers_of_forms = refl
 
-other_numbers : (IsNoForm 4 ≡ (5 ≤ 4)) × (IsNoForm 5 ≡ (5 ≤ 5))
+other_numbers : (IsNoForm 5 ≡ (6 ≤ 5)) × (IsNoForm 6 ≡ (6 ≤ 6))
 other_numbers = (refl, refl)
 
 -- ---- answers

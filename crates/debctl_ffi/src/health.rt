@@ -43,7 +43,7 @@ pub extern "C" fn deb_healthy(
     len: &mut usize,
 ) -> Answer
     ensures answers { let by = asker target.now [] index.now in
-        Replies (ListsSet kind (strength_of (is_set recommends)) by) (SetFails kind by)
+        Replies (ListsSet kind (IsOfSet (strength_of (is_set recommends)) by)) (SetFails kind by)
         (buffer out.old out.new len.new) result }
     ensures unknown_kind { AsksNoSet kind → result.status ≡ 6 }
     ensures status { HasStatus result.status (0 ∷ 1 ∷ 2 ∷ 4 ∷ 5 ∷ 6 ∷ []) }
@@ -67,7 +67,7 @@ pub extern "C" fn deb_healthy(
 }
 
 /// Which packages of a file of this kind are a set.
-fn members_of(kind: u8) -> Option<Members>
+pub(crate) fn members_of(kind: u8) -> Option<Members>
     ensures some { IfSome result (AsksSet kind) }
     ensures none { IfNone result (AsksNoSet kind) }
 {
@@ -79,7 +79,7 @@ fn members_of(kind: u8) -> Option<Members>
 }
 
 /// Which fields are asked: Recommends too, or not.
-fn strength_of(recommends: bool) -> Strength
+pub(crate) fn strength_of(recommends: bool) -> Strength
     ensures { result ≡ strength_of recommends }
 {
     if recommends {
@@ -99,7 +99,7 @@ fn lines_for(
     index: &[u8],
 ) -> Result<(Summary, Vec<u8>), Fault>
     ensures ok { IfOk result
-        (λ answer. IsOfSet members strength (asker target.now [] index.now) answer.0
+        (λ answer. IsOfSet strength (asker target.now [] index.now) members answer.0
         answer.1.items) }
     ensures fault { IfErr result
         (λ fault. RefusedOrMemory fault (RefusesSet members (asker target.now [] index.now))) }

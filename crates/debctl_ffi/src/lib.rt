@@ -28,6 +28,7 @@ mod fields;
 mod files;
 mod health;
 mod index;
+mod installable;
 mod kept;
 mod kind;
 pub mod laws;

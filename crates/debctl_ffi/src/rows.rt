@@ -11,7 +11,7 @@ use deb_rows::{Form, Outcome, Row, read_rows};
 /// Writes what the lines of a text say, which this library wrote, to the start of `rows`: for each
 /// line its kind, and where its cells are in the text. `form` is the form of the text: 0 a report,
 /// 1 the lines of `deb_unmet`, 2 those of `deb_diff`, 3 an explanation, 4 the lines of
-/// `deb_healthy`. Returns how many rows there are. Takes no memory. Status 0: done. 1: some line of
+/// `deb_healthy`, 5 those of `deb_installable`. Returns how many rows there are. Takes no memory. Status 0: done. 1: some line of
 /// the text has none of these forms, or the last one has no newline. 4: `rows` is too small;
 /// `count` is how many there are. 6: no such form.
 ///
@@ -43,6 +43,7 @@ fn form_of(form: u8) -> Option<Form>
         2 => Some(Form::DiffLines),
         3 => Some(Form::Explanation),
         4 => Some(Form::HealthLines),
+        5 => Some(Form::InstallableLines),
         _ => None,
     }
 }

@@ -1,8 +1,8 @@
 //! The texts of answers, printed again from their values alone.
 
 use debctl::{
-    AllExplained, Alternative, Change, ChangeKind, Explanation, HealthFault, HealthReport, Package,
-    Report, UnmetReport, Verdict,
+    AllExplained, Alternative, Change, ChangeKind, Explanation, HealthFault, HealthReport,
+    InstallFault, InstallReport, Package, Report, UnmetReport, Verdict,
 };
 
 /// What has a text.
@@ -98,6 +98,21 @@ impl Printed for HealthReport {
                 _ => ("", String::new()),
             };
             text += &format!("{word} {} {more}\n", package(&it.package));
+        }
+        text
+    }
+}
+
+impl Printed for InstallReport {
+    fn printed(&self) -> String {
+        let mut text = String::new();
+        for it in &self.packages {
+            let word = match it.fault {
+                InstallFault::Uninstallable => "uninstallable",
+                InstallFault::Unsure => "unsure",
+                _ => "undecided",
+            };
+            text += &format!("{word} {}\n", package(&it.package));
         }
         text
     }

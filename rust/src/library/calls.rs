@@ -198,3 +198,25 @@ pub fn healthy(
         length
     )
 }
+
+/// `asked` is the kind of the file, whether Recommends is asked, and the budget.
+pub fn installable(
+    asked: (u8, u8, u32),
+    (target, index): (&[u8], &[u8]),
+    out: &mut [u8],
+    length: &mut usize,
+) -> Answer {
+    written!(
+        deb_installable(
+            asked.0,
+            asked.1,
+            asked.2,
+            target.as_ptr(),
+            target.len(),
+            index.as_ptr(),
+            index.len()
+        ),
+        out,
+        length
+    )
+}

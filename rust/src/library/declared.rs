@@ -278,6 +278,18 @@ extern "C" {
         out_size: usize,
         length: *mut usize,
     ) -> Answer;
+    pub fn deb_installable(
+        kind: u8,
+        recommends: u8,
+        budget: u32,
+        target: *const u8,
+        target_length: usize,
+        index: *const u8,
+        index_length: usize,
+        out: *mut u8,
+        out_size: usize,
+        length: *mut usize,
+    ) -> Answer;
     pub fn deb_index_size() -> usize;
     pub fn deb_index_read(
         index: *mut Room,

@@ -37,6 +37,15 @@ impl Search<'_> {
         Ok(())
     }
 
+    /// Begins again without derived lists.
+    pub(super) fn forget_lists(&mut self) {
+        self.undo(0);
+        self.watches.clear();
+        for package in 0..narrow(self.first_watch.len()) {
+            put(&mut self.first_watch, package, u32::MAX);
+        }
+    }
+
     /// Lets a watch wait for a package.
     fn link(&mut self, watch: u32, package: u32) {
         let next = number_or(&self.first_watch, package, u32::MAX);

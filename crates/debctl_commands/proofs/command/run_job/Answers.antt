@@ -1,8 +1,5 @@
-use Rattle.std.proofs.Common.{◌≡◌, ◌∙◌, refl, subst, sym}
+use Rattle.std.proofs.Common.{◌≡◌, ◌∙◌, refl}
 use Rattle.debctl_commands.proofs.JobReports.{reported_as, unmet_reported, unmet_unread_file, unmet_unread_index, unmet_unread_second}
-use Rattle.debctl_commands.specs.JobDevices.{reader_of}
-use Rattle.debctl_commands.specs.Running.{IfRefusedWords}
-use Rattle.debctl_args.specs.declared.jobs.Job.{Job}
 use Rattle.debctl_commands.proofs.command.run_job.Goals as goal
 
 pub returns-in-Check-clause-reports_answer : goal.returns-in-Check-clause-reports_answer
@@ -55,13 +52,3 @@ pub returns-in-Unmet-clause-reports_answer : goal.returns-in-Unmet-clause-report
 returns-in-Unmet-clause-reports_answer g c =
     unmet_reported c.args.job.now c.in-Unmet.arch c.in-Unmet.profiles c.in-Unmet.members c.in-Unmet.dependents c.in-Unmet.versions c.in-Unmet.is c.unmet_words-words.result.target.now c.unmet_words-words.result.profiles.now c.unmet_words-words.result.members c.unmet_words-words.result.dependents c.unmet_words-words.result.versions c.unmet_words-words.ensures.target (c.unmet_words-words.ensures.profiles ∙ c.deref-in-Unmet.ensures.value) (c.unmet_words-words.ensures.members ∙ c.index_members-members.ensures) c.unmet_words-words.ensures.dependents c.unmet_words-words.ensures.versions
     _ _ _ _ c.run_unmet.result c.run_unmet.ensures.reports_answer
-
-pub returns-in-Healthy-clause-first_untouched_if_refused : goal.returns-in-Healthy-clause-first_untouched_if_refused
-returns-in-Healthy-clause-first_untouched_if_refused g c =
-    subst (λ (asked : Job). IfRefusedWords asked (c.run_healthy.new.first ≡ c.args.first.now)) (sym c.in-Healthy.is)
-    (rw c.as_str-in-Healthy.ensures.value at c.run_healthy.ensures.first_untouched_if_refused)
-
-pub returns-in-Healthy-clause-reports_answer : goal.returns-in-Healthy-clause-reports_answer
-returns-in-Healthy-clause-reports_answer g c =
-    let second = reader_of (g.S.Source.left c.args.second.now) (g.S.Source.failures c.args.second.now) (g.S.Source.failures c.args.second.now) in
-    reported_as c.args.job.now _ c.in-Healthy.is _ _ _ _ c.run_healthy.result (rw (c.as_str-in-Healthy.ensures.value, c.index_members.ensures) at (c.run_healthy.ensures.reports_answer second))

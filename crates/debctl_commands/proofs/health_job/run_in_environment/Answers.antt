@@ -23,5 +23,5 @@ returns-clause-ends g c =
             reads = e.counts_read_failure;
             writes = e.counts_write_failure;
           }),
-      c.report_health.ensures,
+      c.report_lines.ensures,
     )

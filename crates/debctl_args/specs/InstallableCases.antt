@@ -1,0 +1,139 @@
+-- Worked cases of what the words of `installable` ask.
+use Rattle.std.specs.Prelude.{◌≡◌, ℕ, List, [], map, ◌∷◌, Option, Some, None, true, codes, refl}
+use Rattle.std.specs.Fmt.{digits}
+use Rattle.clap.proofs.OnLiterals.{clap_on_literals}
+use Rattle.clap.specs.Faults.{fault_of}
+use Rattle.clap.specs.Takes.{takes}
+use Rattle.clap.specs.Walk.{Text}
+use Rattle.clap.specs.declared.error.kind.ErrorKind.TheVariants as kind
+use Rattle.debctl_args.specs.Asked.{asked_of, asks, asks_help, budget_named, debctl_app, finds_uninstallable, no_budget, Asked}
+use Rattle.debctl_args.specs.declared.jobs.Members.TheVariants as members
+use Rattle.debctl_args.specs.declared.jobs.Strength.{Strength}
+use Rattle.debctl_args.specs.declared.jobs.Strength.TheVariants.{Depends, Recommends}
+
+-- the program's name, `installable`, and the arguments after it
+abbrev installable_line : List Text → List Text
+installable_line words = codes "debctl" ∷ codes "installable" ∷ words
+
+-- what is asked of an index for amd64
+abbrev asks_installable : Strength → ℕ → Option Text → Option Asked
+asks_installable strength budget path =
+    Some (asks (record {
+      wanted = finds_uninstallable (codes "amd64") members.All strength budget;
+      first = path;
+      second = None;
+    }))
+
+-- without a path, with one, and with that of standard input
+files_of_packages : map
+    (λ words. asked_of (installable_line (codes "--arch" ∷ codes "amd64" ∷ words)))
+    ([] ∷ (codes "x" ∷ []) ∷ (codes "-" ∷ []) ∷ [])
+    ≡ asks_installable Depends 100000 None ∷ asks_installable Depends 100000 (Some (codes "x"))
+    ∷ asks_installable Depends 100000 (Some (codes "-")) ∷ []
+unfolding clap_on_literals
+files_of_packages = refl
+
+-- in any order
+installable_with_options : map (λ words. asked_of (installable_line words))
+    ((codes "--arch=amd64" ∷ codes "--recommends" ∷ codes "--budget" ∷ codes "20" ∷ [])
+    ∷ (codes "x" ∷ codes "--budget=1" ∷ codes "--arch" ∷ codes "amd64" ∷ []) ∷ [])
+    ≡ asks_installable Recommends 20 None ∷ asks_installable Depends 1 (Some (codes "x")) ∷ []
+unfolding clap_on_literals digits
+installable_with_options = refl
+
+installable_of_installed_packages : asked_of
+    (installable_line (codes "--arch=amd64" ∷ codes "--installed" ∷ codes "x" ∷ []))
+    ≡ Some (asks (record {
+      wanted = finds_uninstallable (codes "amd64") members.Installed Depends 100000;
+      first = Some (codes "x");
+      second = None;
+    }))
+unfolding clap_on_literals
+installable_of_installed_packages = refl
+
+-- any text may be the architecture, and after `--` any may be the path
+unusual_words : asked_of
+    (installable_line (codes "--arch" ∷ [] ∷ codes "--" ∷ codes "--budget=x" ∷ []))
+    ≡ Some (asks (record {
+      wanted = finds_uninstallable [] members.All Depends 100000;
+      first = Some (codes "--budget=x");
+      second = None;
+    }))
+unfolding clap_on_literals
+unusual_words = refl
+
+help_on_installable : asked_of (codes "debctl" ∷ codes "help" ∷ codes "installable" ∷ [])
+    ≡ Some asks_help
+unfolding clap_on_literals
+help_on_installable = refl
+
+-- ---- budgets
+
+-- from 1 to 1000000000
+budgets : map budget_named
+    (codes "1" ∷ codes "100000" ∷ codes "999999999" ∷ codes "1000000000" ∷ [])
+    ≡ Some 1 ∷ Some 100000 ∷ Some 999999999 ∷ Some 1000000000 ∷ []
+unfolding digits
+budgets = refl
+
+no_budgets : map budget_named
+    (codes "0" ∷ codes "1000000001" ∷ codes "4294967297" ∷ codes "18446744073709551616" ∷ []
+    ∷ codes "01" ∷ codes "+1" ∷ codes "-1" ∷ codes "1k" ∷ codes "1_000" ∷ [])
+    ≡ None ∷ None ∷ None ∷ None ∷ None ∷ None ∷ None ∷ None ∷ None ∷ None ∷ []
+unfolding digits
+no_budgets = refl
+
+refused_budgets : map
+    (λ word. asked_of (installable_line (codes "--arch=amd64" ∷ word ∷ codes "x" ∷ [])))
+    (codes "--budget=0" ∷ codes "--budget=1000000001" ∷ codes "--budget=x" ∷ codes "--budget=" ∷ [])
+    ≡ Some no_budget ∷ Some no_budget ∷ Some no_budget ∷ Some no_budget ∷ []
+unfolding clap_on_literals digits
+refused_budgets = refl
+
+-- ---- words that `clap` takes, and others
+
+taken : takes debctl_app
+    (installable_line (codes "--arch=amd64" ∷ codes "--budget=0" ∷ codes "x" ∷ [])) ≡ true
+unfolding clap_on_literals
+taken = refl
+
+call_for_help : fault_of debctl_app (installable_line (codes "--help" ∷ []))
+    ≡ kind.DisplayHelp ∷ []
+unfolding clap_on_literals
+call_for_help = refl
+
+no_architecture : map (λ words. fault_of debctl_app (installable_line words))
+    ([] ∷ (codes "x" ∷ []) ∷ (codes "--budget=2" ∷ []) ∷ [])
+    ≡ (kind.MissingRequiredArgument ∷ []) ∷ (kind.MissingRequiredArgument ∷ [])
+    ∷ (kind.MissingRequiredArgument ∷ []) ∷ []
+unfolding clap_on_literals
+no_architecture = refl
+
+-- options of `unmet` that `installable` doesn't have, and one that no command has
+unknown_options : map
+    (λ word. fault_of debctl_app (installable_line (codes "--arch=amd64" ∷ word ∷ [])))
+    (codes "--kind=binary" ∷ codes "--profiles=a" ∷ codes "--spelled" ∷ codes "--frob" ∷ [])
+    ≡ (kind.UnknownArgument ∷ []) ∷ (kind.UnknownArgument ∷ []) ∷ (kind.UnknownArgument ∷ [])
+    ∷ (kind.UnknownArgument ∷ []) ∷ []
+unfolding clap_on_literals
+unknown_options = refl
+
+-- only `installable` has a budget
+budget_of_healthy : fault_of debctl_app
+    (codes "debctl" ∷ codes "healthy" ∷ codes "--arch=amd64" ∷ codes "--budget=1" ∷ [])
+    ≡ kind.UnknownArgument ∷ []
+unfolding clap_on_literals
+budget_of_healthy = refl
+
+second_path : fault_of debctl_app
+    (installable_line (codes "--arch=amd64" ∷ codes "x" ∷ codes "y" ∷ []))
+    ≡ kind.UnknownArgument ∷ []
+unfolding clap_on_literals
+second_path = refl
+
+given_twice : map (λ words. fault_of debctl_app (installable_line words))
+    ((codes "--arch=amd64" ∷ codes "--budget=1" ∷ codes "--budget=1" ∷ [])
+    ∷ (codes "--arch=amd64" ∷ codes "--installed" ∷ codes "--installed" ∷ []) ∷ [])
+    ≡ (kind.ArgumentConflict ∷ []) ∷ (kind.ArgumentConflict ∷ []) ∷ []
+unfolding clap_on_literals
+given_twice = refl

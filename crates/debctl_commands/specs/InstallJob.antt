@@ -1,0 +1,40 @@
+-- What the job of `installable` answers and reports. Its lines are those of `deb_install`; the
+-- order of refusals is this project's own.
+use Rattle.std.specs.Prelude.{◌≡◌, ◌⊎◌, ℕ, List, [], Some, Result, IfErr, IfOk, IsTrue}
+use Rattle.deb_base.specs.Devices.{read_failures_after, write_failures_after}
+use Rattle.deb_base.specs.declared.fault.Fault.{Fault}
+use Rattle.deb_control.specs.Calls.{IfRefused}
+use Rattle.deb_control.specs.Checking.{IsRefusalOfDocument}
+use Rattle.deb_control.specs.Documents.{refusal_of}
+use Rattle.deb_relation.specs.Environments.{environment_with}
+use Rattle.deb_index.specs.Members.{doc_of}
+use Rattle.deb_index.specs.declared.members.Members.{Members}
+use Rattle.deb_install.specs.Installing.{AsksInstallable, StopsAnswers, WritesAnswers, asks_installable}
+use Rattle.deb_unmet.specs.declared.asking.Summary.{Summary}
+use Rattle.debctl_args.specs.declared.jobs.Strength.{Strength}
+use Rattle.debctl_commands.specs.HealthJob.{FailsAtTarget, is_architecture, lines_report}
+use Rattle.debctl_commands.specs.JobDevices.{ReaderOfJob, WriterOfJob}
+use Rattle.debctl_commands.specs.Promises.{Promise, plain}
+use Rattle.debctl_commands.specs.UnmetJob.{fields_tried}
+
+-- The answer about the packages of a file, and what was written, whatever the budget of the search.
+pub record AsksPackages {W : Type 0} (asks : AsksInstallable) (first : ReaderOfJob)
+    (out : WriterOfJob W) (answer : Result Summary Fault) : Type 0 where
+  pub ok : (text : List ℕ) → first.text ≡ Some text → IfOk answer
+      (λ summary. WritesAnswers asks text summary (out.held out.old) (out.held out.new))
+  pub refused : (text : List ℕ) → first.text ≡ Some text →
+      IfRefused answer (λ refusal. refusal_of (doc_of asks.members) text ≡ Some refusal)
+  pub stopped : (text : List ℕ) → first.text ≡ Some text → IfErr answer
+      (λ fault. StopsAnswers fault asks text (out.held out.old) (out.held out.new))
+  pub unwritten : IfRefused answer (λ _. out.new ≡ out.old)
+  pub refusal : IfRefused answer IsRefusalOfDocument
+  pub reads : first.failures_after ≡ read_failures_after first.failures answer
+  pub writes : out.failures out.new ≡ write_failures_after (out.failures out.old) answer
+
+-- What the job promises of these words.
+abbrev pub install_promise : {W : Type 0} → List ℕ → Members → Strength → Promise W
+install_promise target members strength =
+    plain lines_report
+    (λ first second out answer. FailsAtTarget target first out answer
+    ⊎ (IsTrue (is_architecture target) × AsksPackages (asks_installable members
+    (fields_tried strength) (environment_with target [])) first out answer))

@@ -1,0 +1,102 @@
+//! The job on the packages of a file that can't be installed: `installable`.
+
+ghost use Rattle.std.specs.Prelude.{◌≡◌, ◌<◌, string_bytes, IsFalse, Result};
+ghost use Rattle.deb_base.specs.Lines.{fault_line};
+ghost use Rattle.deb_base.specs.declared.fault.Fault.{Fault};
+ghost use Rattle.deb_install.specs.Installing.{asks_installable};
+ghost use Rattle.deb_relation.specs.Environments.{environment_of};
+ghost use Rattle.deb_unmet.specs.declared.asking.Summary.{Summary};
+ghost use Rattle.debctl_commands.specs.HealthJob.{is_architecture, lines_report};
+ghost use Rattle.debctl_commands.specs.InstallJob.{AsksPackages, install_promise};
+ghost use Rattle.debctl_commands.specs.JobDevices.{ReaderOfJob, reader_of, writer_of};
+ghost use Rattle.debctl_commands.specs.Promises.{Ends};
+ghost use Rattle.debctl_commands.specs.Reporting.{ReportsBy};
+ghost use Rattle.debctl_commands.specs.Taking.{TakesFile};
+ghost use Rattle.debctl_commands.specs.UnmetJob.{fields_tried};
+
+use crate::health_job::report_lines;
+use crate::reporting::report_fault;
+use crate::unmet_job::{fields_tried, parse_environment};
+use deb_base::{Sink, Source};
+use deb_index::Members;
+use deb_install::{InstallRequest, installable};
+use deb_relation::Env;
+use deb_solve::Budget;
+use debctl_args::Strength;
+use std::alloc::Global;
+
+/// Which packages of its file are asked, what they need, and how long the search may take.
+#[derive(Clone, Copy)]
+pub(crate) struct InstallAsked {
+    pub members: Members,
+    pub strength: Strength,
+    /// The most steps of the search for one package. All searches together take at most so many,
+    /// and 100 for each package.
+    pub budget: u32,
+}
+
+/// Writes to `out` a line for each package of a file that can't be installed, and returns the
+/// status.
+///
+/// - 0 and 1: the file is accepted. No line was written, or some were, and nothing to `err`.
+/// - 2: the architecture or the file is refused, in this order. `err` has the refusal's line, and
+///   `out` nothing. The reader isn't asked before the architecture is good.
+/// - 3: out of memory, a read failed, or a write failed. `err` has the fault's line; if a write to
+///   `err` failed, a prefix of its line.
+pub(crate) fn run_installable<R: Source, W: Sink, E: Sink>(
+    alloc: Global,
+    target: &str,
+    asked: InstallAsked,
+    first: &mut R,
+    out: &mut W,
+    err: &mut E,
+) -> u8
+    ensures reads_at_most { TakesFile (R.left first.old) (R.left first.new) }
+    ensures first_untouched_if_refused { IsFalse (is_architecture target.now)
+        → first.new ≡ first.old }
+
+    // Where a call of a device failed, the status is 3.
+    ensures status_3_if_read_failed { R.failures first.old < R.failures first.new → result ≡ 3 }
+    ensures status_3_if_write_failed { W.failures out.old < W.failures out.new → result ≡ 3 }
+
+    // Whatever the status: there is an answer, and that is reported.
+    ensures reports_answer { (second : ReaderOfJob)
+        → Ends (install_promise target.now asked.members asked.strength)
+        (reader_of (R.left first.old) (R.failures first.old) (R.failures first.new)) second
+        (writer_of W.held W.failures out.old out.new)
+        (writer_of E.held E.failures err.old err.new) result }
+{
+    match parse_environment(alloc, target, &[]) {
+        Ok(environment) => run_in_environment(alloc, &environment, asked, first, out, err),
+        Err(fault) => report_fault(&fault, err),
+    }
+}
+
+/// Writes the lines of the packages for an environment.
+fn run_in_environment<R: Source, W: Sink, E: Sink>(
+    alloc: Global,
+    environment: &Env,
+    asked: InstallAsked,
+    first: &mut R,
+    out: &mut W,
+    err: &mut E,
+) -> u8
+    ensures ends { (answer : Result Summary Fault)
+        × AsksPackages (asks_installable asked.members (fields_tried asked.strength)
+        (environment_of environment.now))
+        (reader_of (R.left first.old) (R.failures first.old) (R.failures first.new))
+        (writer_of W.held W.failures out.old out.new) answer
+        × ReportsBy lines_report (λ fault. fault) fault_line E.held E.failures err.old err.new
+        answer result }
+    ensures reads_at_most { TakesFile (R.left first.old) (R.left first.new) }
+{
+    let request = InstallRequest {
+        members: asked.members,
+        strength: fields_tried(asked.strength),
+        budget: Budget {
+            one_search: asked.budget,
+        },
+    };
+    let answer = installable(alloc, environment, request, first, out);
+    report_lines(answer, err)
+}
