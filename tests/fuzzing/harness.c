@@ -402,15 +402,20 @@ static void try_pair(uint8_t kind, struct deb_text one, struct deb_text two) {
 
 /* The set of a file: an index of its packages is asked about the same ones, a status file of some. */
 static void try_set(uint8_t kind, struct deb_text text, struct deb_text target) {
-    struct written lines;
+    struct written lines, those;
     struct deb_answer checked = deb_check(kind, text.bytes, text.length);
+    WRITE(those, 2, 1, deb_installable(kind, chosen >> 7, chosen % 3, target.bytes, target.length, text.bytes, text.length, out, room, length));
     WRITE(lines, 1, 1, deb_healthy(kind, chosen >> 7, target.bytes, target.length, text.bytes, text.length, out, room, length));
     int has_set = kind == DEB_PACKAGES || kind == DEB_STATUS;
     REQUIRE((lines.answer.status == DEB_NO_KIND) == !has_set);
+    int is_either = lines.answer.status <= DEB_NO && (those.answer.status == DEB_YES || (chosen % 3 && those.answer.status == DEB_NO));
+    REQUIRE(is_either || agrees(lines.answer, those.answer));
     if (lines.answer.status <= DEB_NO) {
         REQUIRE(checked.status == DEB_YES && lines.answer.status == (lines.length > 0));
         REQUIRE(kind == DEB_PACKAGES ? lines.answer.count == checked.count : lines.answer.count <= checked.count);
+        REQUIRE(those.answer.count == lines.answer.count && those.answer.status == (those.length > 0));
         try_rows(DEB_HEALTH_LINES, lines, DEB_YES);
+        try_rows(DEB_INSTALLABLE_LINES, those, DEB_YES);
     } else if (has_set)
         REQUIRE(lines.answer.code == DEB_BAD_ENVIRONMENT || agrees(lines.answer, checked));
 }
