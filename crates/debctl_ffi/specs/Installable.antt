@@ -1,5 +1,5 @@
--- What is answered to a program in C of which packages can't be installed: Debian Policy 7.2 to 7.5.
--- The order of refusals and the form of the lines are this project's own.
+-- What is answered to a program in C of which packages can't be installed. Debian Policy 7.2 to
+-- 7.5; the order of refusals and the form of the lines are this project's own.
 use Rattle.std.specs.Prelude.{◌≡◌, ℕ, IsTrue, List, length}
 use Rattle.deb_relation.specs.Targets.{is_environment}
 use Rattle.deb_index.specs.declared.members.Members.{Members}

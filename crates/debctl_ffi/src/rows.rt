@@ -11,9 +11,9 @@ use deb_rows::{Form, Outcome, Row, read_rows};
 /// Writes what the lines of a text say, which this library wrote, to the start of `rows`: for each
 /// line its kind, and where its cells are in the text. `form` is the form of the text: 0 a report,
 /// 1 the lines of `deb_unmet`, 2 those of `deb_diff`, 3 an explanation, 4 the lines of
-/// `deb_healthy`, 5 those of `deb_installable`. Returns how many rows there are. Takes no memory. Status 0: done. 1: some line of
-/// the text has none of these forms, or the last one has no newline. 4: `rows` is too small;
-/// `count` is how many there are. 6: no such form.
+/// `deb_healthy`, 5 those of `deb_installable`. Returns how many rows there are. Takes no memory.
+/// Status 0: done. 1: some line of the text has none of these forms, or the last one has no
+/// newline. 4: `rows` is too small; `count` is how many there are. 6: no such form.
 ///
 /// Except for status 0, `rows` is unchanged.
 #[unsafe(no_mangle)]
