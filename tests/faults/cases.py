@@ -316,15 +316,22 @@ def many_groups():
 
 
 def many_versions():
-    """A name that 18 packages have, one that they provide, and one that a package provides 18 times."""
+    """A name that 18 packages have, one that they provide, and one that a package provides 18 times. The
+    last package of the second file needs a package that provides the name in a version that it excludes."""
     numbers = range(1, 19)
     package = b"Package: aa\nVersion: %d\nArchitecture: all\nProvides: vv (= %d)\n\n"
     often = b", ".join(b"ww (= %d)" % at for at in numbers)
     last = b"Package: bb\nVersion: 1\nArchitecture: all\nProvides: " + often + b"\n"
-    files = {"versions": b"".join(package % (at, at) for at in numbers) + last}
+    listed = b"".join(package % (at, at) for at in numbers) + last
+    excluding = b"\nPackage: cc\nVersion: 1\nArchitecture: all\nDepends: aa (>= 18)\nConflicts: vv (>= 18)\n"
+    files = {"versions": listed, "excluded": listed + excluding}
     report = b"met aa (= 3)\n 3 aa 3 all\nmet vv (>= 18)\n 18 aa 18 all\nunmet ww (<< 1)\n"
     query = ["query", "--arch", "amd64", "ww (<< 1), vv (>= 18), aa (= 3)", "versions"]
-    return [Case("18 versions", query, files, None, report, b"", 1)]
+    installable = ["installable", "--arch", "amd64", "excluded"]
+    return [
+        Case("18 versions", query, files, None, report, b"", 1),
+        Case("18 versions", installable, files, None, b"uninstallable 20 cc 1 all\n", b"", 1),
+    ]
 
 
 def many_choices():

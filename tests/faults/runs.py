@@ -213,10 +213,11 @@ def asks_for_hint(case: Case, status):
 
 def is_asked_for_less(case: Case, fault: Fault, answer: Answer):
     """Whether std asked once more for memory, for less of it. It does so in `collect`, by which
-    `sort` gathers its lines, `audit` the paths of a list, and clap the letters of a word that may be
-    similar to a wrong one: where the room for all that may come is refused, it asks for that of one.
-    Then there are more growths than where nothing fails."""
-    has_collect = case.words[0] in ("sort", "audit") or b"\n  tip: a similar " in case.err
+    `sort` gathers its lines, `audit` the paths of a list, `installable` the packages that have one of
+    many versions of a name, and clap the letters of a word that may be similar to a wrong one: where the
+    room for all that may come is refused, it asks for that of one. Then there are more growths than
+    where nothing fails."""
+    has_collect = case.words[0] in ("sort", "audit", "installable") or b"\n  tip: a similar " in case.err
     if fault.calls != "growth" or fault.is_lasting or not has_collect:
         return False
     growths = answer.record.get("growths", 0) - asks_for_hint(case, answer.status)
