@@ -1,14 +1,14 @@
 -- How lists of packages follow from one another.
-use Rattle.std.proofs.Common.{◌≡◌, ℕ, ◌+◌, ◌<◌, Bool, true, false, ◌&&◌, List, [], ◌∷◌, ◌++◌, length, get_or, set, take, refl, sym, subst, ap, ◌∙◌, eqb, inl, inr, ◌≤◌, Some, drop, arith}
+use Rattle.std.proofs.Common.{◌≡◌, ℕ, ◌+◌, ◌<◌, Bool, true, false, List, [], ◌∷◌, ◌++◌, length, get_or, set, take, refl, sym, subst, ap, ◌∙◌, eqb, inl, inr, ◌≤◌, Some, drop, arith}
 use Rattle.std.specs.List.{list_all, list_any}
-use Rattle.std.proofs.lemmas.Bool.{and_from, and_parts, cases_eq, not-true, or_cases, or_from, eqb-true, false≢true, false_from_ne_true, true_from_ne_false}
+use Rattle.std.proofs.lemmas.Bool.{and_from, and_parts, cases_eq, not-true, or_cases, or_from, eq-eqb, eqb-true, false≢true, false_from_ne_true, true_from_ne_false}
 use Rattle.std.proofs.lemmas.List.Folds.{list_all-append, list_all_more, list_all_at}
 use Rattle.std.proofs.lemmas.Map.Keys.{any_passes_from_place}
 use Rattle.std.proofs.lemmas.Option.{slice_get_within, get_or_from_slice_get}
 use Rattle.std.specs.List.{slice_get}
 use Rattle.std.proofs.lemmas.List.{at_drop_more, at_drop_all, get_or-set_other}
-use Rattle.deb_solve.specs.Refuting.{AddsOthers, IsNogood, IsOut, Leads, RulesOut}
-use Rattle.deb_solve.specs.Health.{IsHealthy, fits, is_met, row}
+use Rattle.deb_solve.specs.Refuting.{AddsOthers, IsNogood, IsOut, IsUnmet, Leads, RulesOut}
+use Rattle.deb_solve.specs.Health.{fits, is_among, is_met, row}
 use Rattle.deb_solve.specs.Marks.{marked}
 use Rattle.deb_solve.specs.declared.universe.Universe.{Universe}
 
@@ -113,13 +113,21 @@ IsOut-alone u (x ∷ []) none one set healthy =
     false_from_ne_true _ (λ is. false≢true (sym (none set healthy) ∙ and_from _ _ is refl))
 IsOut-alone u (x ∷ (y ∷ ys)) none one set healthy = absurd (omega (arith, one))
 
--- one more package that is out
+-- one more mark of a number for which a fact holds
+marks_more : (Fact : ℕ → Type 0) (marks : List Bool) (n : ℕ) → ((p : ℕ) → marked marks p ≡ true → Fact p) → Fact n
+    → (p : ℕ) → marked (set marks n true) p ≡ true → Fact p
+marks_more Fact marks n are is p mark = elim (cases_eq p n) [
+  | inl same ↦ subst Fact (sym same) is
+  | inr other ↦ are p (sym (get_or-set_other marks n p true false other) ∙ mark)
+]
+
 pub outs_more : (u : Universe) (out : List Bool) (n : ℕ) → ((p : ℕ) → marked out p ≡ true → IsOut u p) → IsOut u n
     → (p : ℕ) → marked (set out n true) p ≡ true → IsOut u p
-outs_more u out n are is p mark = elim (cases_eq p n) [
-  | inl same ↦ subst (λ q. IsOut u q) (sym same) is
-  | inr other ↦ are p (sym (get_or-set_other out n p true false other) ∙ mark)
-]
+outs_more u out n are is = marks_more (IsOut u) out n are is
+
+pub unmet_more : (u : Universe) (unmet : List Bool) (n : ℕ) → ((g : ℕ) → marked unmet g ≡ true → IsUnmet u g) → IsUnmet u n
+    → (g : ℕ) → marked (set unmet n true) g ≡ true → IsUnmet u g
+unmet_more u unmet n are is = marks_more (IsUnmet u) unmet n are is
 
 -- two packages, the second of which is added to the first if it's another one
 pub IsNogood-pair : (u : Universe) (one other : ℕ) (list : List ℕ) → IsNogood u (one ∷ other ∷ []) → AddsOthers (one ∷ []) list (other ∷ []) one → IsNogood u list
@@ -128,13 +136,25 @@ IsNogood-pair u one other list none adds healthy_set healthy =
     let first = (and_parts _ _ (adds.keeps healthy_set all)).0 in
     false≢true (sym (none healthy_set healthy) ∙ and_from _ _ first (adds.covers healthy_set all first)))
 
--- a package of which all candidates of a group are out
-pub IsOut-pruned : (u : Universe) (out : List Bool) (p : ℕ) (candidates : List ℕ) → ((q : ℕ) → marked out q ≡ true → IsOut u q) → Leads u (p ∷ []) candidates → list_all (marked out) candidates ≡ true → IsOut u p
-IsOut-pruned u out p candidates are leads all set healthy =
-    false_from_ne_true _ (λ is.
-    false≢true (sym (none_of candidates all) ∙ leads set healthy (and_from _ _ is refl)))
+-- a group of which all candidates are out
+pub IsUnmet-all : (u : Universe) (out : List Bool) (group : ℕ) (candidates : List ℕ) → ((q : ℕ) → marked out q ≡ true → IsOut u q)
+    → candidates ≡ row u.groups group → list_all (marked out) candidates ≡ true → IsUnmet u group
+IsUnmet-all u out group candidates are is all set healthy =
+    sym (ap (list_any set) is) ∙ none_of candidates all
   where
     none_of : (cs : List ℕ) → list_all (marked out) cs ≡ true → list_any set cs ≡ false
     none_of [] all = refl
     none_of (c ∷ cs) all =
         or_from _ _ (are c (and_parts _ _ all).0 set healthy) (none_of cs (and_parts _ _ all).1)
+
+-- a package that needs a group that no healthy set meets
+pub IsOut-unmet : (u : Universe) (member at group : ℕ) (groups : List ℕ) → groups ≡ row u.needs member → slice_get groups at ≡ Some group → IsUnmet u group → IsOut u member
+IsOut-unmet u member at group groups are found unmet set healthy =
+    false_from_ne_true _ (λ is.
+    false≢true (sym (unmet set healthy)
+    ∙ Leads-need u member at group (sym (ap (λ xs. slice_get xs at) are) ∙ found) set healthy (and_from _ _ is refl)))
+
+-- a number that a list has at a place
+pub is_among_at : (list : List ℕ) (at found number : ℕ) → slice_get list at ≡ Some found → found ≡ number → is_among list number ≡ true
+is_among_at list at found number is same =
+    any_passes_from_place (λ y. eqb y number) list at found is (eq-eqb found number same)

@@ -1,9 +1,10 @@
 -- Whether the set of a list is healthy.
-use Rattle.std.proofs.Common.{◌≡◌, ◌↔◌, ℕ, ◌<◌, ◌≤◌, Bool, true, false, List, [], ◌∷◌, length, get_or, refl, sym, ap, ◌∙◌, arith, eqb, inl, inr, subst, nat_lt}
-use Rattle.std.specs.List.{list_all, list_any}
+use Rattle.std.proofs.Common.{◌≡◌, ◌↔◌, ℕ, ◌<◌, Bool, true, List, [], ◌∷◌, length, refl, sym, ap, ◌∙◌, inl, inr}
+use Rattle.std.specs.List.{list_all}
 use Rattle.std.proofs.lemmas.Bool.{and_from, and_parts, or_cases, or_left, or_right, eqb-true, eq-eqb, false≢true, ltb-true}
-use Rattle.std.proofs.lemmas.List.Folds.{list_any_at}
+use Rattle.deb_solve.proofs.Marked.{alike}
 use Rattle.deb_solve.specs.Health.{IsHealthy, fits, is_among}
+use Rattle.deb_solve.specs.Marks.{AreMarks, marked}
 use Rattle.deb_solve.specs.declared.universe.Universe.{Universe}
 
 -- a test that each number of a list passes
@@ -21,17 +22,21 @@ all_of_among test [] each = refl
 all_of_among test (n ∷ ns) each =
     and_from _ _ (each n (or_left _ _ (eq-eqb n n refl))) (all_of_among test ns (λ p among. each p (or_right _ _ among)))
 
-pub healthy_list : (u : Universe) (set : ℕ → Bool) (members : List ℕ) → ((p : ℕ) → set p ≡ is_among members p)
+healthy_alike : (u : Universe) (set : ℕ → Bool) (members : List ℕ) → ((p : ℕ) → set p ≡ is_among members p)
     → (list_all (fits u set) members ≡ true) ↔ IsHealthy u (is_among members)
-healthy_list u set members alike =
+healthy_alike u set members alike =
     let same : set ≡ is_among members = λ i p. alike p i in (
       λ all p among. ap (λ s. fits u s p) (sym same) ∙ all_among (fits u set) members p all among,
       λ healthy. all_of_among (fits u set) members (λ p among. ap (λ s. fits u s p) same ∙ healthy p among),
     )
 
--- a member that isn't listed
-pub unlisted : (u : Universe) (members : List ℕ) (i m : ℕ) → i < length members → m ≡ get_or members i m → length u.needs ≤ m → IsHealthy u (is_among members) → ⊥
-unlisted u members i m within at past healthy =
-    let among = list_any_at (λ member. eqb member m) members i m within (eq-eqb (get_or members i m) m (sym at)) in
-    let listed = ltb-true m (length u.needs) (and_parts _ _ (healthy m among)).0 in
-    omega (arith, listed, past)
+fits_listed : (u : Universe) (set : ℕ → Bool) (p : ℕ) → fits u set p ≡ true → p < length u.needs
+fits_listed u set p fit = ltb-true p (length u.needs) (and_parts _ _ fit).0
+
+-- a member that isn't listed has no mark, and doesn't fit
+pub healthy_list : (u : Universe) (marks : List Bool) (members : List ℕ) → AreMarks marks members (length u.needs)
+    → (list_all (fits u (marked marks)) members ≡ true) ↔ IsHealthy u (is_among members)
+healthy_list u marks members are = (
+  λ all. (healthy_alike u (marked marks) members (alike marks members _ are (λ p among. fits_listed u (marked marks) p (all_among (fits u (marked marks)) members p all among)))).0 all,
+  λ healthy. (healthy_alike u (marked marks) members (alike marks members _ are (λ p among. fits_listed u (is_among members) p (healthy p among)))).1 healthy,
+)

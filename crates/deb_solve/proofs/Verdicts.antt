@@ -1,5 +1,5 @@
 -- Verdicts: at first none is known; more of them; and verdicts on the same universe.
-use Rattle.std.proofs.Common.{◌≡◌, ℕ, ◌<◌, true, false, List, length, get_or, replicate, set, Some, slice_get, refl, sym, ap, ◌∙◌, subst, eqb, inl, inr}
+use Rattle.std.proofs.Common.{◌≡◌, ℕ, ◌<◌, List, length, get_or, replicate, set, Some, slice_get, refl, sym, ap, ◌∙◌, subst, eqb, inl, inr}
 use Rattle.std.proofs.lemmas.Bool.{cases_eq, eq-eqb, false≢true}
 use Rattle.std.proofs.lemmas.List.{get_or-replicate, get_or-set_same, get_or-set_other, length-replicate, length-set}
 use Rattle.std.proofs.lemmas.List.Folds.{list_any_at}

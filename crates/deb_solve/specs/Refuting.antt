@@ -1,13 +1,17 @@
 -- What is known of lists of packages: which aren't in any healthy set, and how a list follows from
 -- others.
-use Rattle.std.specs.Prelude.{◌≡◌, ℕ, Bool, true, false, List, [], ◌∷◌}
+use Rattle.std.specs.Prelude.{◌≡◌, ℕ, Bool, true, false, List}
 use Rattle.std.specs.List.{list_all, list_any}
-use Rattle.deb_solve.specs.Health.{IsHealthy}
+use Rattle.deb_solve.specs.Health.{IsHealthy, is_met}
 use Rattle.deb_solve.specs.declared.universe.Universe.{Universe}
 
 -- No healthy set contains the package.
 abbrev pub IsOut : Universe → ℕ → Type 0
 IsOut u p = (set : ℕ → Bool) → IsHealthy u set → set p ≡ false
+
+-- No healthy set meets the group.
+abbrev pub IsUnmet : Universe → ℕ → Type 0
+IsUnmet u group = (set : ℕ → Bool) → IsHealthy u set → is_met u set group ≡ false
 
 -- No healthy set contains all of these packages.
 abbrev pub IsNogood : Universe → List ℕ → Type 0

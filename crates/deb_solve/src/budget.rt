@@ -1,7 +1,8 @@
 //! How long searches may take.
 
 /// The steps that searches may take. In a step the search finds what follows from its last choice,
-/// and then chooses a package or learns from a conflict.
+/// and then chooses a package or learns from a conflict. A step counts once more for each thousand
+/// numbers that it looks at.
 #[derive(Clone, Copy)]
 pub struct Budget {
     /// Of the search for one package. All searches together may take so many, and a hundred more

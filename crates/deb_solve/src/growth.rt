@@ -3,31 +3,53 @@
 use crate::health::row_of;
 use crate::refuter::Refuter;
 use crate::search::Search;
+use crate::tables::{number_or, put};
+use crate::universe::Universe;
 use std::alloc::{AllocError, Global};
+
+/// All growths look at most at this many times the numbers of the universe.
+const NUMBERS: usize = 32;
 
 /// A set of packages.
 #[derive(Drop)]
 pub(crate) struct Growth {
     is_member: Vec<bool>,
+    /// Of each package how many numbers of rows say that it and a member exclude one another.
+    blocks: Vec<u32>,
     pub(crate) members: Vec<u32>,
     /// Groups that several packages can meet.
     choices: Vec<u32>,
+    /// How many numbers all growths may still look at.
+    left: usize,
 }
 
 impl Growth {
-    pub(crate) fn new(alloc: Global, count: usize) -> Result<Self, AllocError> {
+    pub(crate) fn new(alloc: Global, universe: &Universe) -> Result<Self, AllocError> {
+        let count = universe.needs.len();
         Ok(Growth {
             is_member: vec![in alloc; false; count]?,
+            blocks: vec![in alloc; 0u32; count]?,
             members: Vec::new(alloc),
             choices: Vec::new(alloc),
+            left: universe
+                .size()
+                .saturating_add(count)
+                .saturating_mul(NUMBERS),
         })
     }
 
     /// Begins again with these packages.
-    pub(crate) fn begin(&mut self, members: &[u32]) -> Result<(), AllocError> {
-        self.leave_from(0);
+    pub(crate) fn begin(
+        &mut self,
+        known: &Refuter<'_>,
+        search: &Search<'_>,
+        members: &[u32],
+    ) -> Result<(), AllocError> {
+        let count = self.is_member.len();
+        self.look(count);
+        self.leave_from(known, search, 0);
         for member in members {
-            self.join(*member)?;
+            self.join(known, search, *member)?;
         }
         Ok(())
     }
@@ -39,14 +61,14 @@ impl Growth {
         search: &Search<'_>,
         package: u32,
     ) -> Result<(), AllocError> {
-        if self.is_member(package) || self.is_blocked(known, search, package) {
+        if self.left == 0 || self.is_member(package) || self.is_blocked(known, package) {
             return Ok(());
         }
         let start = self.members.len();
         self.choices.clear();
-        self.join(package)?;
+        self.join(known, search, package)?;
         if !self.complete(known, search, start)? {
-            self.leave_from(start);
+            self.leave_from(known, search, start);
         }
         Ok(())
     }
@@ -70,7 +92,7 @@ impl Growth {
             } else {
                 return Ok(true);
             };
-            if !is_met {
+            if !is_met || self.left == 0 {
                 return Ok(false);
             }
         }
@@ -86,6 +108,7 @@ impl Growth {
     ) -> Result<bool, AllocError> {
         for group in row_of(&known.universe.needs, member) {
             let candidates = row_of(&known.universe.groups, *group);
+            self.look(1);
             if search.is_choice(*group) {
                 if !self.some_member(candidates) {
                     self.choices.push(*group)?;
@@ -109,8 +132,9 @@ impl Growth {
             return Ok(true);
         }
         for candidate in candidates {
-            if !self.is_blocked(known, search, *candidate) {
-                self.join(*candidate)?;
+            self.look(1);
+            if !self.is_blocked(known, *candidate) {
+                self.join(known, search, *candidate)?;
                 return Ok(true);
             }
         }
@@ -124,15 +148,25 @@ impl Growth {
         }
     }
 
-    fn some_member(&self, packages: &[u32]) -> bool {
-        packages.iter().any(|package| self.is_member(*package))
+    fn some_member(&mut self, packages: &[u32]) -> bool {
+        for package in packages {
+            self.look(1);
+            if self.is_member(*package) {
+                return true;
+            }
+        }
+        false
     }
 
-    fn is_blocked(&self, known: &Refuter<'_>, search: &Search<'_>, package: u32) -> bool {
+    fn is_blocked(&self, known: &Refuter<'_>, package: u32) -> bool {
         (package as usize) >= self.is_member.len()
             || known.is_out(package)
-            || self.some_member(row_of(&known.universe.excludes, package))
-            || self.some_member(search.tables.excluders.rows_with(package))
+            || number_or(&self.blocks, package, 0) > 0
+    }
+
+    /// Notes that the growth looks at so many numbers.
+    fn look(&mut self, numbers: usize) {
+        self.left = self.left.saturating_sub(numbers);
     }
 
     fn set_member(&mut self, package: u32, is_member: bool) {
@@ -141,17 +175,35 @@ impl Growth {
         }
     }
 
-    fn join(&mut self, package: u32) -> Result<(), AllocError> {
+    fn join(
+        &mut self,
+        known: &Refuter<'_>,
+        search: &Search<'_>,
+        package: u32,
+    ) -> Result<(), AllocError> {
         self.members.push(package)?;
         self.set_member(package, true);
+        self.block(row_of(&known.universe.excludes, package), 1);
+        self.block(search.tables.excluders.rows_with(package), 1);
         Ok(())
     }
 
+    /// Adds a number to the blocks of packages.
+    fn block(&mut self, packages: &[u32], number: u32) {
+        self.look(packages.len());
+        for package in packages {
+            let blocks = number_or(&self.blocks, *package, 0);
+            put(&mut self.blocks, *package, blocks.wrapping_add(number));
+        }
+    }
+
     /// Takes the members from an index on out.
-    fn leave_from(&mut self, start: usize) {
+    fn leave_from(&mut self, known: &Refuter<'_>, search: &Search<'_>, start: usize) {
         for at in start..self.members.len() {
             if let Some(member) = self.members.get(at).copied() {
                 self.set_member(member, false);
+                self.block(row_of(&known.universe.excludes, member), u32::MAX);
+                self.block(search.tables.excluders.rows_with(member), u32::MAX);
             }
         }
         self.members.truncate(start);

@@ -3,13 +3,16 @@
 
 ghost use Rattle.std.specs.Prelude.{◌≡◌, ℕ, true, [], ◌∷◌, All, IfOk, IfSome, IsTrue, OnOk, Some, slice_get};
 ghost use Rattle.std.specs.List.{list_all};
+ghost use Rattle.deb_solve.specs.Health.{is_among};
 ghost use Rattle.deb_solve.specs.Marks.{marked};
-ghost use Rattle.deb_solve.specs.Refuting.{AddsOthers, IsNogood, IsOut, Leads, RulesOut};
+ghost use Rattle.deb_solve.specs.Refuting.{AddsOthers, IsNogood, IsOut, IsUnmet, Leads, RulesOut};
 
 use crate::health::{is_marked, row_of};
 use crate::rows::Rows;
+use crate::tables::{narrow, number_or, put};
 use crate::universe::Universe;
 use std::alloc::{AllocError, Global};
+use std::mem;
 
 /// The derived lists keep four times as many numbers as the universe, and this many more.
 const SPARE: usize = 1_000_000;
@@ -42,14 +45,73 @@ pub(crate) enum Learned {
     List(u32),
 }
 
+/// A list that is being made.
+#[derive(Drop)]
+pub(crate) struct Draft {
+    list: Vec<u32>,
+    /// Where a number is in the list, if it's there: nothing depends on that being so.
+    places: Vec<u32>,
+    /// How many numbers were looked at.
+    pub(crate) looked: usize,
+}
+
+impl Draft {
+    pub(crate) fn new(alloc: Global, count: usize) -> Result<Self, AllocError> {
+        Ok(Draft {
+            list: Vec::new(alloc),
+            places: vec![in alloc; 0u32; count]?,
+            looked: 0,
+        })
+    }
+
+    fn has(&self, number: u32) -> bool
+        ensures { IsTrue result → is_among self.now.list.items number ≡ true }
+    {
+        let place = number_or(&self.places, number, u32::MAX);
+        match number_at(&self.list, place) {
+            Some(found) => found == number,
+            None => false,
+        }
+    }
+
+    /// Appends the numbers of another list that the list doesn't have, except the candidate.
+    fn add_others(&mut self, others: &[u32], candidate: u32) -> Result<(), AllocError>
+        ensures { OnOk result (AddsOthers self.old.list.items self.new.list.items
+            others.now candidate) }
+    {
+        for number in others {
+            self.add_other(*number, candidate)?;
+        }
+        Ok(())
+    }
+
+    fn add_other(&mut self, number: u32, candidate: u32) -> Result<(), AllocError>
+        ensures { OnOk result (AddsOthers self.old.list.items self.new.list.items
+            (number ∷ []) candidate) }
+    {
+        self.looked = self.looked.saturating_add(1);
+        if number == candidate {
+            return Ok(());
+        }
+        if !self.has(number) {
+            put(&mut self.places, number, narrow(self.list.len()));
+            self.list.push(number)?;
+        }
+        Ok(())
+    }
+}
+
 /// What was derived from a universe.
 #[derive(Drop)]
 pub(crate) struct Refuter<'u> {
     pub(crate) universe: &'u Universe,
     lists: Rows,
     out: Vec<bool>,
+    /// The groups that no healthy set meets.
+    unmet: Vec<bool>,
     ghost derived: { All (IsNogood universe.now) lists },
     ghost are_out: { (p : ℕ) → marked out.items p ≡ true → IsOut universe.now p },
+    ghost are_unmet: { (g : ℕ) → marked unmet.items g ≡ true → IsUnmet universe.now g },
 }
 
 impl<'u> Refuter<'u> {
@@ -57,10 +119,12 @@ impl<'u> Refuter<'u> {
         ensures { IfOk result (λ known. known.universe.now ≡ universe.now) }
     {
         let out = vec![in alloc; false; universe.needs.len()]?;
+        let unmet = vec![in alloc; false; universe.groups.len()]?;
         Ok(Refuter {
             universe,
             lists: Rows::new(alloc),
             out,
+            unmet,
         })
     }
 
@@ -97,12 +161,28 @@ impl<'u> Refuter<'u> {
     pub(crate) fn prune(&mut self, member: u32, at: u32) -> bool
         ensures { self.new.universe.now ≡ self.old.universe.now }
     {
-        let Some(candidates) = candidates_of(self.universe, member, at) else {
+        let Some(group) = number_at(row_of(&self.universe.needs, member), at) else {
             return false;
         };
-        let all = self.all_out(candidates);
-        if all {
+        let unmet = self.is_unmet(group);
+        if unmet {
             self.mark_out(member);
+        }
+        unmet
+    }
+
+    /// Returns whether all packages are out that meet a group.
+    fn is_unmet(&mut self, group: u32) -> bool
+        ensures same { self.new.universe.now ≡ self.old.universe.now }
+        ensures unmet { IsTrue result → IsUnmet self.old.universe.now group }
+    {
+        if is_marked(&self.unmet, group) {
+            return true;
+        }
+        let universe = self.universe;
+        let all = self.all_out(row_of(&universe.groups, group));
+        if all {
+            self.mark_unmet(group);
         }
         all
     }
@@ -119,6 +199,15 @@ impl<'u> Refuter<'u> {
     {
         if (number as usize) < self.out.len() {
             self.out[number as usize] = true;
+        }
+    }
+
+    fn mark_unmet(&mut self, group: u32)
+        requires { IsUnmet self.old.universe.now group }
+        ensures { self.new.universe.now ≡ self.old.universe.now }
+    {
+        if (group as usize) < self.unmet.len() {
+            self.unmet[group as usize] = true;
         }
     }
 
@@ -159,6 +248,7 @@ impl<'u> Refuter<'u> {
         nogood: &[u32],
         pivot: Pivot,
         reasons: &[Reason],
+        draft: &mut Draft,
     ) -> Result<Option<Vec<u32>>, AllocError>
         requires { IsNogood self.now.universe.now nogood.now }
         ensures { IfOk result (λ made. IfSome made
@@ -167,21 +257,21 @@ impl<'u> Refuter<'u> {
         let Some(candidates) = candidates_of(self.universe, pivot.member, pivot.at) else {
             return Ok(None);
         };
-        let mut list = Vec::new(alloc);
-        list.push(pivot.member)?;
+        draft.list = vec![in alloc; pivot.member]?;
+        put(&mut draft.places, pivot.member, 0);
         for candidate in candidates {
-            if !self.rule_out_by(&mut list, nogood, pivot, *candidate, reasons)? {
+            if !self.rule_out_by(draft, nogood, pivot, *candidate, reasons)? {
                 return Ok(None);
             }
         }
-        Ok(Some(list))
+        Ok(Some(mem::replace(&mut draft.list, Vec::new(alloc))))
     }
 
     /// Adds to a list the others of what rules a candidate out: the given list if it's the pivot's,
     /// else the one that its reason names. Returns whether that does.
     fn rule_out_by(
         &self,
-        list: &mut Vec<u32>,
+        draft: &mut Draft,
         nogood: &[u32],
         pivot: Pivot,
         candidate: u32,
@@ -189,42 +279,42 @@ impl<'u> Refuter<'u> {
     ) -> Result<bool, AllocError>
         requires { IsNogood self.now.universe.now nogood.now }
         ensures { IfOk result (λ yes. IsTrue yes → RulesOut self.now.universe.now
-            list.old.items list.new.items candidate) }
+            draft.old.list.items draft.new.list.items candidate) }
     {
         if candidate == pivot.candidate {
-            add_others(list, nogood, candidate)?;
+            draft.add_others(nogood, candidate)?;
             return Ok(true);
         }
         let Some(reason) = reasons.get(candidate as usize) else {
             return Ok(false);
         };
-        self.rule_out(list, candidate, *reason)
+        self.rule_out(draft, candidate, *reason)
     }
 
     /// Adds to a list the others of the one that a reason names; returns whether it rules the
     /// candidate out.
     fn rule_out(
         &self,
-        list: &mut Vec<u32>,
+        draft: &mut Draft,
         candidate: u32,
         reason: Reason,
     ) -> Result<bool, AllocError>
         ensures { IfOk result (λ yes. IsTrue yes → RulesOut self.now.universe.now
-            list.old.items list.new.items candidate) }
+            draft.old.list.items draft.new.list.items candidate) }
     {
         match reason {
             Reason::Excluded { by, at } => {
                 let Some(other) = excluded(self.universe, by, at) else {
                     return Ok(false);
                 };
-                add_others(list, &[by, other], candidate)?;
+                draft.add_others(&[by, other], candidate)?;
                 Ok(true)
             }
             Reason::Derived(number) => {
                 let Some(nogood) = self.list(number) else {
                     return Ok(false);
                 };
-                add_others(list, nogood, candidate)?;
+                draft.add_others(nogood, candidate)?;
                 Ok(true)
             }
             Reason::Out => Ok(self.is_out(candidate)),
@@ -280,28 +370,8 @@ fn pair(alloc: Global, one: u32, other: u32) -> Result<Vec<u32>, AllocError>
     ensures { IfOk result (λ list. AddsOthers (one ∷ []) list.items (other ∷ []) one) }
 {
     let mut list = vec![in alloc; one]?;
-    add_other(&mut list, other, one)?;
+    if other != one {
+        list.push(other)?;
+    }
     Ok(list)
-}
-
-/// Appends the numbers of another list that a list doesn't have, except the candidate.
-fn add_others(list: &mut Vec<u32>, others: &[u32], candidate: u32) -> Result<(), AllocError>
-    ensures { OnOk result (AddsOthers list.old.items list.new.items others.now candidate) }
-{
-    for number in others {
-        add_other(list, *number, candidate)?;
-    }
-    Ok(())
-}
-
-fn add_other(list: &mut Vec<u32>, number: u32, candidate: u32) -> Result<(), AllocError>
-    ensures { OnOk result (AddsOthers list.old.items list.new.items (number ∷ []) candidate) }
-{
-    if number == candidate {
-        return Ok(());
-    }
-    if !list.contains(&number) {
-        list.push(number)?;
-    }
-    Ok(())
 }

@@ -51,7 +51,7 @@ impl Rows {
     }
 
     /// Returns how many numbers it keeps: those of the rows, and where each row ends.
-    pub(crate) fn size(&self) -> usize {
+    pub fn size(&self) -> usize {
         self.numbers.len().saturating_add(self.ends.len())
     }
 

@@ -14,9 +14,12 @@ mod state;
 mod watches;
 
 use crate::health::row_of;
-use crate::refuter::{Reason, Refuter};
+use crate::refuter::{Draft, Reason, Refuter};
 use crate::tables::{Tables, narrow};
 use std::alloc::{AllocError, Global};
+
+/// A step counts once more for each time that it looks at so many numbers.
+const NUMBERS: usize = 1000;
 
 /// Whether a package is in the set.
 #[derive(Clone, Copy, PartialEq, Eq)]
@@ -86,8 +89,12 @@ pub(crate) struct Search<'t> {
     first_watch: Vec<u32>,
     /// Of each level the index in `active` before which each group is met.
     met_before: Vec<usize>,
+    /// For the lists that are derived.
+    draft: Draft,
     /// How many steps all searches took.
     pub(crate) steps: u32,
+    /// How many numbers they looked at that no step is counted for yet.
+    looked: usize,
 }
 
 impl<'t> Search<'t> {
@@ -112,7 +119,9 @@ impl<'t> Search<'t> {
             watches: Vec::new(alloc),
             first_watch: Vec::new(alloc),
             met_before: Vec::new(alloc),
+            draft: Draft::new(alloc, known.universe.needs.len())?,
             steps: 0,
+            looked: 0,
         };
         search.add_packages(known.universe.needs.len())?;
         search.add_groups(known)?;
@@ -159,8 +168,12 @@ impl<'t> Search<'t> {
         ensures { known.new.universe.now ≡ known.old.universe.now }
     {
         let mut level = 0u32;
+        let most = self.steps.saturating_add(steps);
         self.undo(0);
         for _ in 0..steps {
+            if self.steps >= most {
+                break;
+            }
             self.steps = self.steps.saturating_add(1);
             if known.is_full() {
                 known.forget(alloc);
@@ -174,12 +187,27 @@ impl<'t> Search<'t> {
                 level = 1;
                 self.begin(package)?;
             }
-            match self.step(alloc, known, level)? {
+            let next = self.step(alloc, known, level)?;
+            self.count_looked();
+            match next {
                 Next::Level(next) => level = next,
                 Next::End(outcome) => return Ok(outcome),
             }
         }
         Ok(Outcome::Ended)
+    }
+
+    /// Counts more steps for the numbers that were looked at.
+    fn count_looked(&mut self) {
+        let looked = self.looked.saturating_add(self.draft.looked);
+        self.steps = self.steps.saturating_add(narrow(looked / NUMBERS));
+        self.looked = looked % NUMBERS;
+        self.draft.looked = 0;
+    }
+
+    /// Notes that the search looks at so many numbers.
+    fn look(&mut self, numbers: usize) {
+        self.looked = self.looked.saturating_add(numbers);
     }
 
     fn begin(&mut self, package: u32) -> Result<(), AllocError> {
@@ -219,9 +247,10 @@ impl<'t> Search<'t> {
     }
 
     /// Returns the first package that can meet a group, or none if a package of the set meets it.
-    fn open_candidate(&self, known: &Refuter<'_>, group: u32) -> Option<u32> {
+    fn open_candidate(&mut self, known: &Refuter<'_>, group: u32) -> Option<u32> {
         let mut open = None;
         for candidate in row_of(&known.universe.groups, group) {
+            self.look(1);
             match self.value_of(*candidate) {
                 Value::In => return None,
                 Value::Out => {}

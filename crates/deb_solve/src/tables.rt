@@ -31,12 +31,28 @@ pub(crate) fn put(numbers: &mut Vec<u32>, at: u32, number: u32) {
 #[derive(Drop)]
 pub(crate) struct Inverse {
     rows: Vec<u32>,
+    /// Where the number is in each of these rows, or nothing.
+    places: Vec<u32>,
     ends: Vec<u32>,
 }
 
 impl Inverse {
     /// Finds the rows that contain each number below a count.
     pub(crate) fn of(alloc: Global, rows: &Rows, count: usize) -> Result<Self, AllocError> {
+        Self::found(alloc, rows, count, false)
+    }
+
+    /// Finds them, and where the numbers are in them.
+    fn with_places(alloc: Global, rows: &Rows, count: usize) -> Result<Self, AllocError> {
+        Self::found(alloc, rows, count, true)
+    }
+
+    fn found(
+        alloc: Global,
+        rows: &Rows,
+        count: usize,
+        has_places: bool,
+    ) -> Result<Self, AllocError> {
         let mut ends = vec![in alloc; 0u32; count]?;
         for row in 0..narrow(rows.len()) {
             for number in row_of(rows, row) {
@@ -46,26 +62,42 @@ impl Inverse {
         }
         let total = starts_of(&mut ends);
         let mut found = vec![in alloc; 0u32; total as usize]?;
+        let mut places = vec![in alloc; 0u32; if has_places { total as usize } else { 0 }]?;
         for row in 0..narrow(rows.len()) {
-            for number in row_of(rows, row) {
+            for (place, number) in row_of(rows, row).iter().enumerate() {
                 let at = number_or(&ends, *number, u32::MAX);
                 put(&mut found, at, row);
+                put(&mut places, at, narrow(place));
                 put(&mut ends, *number, at.wrapping_add(1));
             }
         }
-        Ok(Inverse { rows: found, ends })
+        Ok(Inverse {
+            rows: found,
+            places,
+            ends,
+        })
     }
 
     /// Returns the rows that contain a number, in order.
     pub(crate) fn rows_with(&self, number: u32) -> &[u32] {
+        self.part(&self.rows, number)
+    }
+
+    /// Returns where the number is in each of these rows.
+    pub(crate) fn places_of(&self, number: u32) -> &[u32] {
+        self.part(&self.places, number)
+    }
+
+    /// Returns what a list has for a number.
+    fn part<'n>(&self, numbers: &'n [u32], number: u32) -> &'n [u32] {
         let start = if number == 0 {
             0
         } else {
             number_or(&self.ends, number.wrapping_sub(1), u32::MAX)
         };
         let end = number_or(&self.ends, number, 0);
-        match self.rows.get(start as usize..end as usize) {
-            Some(rows) => rows,
+        match numbers.get(start as usize..end as usize) {
+            Some(part) => part,
             None => &[],
         }
     }
@@ -98,7 +130,7 @@ impl Tables {
         Ok(Tables {
             met_by: Inverse::of(alloc, &universe.groups, universe.needs.len())?,
             needers: Inverse::of(alloc, &universe.needs, universe.groups.len())?,
-            excluders: Inverse::of(alloc, &universe.excludes, universe.needs.len())?,
+            excluders: Inverse::with_places(alloc, &universe.excludes, universe.needs.len())?,
         })
     }
 }

@@ -6,7 +6,7 @@ ghost use Rattle.deb_solve.specs.Verdicts.{AreTrue, AreVerdicts};
 
 use crate::budget::Budget;
 use crate::growth::Growth;
-use crate::health::is_healthy;
+use crate::health::Marks;
 use crate::refuter::Refuter;
 use crate::search::{Outcome, Search};
 use crate::tables::{Tables, narrow};
@@ -35,6 +35,7 @@ pub enum Verdict {
 struct Searches<'t> {
     search: Search<'t>,
     growth: Growth,
+    marks: Marks,
     poor: u32,
     one_search: u32,
     all_searches: u32,
@@ -64,7 +65,8 @@ pub fn solve(alloc: Global, universe: &Universe, budget: Budget) -> Result<Vec<V
     let tables = Tables::of(alloc, universe)?;
     let mut searches = Searches {
         search: Search::new(alloc, &tables, &known)?,
-        growth: Growth::new(alloc, universe.needs.len())?,
+        growth: Growth::new(alloc, universe)?,
+        marks: Marks::new(alloc, universe)?,
         poor: 0,
         one_search: budget.one_search,
         all_searches: budget.all_searches(narrow(verdicts.len())),
@@ -106,12 +108,18 @@ fn decide(
         return Ok(());
     }
     let members = searches.search.members(alloc)?;
-    accept(alloc, universe, &members, verdicts)?;
+    accept(universe, &mut searches.marks, &members, verdicts);
     if searches.poor >= MOST_POOR {
         return Ok(());
     }
     grow(searches, known, verdicts, &members)?;
-    accept(alloc, universe, &searches.growth.members, verdicts)
+    accept(
+        universe,
+        &mut searches.marks,
+        &searches.growth.members,
+        verdicts,
+    );
+    Ok(())
 }
 
 fn is_undecided(verdicts: &[Verdict], number: u32) -> bool {
@@ -129,7 +137,7 @@ fn grow(
     members: &[u32],
 ) -> Result<(), AllocError> {
     searches.search.undo(0);
-    searches.growth.begin(members)?;
+    searches.growth.begin(known, &searches.search, members)?;
     for number in 0..narrow(verdicts.len()) {
         if is_undecided(verdicts, number) {
             searches.growth.add(known, &searches.search, number)?;
@@ -145,22 +153,15 @@ fn grow(
 }
 
 /// Notes that the packages of a set are installable, if the set is healthy.
-fn accept(
-    alloc: Global,
-    universe: &Universe,
-    members: &[u32],
-    verdicts: &mut Vec<Verdict>,
-) -> Result<(), AllocError>
+fn accept(universe: &Universe, marks: &mut Marks, members: &[u32], verdicts: &mut Vec<Verdict>)
     requires { AreTrue universe.now verdicts.old.items }
     ensures are_true { AreTrue universe.now verdicts.new.items }
     ensures each { length verdicts.new.items ≡ length verdicts.old.items }
 {
-    let healthy = is_healthy(alloc, universe, members)?;
-    if !healthy {
-        return Ok(());
+    let healthy = marks.is_healthy(universe, members);
+    if healthy {
+        accept_all(universe, members, verdicts);
     }
-    accept_all(universe, members, verdicts);
-    Ok(())
 }
 
 fn accept_all(universe: &Universe, members: &[u32], verdicts: &mut Vec<Verdict>)

@@ -35,7 +35,7 @@ impl Search<'_> {
 
     /// Returns a list with only one package at its highest level.
     fn derive(
-        &self,
+        &mut self,
         alloc: Global,
         known: &Refuter<'_>,
         conflict: Conflict,
@@ -47,10 +47,12 @@ impl Search<'_> {
             return Ok(None);
         };
         for _ in 0..self.value.len() {
+            self.look(list.len());
             let Some(pivot) = self.pivot_of(&list) else {
                 break;
             };
-            let Some(next) = known.resolve(alloc, &list, pivot, &self.reason)? else {
+            let Some(next) = known.resolve(alloc, &list, pivot, &self.reason, &mut self.draft)?
+            else {
                 return Ok(None);
             };
             list = next;
@@ -60,7 +62,7 @@ impl Search<'_> {
 
     /// Returns the list of packages that conflict.
     fn list_of(
-        &self,
+        &mut self,
         alloc: Global,
         known: &Refuter<'_>,
         conflict: Conflict,
@@ -76,7 +78,7 @@ impl Search<'_> {
     }
 
     fn list_of_unmet(
-        &self,
+        &mut self,
         alloc: Global,
         known: &Refuter<'_>,
         group: u32,
@@ -99,7 +101,7 @@ impl Search<'_> {
             at,
             candidate,
         };
-        known.resolve(alloc, &list, pivot, &self.reason)
+        known.resolve(alloc, &list, pivot, &self.reason, &mut self.draft)
     }
 
     /// Returns the latest package of a list and the need that it's there for, unless it's the only

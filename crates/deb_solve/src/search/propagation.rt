@@ -3,7 +3,7 @@
 use super::{Cause, Conflict, Search, Value};
 use crate::health::row_of;
 use crate::refuter::{Reason, Refuter};
-use crate::tables::{narrow, put};
+use crate::tables::{narrow, number_or, put};
 use std::alloc::AllocError;
 
 impl Search<'_> {
@@ -41,7 +41,7 @@ impl Search<'_> {
         if conflict.is_some() {
             return Ok(conflict);
         }
-        let conflict = self.exclude_excluders(known, package, level)?;
+        let conflict = self.exclude_excluders(package, level)?;
         if conflict.is_some() {
             return Ok(conflict);
         }
@@ -59,7 +59,9 @@ impl Search<'_> {
         package: u32,
         level: u32,
     ) -> Result<Option<Conflict>, AllocError> {
-        for (at, other) in row_of(&known.universe.excludes, package).iter().enumerate() {
+        let row = row_of(&known.universe.excludes, package);
+        self.look(row.len());
+        for (at, other) in row.iter().enumerate() {
             let by = package;
             let at = narrow(at);
             match self.value_of(*other) {
@@ -74,14 +76,16 @@ impl Search<'_> {
     /// Puts what excludes a package out of the set.
     fn exclude_excluders(
         &mut self,
-        known: &Refuter<'_>,
         package: u32,
         level: u32,
     ) -> Result<Option<Conflict>, AllocError> {
         let tables = self.tables;
-        for by in tables.excluders.rows_with(package) {
+        let rows = tables.excluders.rows_with(package);
+        let places = tables.excluders.places_of(package);
+        self.look(rows.len());
+        for (index, by) in rows.iter().enumerate() {
             let by = *by;
-            let at = place_in(row_of(&known.universe.excludes, by), package);
+            let at = number_or(places, narrow(index), u32::MAX);
             match self.value_of(by) {
                 Value::In => return Ok(Some(Conflict::Both { by, at })),
                 Value::Out => {}
@@ -98,7 +102,9 @@ impl Search<'_> {
         package: u32,
         level: u32,
     ) -> Result<Option<Conflict>, AllocError> {
-        for (at, group) in row_of(&known.universe.needs, package).iter().enumerate() {
+        let row = row_of(&known.universe.needs, package);
+        self.look(row.len());
+        for (at, group) in row.iter().enumerate() {
             if !self.is_active(*group) {
                 let need = Cause::Need {
                     member: package,
@@ -131,8 +137,10 @@ impl Search<'_> {
         level: u32,
     ) -> Result<Option<Conflict>, AllocError> {
         let tables = self.tables;
+        let rows = tables.met_by.rows_with(package);
         let mut conflict = None;
-        for group in tables.met_by.rows_with(package) {
+        self.look(rows.len());
+        for group in rows {
             let left = self.live_of(*group).wrapping_sub(1);
             put(&mut self.live, *group, left);
             if conflict.is_none() && self.is_active(*group) {
@@ -154,7 +162,9 @@ impl Search<'_> {
         }
         let mut is_met = false;
         let mut last = None;
-        for candidate in row_of(&known.universe.groups, group) {
+        let row = row_of(&known.universe.groups, group);
+        self.look(row.len());
+        for candidate in row {
             match self.value_of(*candidate) {
                 Value::In => is_met = true,
                 Value::Out => {}
@@ -172,13 +182,5 @@ impl Search<'_> {
                 Ok(None)
             }
         }
-    }
-}
-
-/// Returns where a number is in a row, if it is there.
-fn place_in(row: &[u32], number: u32) -> u32 {
-    match row.iter().position(|other| *other == number) {
-        Some(at) => narrow(at),
-        None => u32::MAX,
     }
 }

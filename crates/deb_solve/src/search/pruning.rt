@@ -92,6 +92,9 @@ impl Search<'_> {
                 return Ok(());
             };
             for package in tables.needers.rows_with(group) {
+                if known.is_out(*package) {
+                    continue;
+                }
                 if let Some(at) = self.unmet_need(known, *package) {
                     self.prune(known, *package, at, queue)?;
                 }

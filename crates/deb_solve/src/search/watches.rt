@@ -81,6 +81,7 @@ impl Search<'_> {
             let Some(found) = self.watches.get(watch as usize).copied() else {
                 break;
             };
+            self.look(1);
             match self.visit(known, watch, level)? {
                 Visit::Stays => before = Some(watch),
                 Visit::Moves(other) => {
@@ -106,6 +107,7 @@ impl Search<'_> {
             return Ok(Visit::Stays);
         }
         for package in known.list(watch / 2).unwrap_or(&[]) {
+            self.look(1);
             if *package != other && self.value_of(*package) != Value::In {
                 return Ok(Visit::Moves(*package));
             }

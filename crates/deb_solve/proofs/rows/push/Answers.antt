@@ -1,4 +1,4 @@
-use Rattle.std.proofs.Common.{◌≡◌, ◌+◌, ◌++◌, ◌∷◌, [], ℕ, length, length-append, arith}
+use Rattle.std.proofs.Common.{◌≡◌, ◌+◌, length, length-append, arith}
 use Rattle.deb_solve.proofs.RowsKept.{ends_more, rows_more}
 use Rattle.deb_solve.proofs.rows.push.Goals as goal
 

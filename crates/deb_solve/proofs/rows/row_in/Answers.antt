@@ -1,4 +1,3 @@
-use Rattle.std.proofs.Common.{◌≡◌, ℕ, ◌<◌, ◌≤◌, ◌-◌, Some, take, drop, sym, ap, ◌∙◌, arith}
 use Rattle.deb_solve.proofs.RowsKept.{length-rows_from, row_at}
 use Rattle.deb_solve.proofs.rows.row_in.Goals as goal
 

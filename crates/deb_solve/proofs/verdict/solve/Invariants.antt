@@ -1,4 +1,4 @@
-use Rattle.std.proofs.Common.{◌≡◌, length}
+use Rattle.std.proofs.Common.{◌≡◌}
 use Rattle.deb_solve.specs.Verdicts.{AreVerdicts}
 use Rattle.deb_solve.proofs.verdict.solve.Given as goal
 

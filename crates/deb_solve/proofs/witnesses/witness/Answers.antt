@@ -1,4 +1,4 @@
-use Rattle.std.proofs.Common.{◌≡◌, true, sym, ap, ◌∙◌, subst}
+use Rattle.std.proofs.Common.{sym, ap, ◌∙◌, subst}
 use Rattle.deb_solve.specs.Health.{IsHealthy, is_among}
 use Rattle.deb_solve.proofs.witnesses.witness.Goals as goal
 
