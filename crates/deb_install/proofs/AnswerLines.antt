@@ -38,7 +38,7 @@ lines-next answer packages i out now all within one before =
     ∙ before
 
 -- a verdict that is known is in the list
-known-at : (verdicts : List Verdict) (n : ℕ) (v : Verdict) → (solved.Undecided ≡ v → ⊥) → slice_index_or verdicts n solved.Undecided ≡ v → slice_get verdicts n ≡ Some v
+pub known-at : (verdicts : List Verdict) (n : ℕ) (v : Verdict) → (solved.Undecided ≡ v → ⊥) → slice_index_or verdicts n solved.Undecided ≡ v → slice_get verdicts n ≡ Some v
 known-at [] n v known is = absurd (known is)
 known-at (w ∷ verdicts) zero v known is = ap Some is
 known-at (w ∷ verdicts) (suc n) v known is = known-at verdicts n v known is

@@ -24,12 +24,12 @@ module _ (readings : Readings) (environment : Environment) (set : ℕ → Bool) 
       (λ i. list_all (λ group. group-rows readings set packages environment group i) implied_groups)
       ∙ sym (all-flat (list_any set) (group_rows readings environment packages) implied_groups)
 
-  can-build : can_build readings environment (members_of set packages) values ≡ list_all (list_any set) (build_rows readings environment packages values)
+  pub can-build : can_build readings environment (members_of set packages) values ≡ list_all (list_any set) (build_rows readings environment packages values)
   can-build =
       (λ i. implied-met i && fields-met readings set packages environment values build_fields i)
       ∙ sym (list_all-append (list_any set) (flat_map (group_rows readings environment packages) implied_groups) (rows_of_fields readings environment packages values build_fields))
 
-  may-build : may_build readings environment (members_of set packages) values ≡ not (list_any set (build_excludes readings environment packages values))
+  pub may-build : may_build readings environment (members_of set packages) values ≡ not (list_any set (build_excludes readings environment packages values))
   may-build = fields-spared readings set packages environment values conflict_fields environment.native []
 
 pub build_rows_decide : BuildRowsDecide

@@ -4,13 +4,16 @@ use Rattle.std.proofs.lemmas.Bool.{and_from, and_parts, lt-ltb, ltb-true}
 use Rattle.deb_relation.specs.Applying.{Environment}
 use Rattle.deb_control.specs.Documents.{Meaning}
 use Rattle.deb_control.specs.Pairs.{Pairwise}
+use Rattle.deb_control.specs.ValueFiles.{ValueEntries}
+use Rattle.deb_field.specs.Values.{ValueMeaning}
 use Rattle.deb_control.proofs.GivenValues.{pairwise-length}
 use Rattle.deb_index.specs.Listed.{Listed}
 use Rattle.deb_index.specs.Listing.{Lists}
 use Rattle.deb_unmet.specs.declared.asked.Strength.{Strength}
+use Rattle.deb_install.specs.Buildable.{IsBuildable, can_build, may_build}
 use Rattle.deb_install.specs.Installable.{IsInstallable, is_healthy_in}
 use Rattle.deb_install.specs.Laws.{RowsDecide, StoredRowsDecide}
-use Rattle.deb_install.specs.Members.{HasHealthySet, IsHealthyByRows}
+use Rattle.deb_install.specs.Members.{HasHealthySet, IsHealthyByRows, members_of}
 use Rattle.deb_install.specs.Rows.{AreRowsOf}
 use Rattle.deb_install.specs.declared.readings.Readings.{Readings}
 use Rattle.deb_install.proofs.HealthyRows.{healthy_by_rows, healthy_from_rows}
@@ -19,7 +22,7 @@ use Rattle.deb_install.proofs.StoredRows.{healthy-stored, stored-healthy}
 use Rattle.deb_install.proofs.Sets.{members-same}
 
 -- the numbers of a set that name one of so many packages
-abbrev only : ℕ → (ℕ → Bool) → ℕ → Bool
+abbrev pub only : ℕ → (ℕ → Bool) → ℕ → Bool
 only count set number = set number && (ltb 0 number && ltb number (count + 1))
 
 and-true : (b v : Bool) → v ≡ true → b ≡ (b && v)
@@ -32,12 +35,32 @@ only-same count set size are i within =
     let below : 1 + i < count + 1 = omega (arith, within, are) in
     sym (and-true (set (1 + i)) (ltb 0 (1 + i) && ltb (1 + i) (count + 1)) (and_from (ltb 0 (1 + i)) (ltb (1 + i) (count + 1)) (lt-ltb 0 (1 + i) some) (lt-ltb (1 + i) (count + 1) below)))
 
-only-listed : (count : ℕ) (set : ℕ → Bool) (number : ℕ) → only count set number ≡ true → (1 ≤ number) × (number ≤ count)
+pub only-listed : (count : ℕ) (set : ℕ → Bool) (number : ℕ) → only count set number ≡ true → (1 ≤ number) × (number ≤ count)
 only-listed count set number is =
     let bounds = and_parts (ltb 0 number) (ltb number (count + 1)) (and_parts (set number) (ltb 0 number && ltb number (count + 1)) is).1 in
     let some = ltb-true 0 number bounds.0 in
     let below = ltb-true number (count + 1) bounds.1 in
     (omega (arith, some), omega (arith, below))
+
+-- what builds a source package among the packages that are listed
+module _ (readings : Readings) (strength : Strength) (environment : Environment) (packages : List Listed) (meaning : Meaning) (values : ValueEntries ValueMeaning) (lists : Pairwise Lists meaning packages) (built : IsBuildable readings strength environment packages meaning values) where
+  abbrev listed_set : ℕ → Bool
+  listed_set = only (length packages) built.set
+
+  same : members_of listed_set packages ≡ members_of built.set packages
+  same = members-same listed_set built.set 1 packages (only-same (length packages) built.set (length packages) refl)
+
+  alike : members_of listed_set meaning ≡ members_of built.set meaning
+  alike = members-same listed_set built.set 1 meaning (only-same (length packages) built.set (length meaning) (sym (pairwise-length Lists meaning packages lists)))
+
+  pub only-healthy : is_healthy_in readings strength environment (members_of listed_set packages) (members_of listed_set meaning) ≡ true
+  only-healthy = (λ i. is_healthy_in readings strength environment (same i) (alike i)) ∙ built.healthy
+
+  pub only-can : can_build readings environment (members_of listed_set packages) values ≡ true
+  only-can = (λ i. can_build readings environment (same i) values) ∙ built.can
+
+  pub only-may : may_build readings environment (members_of listed_set packages) values ≡ true
+  only-may = (λ i. may_build readings environment (same i) values) ∙ built.may
 
 module _ (readings : Readings) (strength : Strength) (environment : Environment) (packages : List Listed) (meaning : Meaning) (needs : ℕ → List (List ℕ)) (excludes : ℕ → List ℕ) (lists : Pairwise Lists meaning packages) (rows : AreRowsOf readings strength environment packages meaning needs excludes) where
   pub installable_by_rows : (number : ℕ) → IsInstallable readings strength environment packages meaning number → HasHealthySet (length packages) needs excludes number

@@ -27,3 +27,11 @@ pub mod TrueVerdicts
 pub mod NeededRows
 pub mod ExcludedRows
 pub mod FileAnswers
+pub mod NextOf
+pub mod BuiltRows
+pub mod SourcesRead
+pub mod UniverseRows
+pub mod SourceRows
+pub mod SourceVerdicts
+pub mod SourceLines
+pub mod BuildFiles

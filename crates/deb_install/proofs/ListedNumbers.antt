@@ -20,7 +20,8 @@ use Rattle.deb_health.specs.Excluding.{excludes as excludes_by}
 use Rattle.deb_health.specs.Lines.{negative_fields}
 use Rattle.deb_health.specs.Together.{rules_out}
 use Rattle.deb_health.proofs.Growing.{all-true}
-use Rattle.deb_install.specs.Rows.{AreRowsOf, excluded_by, excluded_numbers, exclusion_row, later_duplicates}
+use Rattle.deb_install.specs.Buildable.{build_excludes, conflict_fields}
+use Rattle.deb_install.specs.Rows.{AreRowsOf, excluded_by, excluded_by_fields, excluded_numbers, exclusion_row, later_duplicates}
 use Rattle.deb_install.specs.Passing.{counts}
 use Rattle.deb_install.specs.declared.readings.Readings.{Readings}
 use Rattle.deb_install.proofs.StoredRows.{all-pass, names_one, within-names}
@@ -63,15 +64,21 @@ module _ (readings : Readings) (strength : Strength) (environment : Environment)
   flat-named : {X : Type 0} (f : X → List ℕ) → ((x : X) → named (f x) ≡ true) → (xs : List X) → named (flat_map f xs) ≡ true
   flat-named f each xs = all-flat (names_one (length packages)) f xs ∙ all-true (λ x. named (f x)) each xs
 
-  excluded-named : (values : ValueEntries ValueMeaning) → named (excluded_numbers readings strength environment packages values) ≡ true
-  excluded-named values =
-      let own = environment_for (Packages strength) environment values in
-      let name = word_under (codes "Package") values in
-      let row : Alternative → List ℕ = excluded_by readings own environment.native name packages in
+  fields-named : (own : Environment) (target name : List ℕ) (values : ValueEntries ValueMeaning) (fields : List (List ℕ)) → named (excluded_by_fields readings own target name packages values fields) ≡ true
+  fields-named own target name values fields =
+      let row : Alternative → List ℕ = excluded_by readings own target name packages in
       flat-named (λ field. flat_map (flat_map row) (groups_of (value_under field values)))
       (λ field. flat-named (flat_map row)
-      (λ group. flat-named row (λ a. cond-named (counts readings (applies_by own a)) (excludes_by environment.native name a)) group)
-      (groups_of (value_under field values))) negative_fields
+      (λ group. flat-named row (λ a. cond-named (counts readings (applies_by own a)) (excludes_by target name a)) group)
+      (groups_of (value_under field values))) fields
+
+  excluded-named : (values : ValueEntries ValueMeaning) → named (excluded_numbers readings strength environment packages values) ≡ true
+  excluded-named values = fields-named (environment_for (Packages strength) environment values) environment.native (word_under (codes "Package") values) values negative_fields
+
+  pub barred-listed : (values : ValueEntries ValueMeaning) (other : ℕ) → among other (build_excludes readings environment packages values) ≡ true → (1 ≤ other) × (other ≤ length packages)
+  barred-listed values other has =
+      within-names (length packages) other
+      (all-pass (names_one (length packages)) (build_excludes readings environment packages values) other has (fields-named environment environment.native [] values conflict_fields))
 
   duplicates-named : (number : ℕ) → named (later_duplicates environment.native packages number) ≡ true
   duplicates-named number = go (package_at number packages)

@@ -16,7 +16,7 @@ pub record IsShared (set : ℕ → Bool) (numbers : List ℕ) : Type 0 where
 itself : (k : ℕ) → eqb k k ≡ true
 itself k = grind arith
 
-shared : (set : ℕ → Bool) (numbers : List ℕ) → list_any set numbers ≡ true → IsShared set numbers
+pub shared : (set : ℕ → Bool) (numbers : List ℕ) → list_any set numbers ≡ true → IsShared set numbers
 shared set [] some = absurd (false≢true some)
 shared set (n ∷ numbers) some = elim (or_cases (set n) (list_any set numbers) some) [
   | inl first ↦ record { number = n; has = or_left (eqb n n) (among n numbers) (itself n); contains = first }
@@ -25,7 +25,7 @@ shared set (n ∷ numbers) some = elim (or_cases (set n) (list_any set numbers) 
       record { number = more.number; has = or_right (eqb more.number n) (among more.number numbers) more.has; contains = more.contains }
 ]
 
-passes : (test : ℕ → Bool) (numbers : List ℕ) (k : ℕ) → among k numbers ≡ true → test k ≡ true → list_any test numbers ≡ true
+pub passes : (test : ℕ → Bool) (numbers : List ℕ) (k : ℕ) → among k numbers ≡ true → test k ≡ true → list_any test numbers ≡ true
 passes test [] k has is = absurd (false≢true has)
 passes test (n ∷ numbers) k has is = elim (or_cases (eqb k n) (among k numbers) has) [
   | inl same ↦ or_left (test n) (list_any test numbers) (sym (ap test (eqb-true k n same)) ∙ is)

@@ -23,7 +23,7 @@ use Rattle.deb_relation.specs.Environments.{environment_of}
 use Rattle.deb_install.proofs.Appended.{numbers-grown}
 use Rattle.deb_install.proofs.ListedRows.{excludes_in, rows_in}
 
-numbers-rows : (all : List (List ℕ)) (numbers : List ℕ) (rows : List (List ℕ)) → AreNumbersOf all numbers rows → map (λ group. slice_index_or all group []) numbers ≡ rows
+pub numbers-rows : (all : List (List ℕ)) (numbers : List ℕ) (rows : List (List ℕ)) → AreNumbersOf all numbers rows → map (λ group. slice_index_or all group []) numbers ≡ rows
 numbers-rows all [] [] are = refl
 numbers-rows all [] (row ∷ rows) are = absurd are
 numbers-rows all (n ∷ numbers) [] are = absurd are

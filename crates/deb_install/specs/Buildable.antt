@@ -67,10 +67,10 @@ pub record HasBuildSet (count : ℕ) (needs : ℕ → List (List ℕ)) (excludes
   pub peace : list_any set excluded ≡ false
 
 -- with build-essential, and ee in a field, perhaps
-abbrev toolchain : List Listed
+abbrev pub toolchain : List Listed
 toolchain = of (codes "build-essential") ∷ []
 
-abbrev with_ee : List Listed
+abbrev pub with_ee : List Listed
 with_ee = of (codes "ee") ∷ toolchain
 
 worked-needs : (can_build Every for_amd64 [] [] ≡ false)

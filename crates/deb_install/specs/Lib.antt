@@ -12,3 +12,9 @@ pub mod Keeping
 pub mod Universes
 pub mod Answers
 pub mod Installing
+pub mod SourceKinds
+pub mod KeptSources
+pub mod ReadPackages
+pub mod SourceRows
+pub mod SourceAnswers
+pub mod BuildFiles

@@ -46,7 +46,7 @@ pub(crate) fn lines_of(
 }
 
 /// Returns the answer of the package with a number.
-fn answer_at(every: &[Verdict], one: &[Verdict], number: usize) -> Answer
+pub(crate) fn answer_at(every: &[Verdict], one: &[Verdict], number: usize) -> Answer
     ensures { result ≡ answer_at every.now one.now number }
 {
     answer_by(verdict_at(every, number), verdict_at(one, number))

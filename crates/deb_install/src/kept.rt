@@ -25,6 +25,13 @@ impl KeptMembers {
             members: Vec::new(alloc),
         }
     }
+
+    /// Returns what is kept of the members.
+    pub(crate) fn into_members(self) -> Vec<Kept>
+        ensures { result.items ≡ self.members.items }
+    {
+        self.members
+    }
 }
 
 impl Keeper for KeptMembers {

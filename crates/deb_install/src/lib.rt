@@ -17,15 +17,25 @@
 #![tactic(auto)]
 
 mod answer;
+mod builds;
 mod exclusions;
 mod groups;
 mod kept;
+mod kept_source;
 pub mod laws;
 mod needs;
+mod packages;
 mod readings;
+mod source_kind;
+mod source_lines;
+mod source_reading;
+mod source_rows;
 mod universe;
 mod verdicts;
 
 pub use answer::Answer;
+pub use builds::{BuildRequest, buildable};
+pub use packages::Packages;
 pub use readings::Readings;
+pub use source_kind::SourceKind;
 pub use verdicts::{InstallRequest, installable};

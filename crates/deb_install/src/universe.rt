@@ -1,6 +1,6 @@
 //! What the packages of an index need and exclude, by their numbers.
 
-ghost use Rattle.std.specs.Prelude.{◌≡◌, ◌++◌, List, [], ◌∷◌, get_or, IfOk, OnOk};
+ghost use Rattle.std.specs.Prelude.{◌≡◌, ◌++◌, List, [], ◌∷◌, get_or, IfOk, IfSome, OnOk};
 ghost use Rattle.deb_control.specs.Documents.{Meaning};
 ghost use Rattle.deb_control.specs.FieldWords.{value_under, word_under};
 ghost use Rattle.deb_control.specs.Pairs.{Pairwise};
@@ -20,13 +20,18 @@ ghost use Rattle.deb_unmet.specs.declared.asked.Asked.TheVariants.{Packages};
 ghost use Rattle.deb_unmet.specs.declared.asked.Strength.TheVariants as strengths;
 ghost use Rattle.deb_install.specs.Building.{AppendsRows};
 ghost use Rattle.deb_install.specs.Keeping.{HoldsValues};
+ghost use Rattle.deb_install.specs.KeptSources.{HoldsSource};
 ghost use Rattle.deb_install.specs.Rows.{excluded_by_fields, group_rows, later_duplicates, rows_of_fields};
-ghost use Rattle.deb_install.specs.Universes.{AppendsNeeds, AppendsPackage, IsUniverseOf, setting};
+ghost use Rattle.deb_install.specs.SourceRows.{IsUniverseWith};
+ghost use Rattle.deb_install.specs.Universes.{AppendsNeeds, AppendsPackage, AreUniverseRows, IsUniverseOf, setting};
+ghost use Rattle.deb_install.specs.declared.source_kind.SourceKind.{SourceKind};
 
 use crate::exclusions::{Excluding, Original, append_duplicates, append_exclusions};
 use crate::groups::Groups;
+use crate::kept_source::KeptSource;
 use crate::needs::{Needing, append_groups};
 use crate::readings::Readings;
+use crate::source_rows::append_sources;
 use deb_base::VersionText;
 use deb_health::Kept;
 use deb_index::Index;
@@ -52,16 +57,103 @@ pub(crate) struct Building {
     pub(crate) excludes: Rows,
 }
 
-/// Returns what the packages of an index, of which this is kept, need and exclude. The number 0 is
-/// no package.
+/// The rows of an index have at most so many numbers for each package, and so many more.
+const NUMBERS_EACH: usize = 256;
+
+const MORE_NUMBERS: usize = 4_194_304;
+
+impl Building {
+    /// Returns whether the rows have too many numbers for so many packages.
+    fn is_too_large(&self, packages: usize) -> bool {
+        let most = packages.saturating_mul(NUMBERS_EACH);
+        let needs = self.needs.size().saturating_add(self.groups.rows.size());
+        needs.saturating_add(self.excludes.size()) > most.saturating_add(MORE_NUMBERS)
+    }
+
+    /// Returns the universe of these rows.
+    fn into_universe(self) -> Universe
+        ensures needs { result.needs ≡ self.needs }
+        ensures groups { result.groups ≡ self.groups.rows }
+        ensures excludes { result.excludes ≡ self.excludes }
+    {
+        Universe {
+            needs: self.needs,
+            groups: self.groups.into_rows(),
+            excludes: self.excludes,
+        }
+    }
+}
+
+/// Returns what the packages of an index, of which this is kept, need and exclude; none if that
+/// takes too many numbers. The number 0 is no package.
 pub(crate) fn universe_of(
     alloc: Global,
     listing: &Listing<'_>,
     kept: &[Kept],
+) -> Result<Option<Universe>, AllocError>
+    ensures { (meaning : Meaning) → Pairwise HoldsValues meaning kept.now → IfOk result (λ found.
+        IfSome found (IsUniverseOf (setting listing.now.readings listing.now.strength
+        (environment_of listing.now.environment.now) (packages_of listing.now.index.now))
+        meaning)) }
+{
+    match rows_of(alloc, listing, kept)? {
+        Some(building) => Ok(Some(building.into_universe())),
+        None => Ok(None),
+    }
+}
+
+/// Returns the same, and then what source packages, of which this is kept, need and exclude.
+pub(crate) fn universe_with(
+    alloc: Global,
+    listing: &Listing<'_>,
+    kept: &[Kept],
+    sources: &[KeptSource],
+) -> Result<Option<Universe>, AllocError>
+    ensures { (kind : SourceKind) (meaning others : Meaning) → Pairwise HoldsValues meaning kept.now
+        → Pairwise (HoldsSource kind) others sources.now → IfOk result (λ found. IfSome found
+        (IsUniverseWith (setting listing.now.readings listing.now.strength
+        (environment_of listing.now.environment.now) (packages_of listing.now.index.now)) meaning
+        others)) }
+{
+    match rows_of(alloc, listing, kept)? {
+        Some(building) => Ok(Some(with_sources(alloc, building, listing, sources)?)),
+        None => Ok(None),
+    }
+}
+
+/// Returns the universe of these rows, and then those of the source packages of which this is kept.
+fn with_sources(
+    alloc: Global,
+    building: Building,
+    listing: &Listing<'_>,
+    sources: &[KeptSource],
 ) -> Result<Universe, AllocError>
+    ensures { (kind : SourceKind) (meaning others : Meaning)
+        → AreUniverseRows (setting listing.now.readings listing.now.strength
+        (environment_of listing.now.environment.now) (packages_of listing.now.index.now)) meaning
+        building.needs building.groups.rows building.excludes
+        → Pairwise (HoldsSource kind) others sources.now → IfOk result (IsUniverseWith
+        (setting listing.now.readings listing.now.strength
+        (environment_of listing.now.environment.now) (packages_of listing.now.index.now)) meaning
+        others) }
+{
+    let mut building = building;
+    append_sources(alloc, &mut building, listing, sources)?;
+    Ok(building.into_universe())
+}
+
+/// Returns the rows of the packages of an index, of which this is kept; none if they have too many
+/// numbers.
+fn rows_of(
+    alloc: Global,
+    listing: &Listing<'_>,
+    kept: &[Kept],
+) -> Result<Option<Building>, AllocError>
     ensures { (meaning : Meaning) → Pairwise HoldsValues meaning kept.now → IfOk result
-        (IsUniverseOf (setting listing.now.readings listing.now.strength
-        (environment_of listing.now.environment.now) (packages_of listing.now.index.now)) meaning) }
+        (λ found. IfSome found (λ building. AreUniverseRows
+        (setting listing.now.readings listing.now.strength
+        (environment_of listing.now.environment.now) (packages_of listing.now.index.now)) meaning
+        building.needs building.groups.rows building.excludes)) }
 {
     let mut building = Building {
         needs: Rows::new(alloc),
@@ -78,12 +170,11 @@ pub(crate) fn universe_of(
             count as u64 + 1,
             &kept[count],
         )?;
+        if building.is_too_large(kept.len()) {
+            return Ok(None);
+        }
     }
-    Ok(Universe {
-        needs: building.needs,
-        groups: building.groups.into_rows(),
-        excludes: building.excludes,
-    })
+    Ok(Some(building))
 }
 
 /// Appends the rows of the package with this number, of which this is kept.

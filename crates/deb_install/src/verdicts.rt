@@ -49,7 +49,9 @@ pub struct InstallRequest {
 ///
 /// - `uninstallable`: it can't be installed, however architecture lists are read.
 /// - `unsure`: it can be installed in one reading, and not in every one.
-/// - `undecided`: the budget was spent before the search found out.
+/// - `undecided`: the budget was spent before the search found out, or the packages that can meet
+///   the groups of the file, and those that packages exclude, are too many to be kept: more than
+///   256 for each package, and 4,194,304.
 ///
 /// The word is followed by the number, the name, the version and the architecture of the package.
 /// The number counts the packages from 1. The lines are in the order of the packages. A package
@@ -136,7 +138,8 @@ fn write_answers<W: Sink>(
     })
 }
 
-fn is_nothing(text: &[u8]) -> bool
+/// Returns whether a text is empty.
+pub(crate) fn is_nothing(text: &[u8]) -> bool
     ensures { result ≡ is_nothing text.now }
 {
     text.is_empty()
@@ -170,7 +173,8 @@ fn text_of(
     lines_of(alloc, index, &every, &one)
 }
 
-/// Returns a verdict for each package, by its number, in the readings of a listing.
+/// Returns a verdict for each package, by its number, in the readings of a listing; none if the
+/// universe would be too large.
 fn verdicts_of(
     alloc: Global,
     listing: &Listing<'_>,
@@ -183,8 +187,10 @@ fn verdicts_of(
         (environment_of listing.now.environment.now) (packages_of listing.now.index.now) meaning
         verdicts.items) }
 {
-    let universe = universe_of(alloc, listing, kept)?;
-    solve(alloc, &universe, budget)
+    match universe_of(alloc, listing, kept)? {
+        Some(universe) => solve(alloc, &universe, budget),
+        None => Ok(Vec::new(alloc)),
+    }
 }
 
 /// Returns such verdicts, if a package isn't installable by other ones; else none, and no search.
@@ -208,6 +214,6 @@ fn verdicts_if(
     }
 }
 
-fn is_uninstallable(verdict: &Verdict) -> bool {
+pub(crate) fn is_uninstallable(verdict: &Verdict) -> bool {
     *verdict == Verdict::Uninstallable
 }

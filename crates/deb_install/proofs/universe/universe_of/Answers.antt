@@ -1,20 +1,7 @@
-use Rattle.std.proofs.Common.{◌+◌, ◌++◌, ◌∷◌, [], refl, sym, ap, ◌∙◌, subst}
-use Rattle.deb_install.specs.Universes.{AreUniverseRows}
-use Rattle.deb_install.proofs.Universes.{all-held, first_rows, grown-rows, setting_of}
+use Rattle.deb_install.proofs.UniverseRows.{rows-moved}
+use Rattle.deb_install.proofs.Universes.{setting_of}
 use Rattle.deb_install.proofs.universe.universe_of.Goals as goal
 
-pub loop-count-init : goal.loop-count-init
-loop-count-init c = λ meaning holds.
-    first_rows (setting_of c.args.listing.now) c.push_row.new.self c.new-2.result.rows c.push_row-2.new.self
-    (c.in_ok-push_row.ensures.pushed ∙ ap (λ rows. rows ++ [] ∷ []) c.new.ensures) (c.in_ok-push_row-2.ensures.pushed ∙ ap (λ rows. rows ++ [] ∷ []) c.new-3.ensures)
-
-pub loop-count-preserved : goal.loop-count-preserved
-loop-count-preserved c = λ meaning holds.
-    grown-rows (setting_of c.args.listing.now) meaning c.args.kept.now c.loop-count.count (c.loop-count.count + 1) c.index-kept-count.result c.loop-count.building c.append_package.new.building c.loop-count-test.true c.index-kept-count.is refl holds c.in_ok-append_package.ensures (c.loop-count.invariant meaning holds)
-
-pub returns : goal.returns
-returns c = λ meaning holds.
-    let s = setting_of c.args.listing.now in
-    let building = c.loop-count.building in
-    subst (λ groups. AreUniverseRows s meaning building.needs groups building.excludes) (sym c.into_rows.ensures)
-    (subst (λ m. AreUniverseRows s m building.needs building.groups.rows building.excludes) (all-held meaning c.args.kept.now c.loop-count.count c.loop-count-test.false holds) (c.loop-count.invariant meaning holds))
+pub returns-in-Some : goal.returns-in-Some
+returns-in-Some c = λ meaning holds.
+    rows-moved (setting_of c.args.listing.now) meaning _ c.in-Some.building c.into_universe.ensures.needs c.into_universe.ensures.groups c.into_universe.ensures.excludes (rw c.in-Some.is at c.in_ok-building.ensures meaning holds)

@@ -5,7 +5,7 @@ use Rattle.deb_control.specs.Pairs.{Pairwise}
 use Rattle.deb_install.specs.Keeping.{HoldsValues}
 use Rattle.deb_install.specs.Universes.{AreUniverseRows}
 use Rattle.deb_install.proofs.Universes.{setting_of}
-use Rattle.deb_install.proofs.universe.universe_of.Given as goal
+use Rattle.deb_install.proofs.universe.rows_of.Given as goal
 
 abbrev pub invariant-loop-count : goal.invariant-loop-count
 invariant-loop-count l =
