@@ -7,7 +7,7 @@ use Rattle.std.specs.List.{slice_split}
 use Rattle.std.specs.Option.{option_map_or}
 use Rattle.clap.specs.Simple.{App, subcommand_of}
 use Rattle.clap.specs.Walk.{Row, Rule, Text, all_of, first_of}
-use Rattle.debctl_args.specs.Commands.{CommandRow, all_rule, arch_rule, budget_rule, code_rule, complete_rule, has_row, installed_rule, kind_rule, least_rule, list_rule, null_rule, optional_rule, paths_rule, profiles_rule, program_of, recommends_rule, relation_file_rule, relation_rule, required_rule, reverse_rule, spelled_rule, values_rule, version_rule, versions_rule, why_rule}
+use Rattle.debctl_args.specs.Commands.{CommandRow, all_rule, arch_rule, budget_rule, code_rule, complete_rule, has_row, index_rule, installed_rule, kind_rule, least_rule, list_rule, null_rule, optional_rule, paths_rule, profiles_rule, program_of, recommends_rule, relation_file_rule, relation_rule, required_rule, reverse_rule, spelled_rule, values_rule, version_rule, versions_rule, why_rule}
 use Rattle.deb_base.specs.Codes.{name_of, number_of}
 use Rattle.deb_base.specs.declared.code.Code.{Code}
 use Rattle.deb_base.specs.declared.code.Code.TheVariants as code
@@ -40,6 +40,8 @@ use Rattle.debctl_args.specs.declared.jobs.Members.{Members}
 use Rattle.debctl_args.specs.declared.jobs.Members.TheVariants as members
 use Rattle.debctl_args.specs.declared.jobs.Reads.{Reads}
 use Rattle.debctl_args.specs.declared.jobs.Reads.TheVariants.{Nothing, OneFile, Paths}
+use Rattle.debctl_args.specs.declared.jobs.SourceKind.{SourceKind}
+use Rattle.debctl_args.specs.declared.jobs.SourceKind.TheVariants as sources
 use Rattle.debctl_args.specs.declared.jobs.Strength.{Strength}
 use Rattle.debctl_args.specs.declared.jobs.Strength.TheVariants.{Depends, Recommends}
 use Rattle.debctl_args.specs.declared.jobs.Task.{Task}
@@ -93,9 +95,11 @@ commands =
     -- `healthy --arch A [--recommends] [--installed] [PATH]`
     ∷ row (codes "healthy") (arch_rule ∷ recommends_rule ∷ installed_rule
     ∷ optional_rule (codes "path") ∷ [])
-    -- `installable --arch A [--recommends] [--installed] [--budget N] [PATH]`
-    ∷ row (codes "installable") (arch_rule ∷ recommends_rule ∷ installed_rule ∷ budget_rule
-    ∷ optional_rule (codes "path") ∷ [])
+    -- `installable --arch A [--recommends] [--installed] [--budget N] [PATH]` and
+    -- `installable --arch A [--profiles P,P] --kind K --index INDEX [--installed] [--budget N]
+    -- PATH`
+    ∷ row (codes "installable") (arch_rule ∷ profiles_rule ∷ kind_rule ∷ index_rule
+    ∷ recommends_rule ∷ installed_rule ∷ budget_rule ∷ optional_rule (codes "path") ∷ [])
     -- `help [COMMAND]`
     ∷ row (codes "help") (optional_rule (codes "command") ∷ []) ∷ []
 
@@ -252,6 +256,7 @@ pub data Wanted : Type 0 where
   finds_unmet : Text → List Text → Members → Dependents → VersionText → Wanted
   checks_health : Text → Members → Strength → Wanted
   finds_uninstallable : Text → Members → Strength → ℕ → Wanted
+  finds_unbuildable : Text → List Text → Members → SourceKind → ℕ → Wanted
   explains : Doc → Wanted
   explains_all : Doc → Wanted
   explains_rule : Code → Wanted
@@ -287,6 +292,8 @@ wanted_of (job.Unmet arch profiles members dependents versions) =
 wanted_of (job.Healthy arch members strength) = checks_health (string_bytes arch) members strength
 wanted_of (job.Installable arch members strength budget) =
     finds_uninstallable (string_bytes arch) members strength budget
+wanted_of (job.Buildable arch profiles members kind budget) =
+    finds_unbuildable (string_bytes arch) (map string_bytes profiles.items) members kind budget
 
 -- the files that a job reads
 abbrev pub reads_of : Job → Reads
@@ -305,6 +312,7 @@ reads_of (job.QueryFrom arch profiles members detail versions) = Paths
 reads_of (job.Unmet arch profiles members dependents versions) = Paths
 reads_of (job.Healthy arch members strength) = OneFile
 reads_of (job.Installable arch members strength budget) = OneFile
+reads_of (job.Buildable arch profiles members kind budget) = Paths
 
 -- the kind that is named for the files of a job whose refusals are lines on standard error
 abbrev pub document_of : Job → Option Doc
@@ -362,6 +370,11 @@ pub data Asked : Type 0 where
   no_status : Asked
   no_recommends : Asked
   kind_of_path : Asked
+  other_kind : Asked
+  index_of_packages : Asked
+  profiles_of_packages : Asked
+  sources_recommend : Asked
+  index_and_path : Asked
   no_number : Asked
   no_budget : Asked
   first_or_whole : Asked
@@ -617,7 +630,7 @@ query_asked rows =
     option_map_or (query_of_file rows) (first_of (codes "relation-from") rows)
     (option_map_or (query_of_word rows) (first_of (codes "relation") rows) relation_or_file)
 
--- the file beside the index of `unmet` is standard input: not where there is none
+-- the file beside the index is standard input: not where there is none
 abbrev pub has_input_beside : List Row → Bool
 has_input_beside rows = option_map_or is_standard_input (first_of (codes "path") rows) false
 
@@ -679,9 +692,9 @@ healthy_asked rows =
       second = None;
     })
 
--- `installable`, by its architecture, the fields that it tries and its budget
-abbrev pub installable_asked : List Row → Asked
-installable_asked rows = option_map_or
+-- `installable` of packages, by its architecture, the fields that it tries and its budget
+abbrev pub packages_to_install : List Row → Asked
+packages_to_install rows = option_map_or
     (λ budget. asks (record {
       wanted = finds_uninstallable (word_in (codes "arch") rows) (members_in rows)
           (strength_in rows) budget;
@@ -689,6 +702,50 @@ installable_asked rows = option_map_or
       second = None;
     }))
     (budget_asked (first_of (codes "budget") rows)) no_budget
+
+-- the same: the packages are those of its file, and no field of them has profiles
+abbrev pub installable_of_packages : List Row → Asked
+installable_of_packages rows =
+    if is_some (first_of (codes "index") rows) then index_of_packages
+    else if is_some (first_of (codes "profiles") rows) then profiles_of_packages
+    else packages_to_install rows
+
+-- `installable` of the source packages of a file, with the packages of an index: not both are
+-- standard input
+abbrev pub buildable_of_files : List Row → SourceKind → Asked
+buildable_of_files rows kind =
+    if is_standard_input (word_in (codes "index") rows) && has_input_beside rows
+    then standard_input_twice
+    else option_map_or
+    (λ budget. asks (record {
+      wanted = finds_unbuildable (word_in (codes "arch") rows)
+          (profiles_asked (first_of (codes "profiles") rows)) (members_in rows) kind budget;
+      first = Some (word_in (codes "index") rows);
+      second = first_of (codes "path") rows;
+    }))
+    (budget_asked (first_of (codes "budget") rows)) no_budget
+
+-- the same: source packages have no Recommends, and are in another file than the index
+abbrev pub buildable_of_kind : List Row → SourceKind → Asked
+buildable_of_kind rows kind =
+    if flag_asked (first_of (codes "recommends") rows) then sources_recommend
+    else if not (is_some (first_of (codes "index") rows))
+    || not (is_some (first_of (codes "path") rows)) then index_and_path
+    else buildable_of_files rows kind
+
+-- `installable` of files of this kind
+abbrev pub installable_of_kind : List Row → Doc → Asked
+installable_of_kind rows Packages = installable_of_packages rows
+installable_of_kind rows Sources = buildable_of_kind rows sources.Sources
+installable_of_kind rows Source = buildable_of_kind rows sources.Source
+installable_of_kind rows Binary = other_kind
+installable_of_kind rows Status = other_kind
+installable_of_kind rows Any = other_kind
+
+-- `installable`
+abbrev pub installable_asked : List Row → Asked
+installable_asked rows = option_map_or (installable_of_kind rows)
+    (kind_asked (first_of (codes "kind") rows)) unknown_kind
 
 abbrev pub help_asked : Option Text → Asked
 help_asked None = asks_help

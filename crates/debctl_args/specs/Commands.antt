@@ -77,6 +77,10 @@ installed_rule =
 abbrev pub budget_rule : Rule
 budget_rule = record (new_rule (codes "budget")) { long = Some (codes "budget"); value_names = 1 }
 
+-- `--index INDEX`
+abbrev pub index_rule : Rule
+index_rule = record (new_rule (codes "index")) { long = Some (codes "index"); value_names = 1 }
+
 -- `--relation-from PATH`
 abbrev pub relation_file_rule : Rule
 relation_file_rule =

@@ -6,7 +6,7 @@ use Rattle.clap.specs.Faults.{fault_of}
 use Rattle.clap.specs.Takes.{takes}
 use Rattle.clap.specs.Walk.{Text}
 use Rattle.clap.specs.declared.error.kind.ErrorKind.TheVariants as kind
-use Rattle.debctl_args.specs.Asked.{asked_of, asks, asks_help, budget_named, debctl_app, finds_uninstallable, no_budget, Asked}
+use Rattle.debctl_args.specs.Asked.{asked_of, asks, asks_help, budget_named, debctl_app, finds_uninstallable, kind_asked, no_budget, Asked}
 use Rattle.debctl_args.specs.declared.jobs.Members.TheVariants as members
 use Rattle.debctl_args.specs.declared.jobs.Strength.{Strength}
 use Rattle.debctl_args.specs.declared.jobs.Strength.TheVariants.{Depends, Recommends}
@@ -30,7 +30,7 @@ files_of_packages : map
     ([] ∷ (codes "x" ∷ []) ∷ (codes "-" ∷ []) ∷ [])
     ≡ asks_installable Depends 100000 None ∷ asks_installable Depends 100000 (Some (codes "x"))
     ∷ asks_installable Depends 100000 (Some (codes "-")) ∷ []
-unfolding clap_on_literals
+unfolding clap_on_literals kind_asked
 files_of_packages = refl
 
 -- in any order
@@ -38,7 +38,7 @@ installable_with_options : map (λ words. asked_of (installable_line words))
     ((codes "--arch=amd64" ∷ codes "--recommends" ∷ codes "--budget" ∷ codes "20" ∷ [])
     ∷ (codes "x" ∷ codes "--budget=1" ∷ codes "--arch" ∷ codes "amd64" ∷ []) ∷ [])
     ≡ asks_installable Recommends 20 None ∷ asks_installable Depends 1 (Some (codes "x")) ∷ []
-unfolding clap_on_literals digits
+unfolding clap_on_literals kind_asked digits
 installable_with_options = refl
 
 installable_of_installed_packages : asked_of
@@ -48,7 +48,7 @@ installable_of_installed_packages : asked_of
       first = Some (codes "x");
       second = None;
     }))
-unfolding clap_on_literals
+unfolding clap_on_literals kind_asked
 installable_of_installed_packages = refl
 
 -- any text may be the architecture, and after `--` any may be the path
@@ -59,12 +59,12 @@ unusual_words : asked_of
       first = Some (codes "--budget=x");
       second = None;
     }))
-unfolding clap_on_literals
+unfolding clap_on_literals kind_asked
 unusual_words = refl
 
 help_on_installable : asked_of (codes "debctl" ∷ codes "help" ∷ codes "installable" ∷ [])
     ≡ Some asks_help
-unfolding clap_on_literals
+unfolding clap_on_literals kind_asked
 help_on_installable = refl
 
 -- ---- budgets
@@ -87,7 +87,7 @@ refused_budgets : map
     (λ word. asked_of (installable_line (codes "--arch=amd64" ∷ word ∷ codes "x" ∷ [])))
     (codes "--budget=0" ∷ codes "--budget=1000000001" ∷ codes "--budget=x" ∷ codes "--budget=" ∷ [])
     ≡ Some no_budget ∷ Some no_budget ∷ Some no_budget ∷ Some no_budget ∷ []
-unfolding clap_on_literals digits
+unfolding clap_on_literals kind_asked digits
 refused_budgets = refl
 
 -- ---- words that `clap` takes, and others
@@ -109,12 +109,11 @@ no_architecture : map (λ words. fault_of debctl_app (installable_line words))
 unfolding clap_on_literals
 no_architecture = refl
 
--- options of `unmet` that `installable` doesn't have, and one that no command has
+-- options of other commands, and one that no command has
 unknown_options : map
     (λ word. fault_of debctl_app (installable_line (codes "--arch=amd64" ∷ word ∷ [])))
-    (codes "--kind=binary" ∷ codes "--profiles=a" ∷ codes "--spelled" ∷ codes "--frob" ∷ [])
-    ≡ (kind.UnknownArgument ∷ []) ∷ (kind.UnknownArgument ∷ []) ∷ (kind.UnknownArgument ∷ [])
-    ∷ (kind.UnknownArgument ∷ []) ∷ []
+    (codes "--why" ∷ codes "--spelled" ∷ codes "--frob" ∷ [])
+    ≡ (kind.UnknownArgument ∷ []) ∷ (kind.UnknownArgument ∷ []) ∷ (kind.UnknownArgument ∷ []) ∷ []
 unfolding clap_on_literals
 unknown_options = refl
 

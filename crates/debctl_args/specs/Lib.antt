@@ -1,5 +1,6 @@
 pub mod Asked
 pub mod AskedCases
+pub mod BuildableCases
 pub mod Commands
 pub mod ExplainAuditCases
 pub mod Fitting

@@ -2,7 +2,7 @@
 
 ghost use Rattle.std.specs.Prelude.{◌≡◌, [], Some, None, map, true, string_bytes, IfOk, IfErr, option_copied, option_map};
 ghost use Rattle.clap.specs.Words.{fault_of, found_of, has_subcommand, kind_of, rows_of, subcommand_rows_of, takes};
-ghost use Rattle.debctl_args.specs.Asked.{asked_in, asked_of, asks, audit_asked, canon_version_asked, check_asked, checks_to, debctl_app, demands_asked, compare_asked, diff_asked, diff_of_files, explain_asked, file_explained, healthy_asked, help_asked, installable_asked, is_demanding, query_asked, query_of_file, query_of_word, relation_asked, request_of, rule_asked, same_asked, sort_asked, text_asked, unmet_asked, unmet_of_files, unmet_of_path, unmet_of_sources, version_asked, version_key_asked, wanted_of, word_in, Request};
+ghost use Rattle.debctl_args.specs.Asked.{asked_in, asked_of, asks, audit_asked, canon_version_asked, check_asked, checks_to, debctl_app, demands_asked, compare_asked, diff_asked, diff_of_files, explain_asked, file_explained, healthy_asked, help_asked, buildable_of_files, buildable_of_kind, installable_asked, installable_of_packages, packages_to_install, is_demanding, query_asked, query_of_file, query_of_word, relation_asked, request_of, rule_asked, same_asked, sort_asked, text_asked, unmet_asked, unmet_of_files, unmet_of_path, unmet_of_sources, version_asked, version_key_asked, wanted_of, word_in, Request};
 ghost use Rattle.debctl_args.specs.Fitting.{Answers, AnswersError, AnswersMet, IsHelp, MeansError, FitsKind, UsesText};
 
 use crate::code_argument::code_named;
@@ -13,7 +13,9 @@ use crate::found_arguments::{
     owned_texts, packages_in, path_in, profiles_in, strength_in, version_text_in, versions_in,
     word_in,
 };
-use crate::jobs::{Audit, Call, Demands, Dependents, DiffKind, Explain, Extent, Files, Job, Task};
+use crate::jobs::{
+    Audit, Call, Demands, Dependents, DiffKind, Explain, Extent, Files, Job, SourceKind, Task,
+};
 use crate::operator_argument::operator_named;
 use crate::rows::{Row, task_by};
 use clap::error::{Error, ErrorKind};
@@ -48,6 +50,20 @@ const NO_RECOMMENDS: &str = "usage: unmet takes --recommends only for binary pac
 /// The text for an `unmet` of another kind of file without that file.
 const KIND_OF_PATH: &str = "usage: unmet takes another --kind only with a second path";
 
+/// The text for an `installable` of other files than packages and source packages.
+const OTHER_KIND: &str = "usage: installable takes --kind packages, sources or source";
+
+/// The texts for an index and for profiles with packages, which are asked of their own file.
+const INDEX_OF_PACKAGES: &str = "usage: installable takes --index only for source packages";
+
+const PROFILES_OF_PACKAGES: &str = "usage: installable takes --profiles only for source packages";
+
+/// The text for an `installable --recommends` of source packages.
+const SOURCES_RECOMMEND: &str = "usage: installable takes --recommends only for binary packages";
+
+/// The text for source packages without an index or a path.
+const INDEX_AND_PATH: &str = "usage: installable takes source packages only with --index and PATH";
+
 /// Why there is no task. A text has no newline at its end.
 #[derive(Debug, PartialEq, Eq, Drop, thiserror::Error)]
 pub enum UsageFault {
@@ -78,12 +94,12 @@ impl From<AllocError> for UsageFault {
 /// names of these. `help [COMMAND]`, `help kinds`, `--help` and `--version` ask for help, and every
 /// other command for a task.
 ///
-/// The profiles of `query` and `unmet` are the texts between the commas of P,P; without the option
-/// there are none. A version, an architecture, a profile or a relation may be any text here: the
-/// job checks it. The path `-` is returned as it is; the program reads standard input for it. After
-/// `--code` N is the number of an error code, from 1 to 23, in decimal, or its name. After
-/// `--least` it is a number below 2^64, in decimal and without zeros before it; after `--budget`
-/// such a number from 1 to 1,000,000,000. Without the option the budget is 100,000.
+/// The profiles of `query`, `unmet` and `installable` are the texts between the commas of P,P;
+/// without the option there are none. A version, an architecture, a profile or a relation may be
+/// any text here: the job checks it. The path `-` is returned as it is; the program reads standard
+/// input for it. After `--code` N is the number of an error code, from 1 to 23, in decimal, or its
+/// name. After `--least` it is a number below 2^64, in decimal and without zeros before it; after
+/// `--budget` such a number from 1 to 1,000,000,000. Without the option the budget is 100,000.
 ///
 /// # Errors
 ///
@@ -91,17 +107,22 @@ impl From<AllocError> for UsageFault {
 ///   `usage: unknown operator`, `usage: unknown command` or `usage: unknown code` for a K, an OP, a
 ///   COMMAND or an N that isn't known; `usage: standard input twice` for `same - -`, for `diff - -`
 ///   of a kind other than `any`, for an audit with two paths `-`, for a query whose relation and
-///   index are both standard input, and for an `unmet` whose two files are; `usage:
-///   explain takes one file, code, relation or version` for an `explain` with two of these, where a
-///   kind, `--all` or a path names a file; `usage: audit takes paths, or --files0-from` for an
-///   audit with neither paths nor a list, or with both; `usage: query takes a relation, or
+///   index are both standard input, and for an `unmet` or `installable` whose two files are;
+///   `usage: explain takes one file, code, relation or version` for an `explain` with two of these,
+///   where a kind, `--all` or a path names a file; `usage: audit takes paths, or --files0-from` for
+///   an audit with neither paths nor a list, or with both; `usage: query takes a relation, or
 ///   --relation-from` for a query with neither or with both; `usage: diff takes no --kind any`;
 ///   `usage: unmet takes no --kind any`; `usage: unmet takes no --kind status`; `usage: unmet takes
 ///   --recommends only for binary packages` for the kinds `sources` and `source` with
 ///   `--recommends`; `usage: unmet takes another --kind only with a second path` for one of the
-///   kinds `binary`, `sources` and `source` without PATH; `usage: --least takes a number` and
-///   `usage: --budget takes a number from 1 to 1000000000` for another N; `usage: --all takes
-///   neither --complete nor --least` for either with `--all`; otherwise that of `clap`.
+///   kinds `binary`, `sources` and `source` without PATH; `usage: installable takes --kind
+///   packages, sources or source` for another kind that is known; `usage: installable takes --index
+///   only for source packages` and `usage: installable takes --profiles only for source packages`
+///   for these options with packages; `usage: installable takes --recommends only for binary
+///   packages` for that one with source packages; `usage: installable takes source packages only
+///   with --index and PATH` if one of both is missing; `usage: --least takes a number` and `usage:
+///   --budget takes a number from 1 to 1000000000` for another N; `usage: --all takes neither
+///   --complete nor --least` for either with `--all`; otherwise that of `clap`.
 /// - `UsageFault::Help`: the arguments ask for help or for the version.
 /// - `UsageFault::Memory`: a growth of memory was refused.
 pub fn job_of(alloc: Global, words: &[String]) -> Result<Task, UsageFault>
@@ -552,6 +573,31 @@ pub(crate) fn healthy_task(alloc: Global, found: &ArgMatches<'_>) -> Result<Task
 pub(crate) fn installable_task(alloc: Global, found: &ArgMatches<'_>) -> Result<Task, UsageFault>
     ensures { Answers (installable_asked (rows_of (found_of found.now))) result }
 {
+    match kind_in(alloc, found)? {
+        Doc::Packages => installable_of_packages(alloc, found),
+        Doc::Sources => buildable_of_kind(alloc, found, SourceKind::Sources),
+        Doc::Source => buildable_of_kind(alloc, found, SourceKind::Source),
+        Doc::Binary | Doc::Status | Doc::Any => Err(usage(alloc, OTHER_KIND)),
+    }
+}
+
+/// `installable` of packages, which takes neither an index nor profiles.
+fn installable_of_packages(alloc: Global, found: &ArgMatches<'_>) -> Result<Task, UsageFault>
+    ensures { Answers (installable_of_packages (rows_of (found_of found.now))) result }
+{
+    if given(found, "index").is_some() {
+        return Err(usage(alloc, INDEX_OF_PACKAGES));
+    }
+    if given(found, "profiles").is_some() {
+        return Err(usage(alloc, PROFILES_OF_PACKAGES));
+    }
+    packages_to_install(alloc, found)
+}
+
+/// `installable` of packages, without arguments that are only for source packages.
+fn packages_to_install(alloc: Global, found: &ArgMatches<'_>) -> Result<Task, UsageFault>
+    ensures { Answers (packages_to_install (rows_of (found_of found.now))) result }
+{
     let budget = budget_in(alloc, found)?;
     let arch = String::from_str(alloc, word_in(found, "arch"))?;
     let first = path_in(alloc, found)?;
@@ -564,6 +610,53 @@ pub(crate) fn installable_task(alloc: Global, found: &ArgMatches<'_>) -> Result<
         },
         first,
         second: None,
+    }))
+}
+
+/// `installable` of source packages, which have no Recommends and aren't in the index.
+fn buildable_of_kind(
+    alloc: Global,
+    found: &ArgMatches<'_>,
+    sources: SourceKind,
+) -> Result<Task, UsageFault>
+    ensures { Answers (buildable_of_kind (rows_of (found_of found.now)) sources) result }
+{
+    if flag_in(found, "recommends") {
+        return Err(usage(alloc, SOURCES_RECOMMEND));
+    }
+    if given(found, "index").is_none() || given(found, "path").is_none() {
+        return Err(usage(alloc, INDEX_AND_PATH));
+    }
+    buildable_of_files(alloc, found, sources)
+}
+
+/// `installable` of the source packages of a file.
+fn buildable_of_files(
+    alloc: Global,
+    found: &ArgMatches<'_>,
+    sources: SourceKind,
+) -> Result<Task, UsageFault>
+    ensures { Answers (buildable_of_files (rows_of (found_of found.now)) sources) result }
+{
+    let index = word_in(found, "index");
+    if index == "-" && has_input_beside(found) {
+        return Err(usage(alloc, "usage: standard input twice"));
+    }
+    let budget = budget_in(alloc, found)?;
+    let arch = String::from_str(alloc, word_in(found, "arch"))?;
+    let profiles = profiles_in(alloc, found)?;
+    let first = String::from_str(alloc, index)?;
+    let second = path_in(alloc, found)?;
+    Ok(Task::Run(Call {
+        job: Job::Buildable {
+            arch,
+            profiles,
+            members: members_in(found),
+            sources,
+            budget,
+        },
+        first: Some(first),
+        second,
     }))
 }
 

@@ -18,13 +18,13 @@ Exit statuses:
   0  success, or the answer is yes
   1  the answer is no; for `diff`: the files differ; for `query`: a group is unmet;
      for `unmet`: a group is `unmet` or `unsure`; for `healthy`: the set isn't healthy;
-     for `installable`: a package may not be installable
+     for `installable`: a package may not be installable, or a source not built
   2  a file, a version, a relation, an architecture or a profile is refused:
      standard error has `line N: CODE NAME`. Line 0 means a command-line
-     argument. `same`, `diff` and `unmet` write `first: ` or `second: ` before
-     the line of a file. `explain`, `audit` and `check --all` report errors on
-     standard output. A file without what `--complete` or `--least` demands is
-     refused with a line `incomplete: `
+     argument. `same`, `diff`, `unmet` and `installable` of sources write
+     `first: ` or `second: ` before the line of a file. `explain`, `audit` and
+     `check --all` report errors on standard output. A file without what
+     `--complete` or `--least` demands is refused with a line `incomplete: `
   3  wrong arguments, out of memory, or a failed read or write
 
 Put `--` before a version or a path that begins with a hyphen:

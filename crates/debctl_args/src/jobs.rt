@@ -110,6 +110,17 @@ pub enum Job {
         strength: Strength,
         budget: u32,
     },
+    /// `installable --kind sources` or `--kind source`: find the source packages of a file that
+    /// can't be built, for a target architecture and the active build profiles. The index is the
+    /// first file, and the file of sources is the second. The search for one of them takes at most
+    /// `budget` steps, from 1 to 1,000,000,000.
+    Buildable {
+        arch: String,
+        profiles: Vec<String>,
+        members: Members,
+        sources: SourceKind,
+        budget: u32,
+    },
 }
 
 /// The files that a job reads.
@@ -133,7 +144,7 @@ impl Job {
             Job::CheckWhole { .. } | Job::Sort { .. } | Job::Query { .. } => Reads::OneFile,
             Job::Healthy { .. } | Job::Installable { .. } => Reads::OneFile,
             Job::Same(_) | Job::Diff { .. } => Reads::Paths,
-            Job::QueryFrom { .. } | Job::Unmet { .. } => Reads::Paths,
+            Job::QueryFrom { .. } | Job::Unmet { .. } | Job::Buildable { .. } => Reads::Paths,
             Job::Compare(..) | Job::CanonVersion(_) | Job::VersionKey(_) => Reads::Nothing,
         }
     }
@@ -184,7 +195,7 @@ pub enum DiffDetail {
     Values,
 }
 
-/// The packages of the index of `query` and `unmet`, and of the file of `healthy` and
+/// The packages of the index of `query` and `unmet`, and of the file or the index of `healthy` and
 /// `installable`.
 #[derive(Clone, Copy, Debug, PartialEq, Eq)]
 pub enum Members {
@@ -227,11 +238,21 @@ pub enum Strength {
     Recommends,
 }
 
+/// The kind of the file whose source packages `installable` tries.
+#[derive(Clone, Copy, Debug, PartialEq, Eq)]
+pub enum SourceKind {
+    /// An index of source packages.
+    Sources,
+    /// The description of a source package.
+    Source,
+}
+
 /// A command and the paths of the files that it reads.
 ///
-/// If `check`, `normalise`, `sort`, `query`, `healthy` or `installable` has no path, the file is
-/// standard input. `same`, `diff`, `query --relation-from` and `unmet` have both paths, except for
-/// an `unmet` of the index itself, and no other job has a second one.
+/// If `check`, `normalise`, `sort`, `query`, `healthy` or `installable` of packages has no path,
+/// the file is standard input. `same`, `diff`, `query --relation-from`, `unmet` and `installable`
+/// of source packages have both paths, except for an `unmet` of the index itself, and no other job
+/// has a second one.
 #[derive(Debug, PartialEq, Eq, Drop)]
 pub struct Call {
     pub job: Job,

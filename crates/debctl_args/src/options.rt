@@ -58,6 +58,15 @@ pub(crate) const UNMET_KIND: Argument = Argument {
     help: Some(UNMET_KIND_HELP),
 };
 
+/// `--kind K` of `installable`
+pub(crate) const INSTALLABLE_KIND: Argument = Argument {
+    id: "kind",
+    short: Some('k'),
+    form: Form::Value,
+    shown: "K",
+    help: Some("The kind of PATH: packages (the default), sources or source"),
+};
+
 /// `--all` or `-a`
 pub(crate) const ALL: Argument = Argument {
     id: "all",
@@ -209,6 +218,15 @@ pub(crate) const BUDGET: Argument = Argument {
     form: Form::Value,
     shown: "N",
     help: Some("Search at most N steps for each package; 100000 if the option is missing"),
+};
+
+/// `--index INDEX`
+pub(crate) const INDEX_FILE: Argument = Argument {
+    id: "index",
+    short: None,
+    form: Form::Value,
+    shown: "INDEX",
+    help: Some("The index with which source packages are built; `-` is standard input"),
 };
 
 /// `--relation-from PATH`

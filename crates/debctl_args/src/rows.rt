@@ -15,9 +15,9 @@ use crate::found_arguments::{given, kind_in, path_in};
 use crate::jobs::{Call, Job, Task};
 use crate::options::{
     ALL, ARCH, Argument, BUDGET, CODE, COMMAND, COMPLETE, DEPENDENTS, DIFF_KIND, FIRST, INDEX,
-    INSTALLED, KIND, LEAST, LEFT, LIST, NEW, NULL, OLD, OPERATOR, PATH, PATHS, PROFILES, QUERIED,
-    RECOMMENDS, RELATION, RELATION_FILE, RELATION_TEXT, REVERSE, RIGHT, SECOND, SPELLED,
-    UNMET_KIND, VALUES, VERSION, VERSION_TEXT, VERSIONS, WHY,
+    INDEX_FILE, INSTALLABLE_KIND, INSTALLED, KIND, LEAST, LEFT, LIST, NEW, NULL, OLD, OPERATOR,
+    PATH, PATHS, PROFILES, QUERIED, RECOMMENDS, RELATION, RELATION_FILE, RELATION_TEXT, REVERSE,
+    RIGHT, SECOND, SPELLED, UNMET_KIND, VALUES, VERSION, VERSION_TEXT, VERSIONS, WHY,
 };
 use clap::ArgMatches;
 use std::alloc::Global;
@@ -111,8 +111,17 @@ static COMMANDS: [Row; 15] = [
     },
     Row {
         name: "installable",
-        about: "Finds the packages of an index that can't be installed",
-        takes: &[ARCH, RECOMMENDS, INSTALLED, BUDGET, PATH],
+        about: "Finds the packages that can't be installed, or the sources that can't be built",
+        takes: &[
+            ARCH,
+            PROFILES,
+            INSTALLABLE_KIND,
+            INDEX_FILE,
+            RECOMMENDS,
+            INSTALLED,
+            BUDGET,
+            PATH,
+        ],
     },
     Row {
         name: "help",
@@ -618,7 +627,7 @@ Prints one line for each package of a file that can't be installed, in file orde
   unsure N P V A
   undecided N P V A
 The package is printed as its number, from 1, its name, canonical version and
-architecture. A package without a line is installable.
+architecture. A package without a line is installable. `--kind packages` is the default.
 
 A package is installable if it is in a healthy set of packages of the file: in one for
 which `debctl healthy` prints nothing. With `--recommends` a set has to meet the groups
@@ -638,13 +647,23 @@ at most N, and 100 for each package, and as many again to tell `uninstallable` f
 With `--installed` the file is a status file of dpkg, and its packages are the installed
 ones. Their numbers count them alone.
 
-Nothing is printed before the whole file has been read.
+With `--kind sources` or `--kind source` the lines are those of the source packages of
+PATH that can't be built with the packages of INDEX. A is `source`, and N counts the
+source packages. One can be built if a healthy set of packages of INDEX
+- has build-essential, and what its Build-Depends, Build-Depends-Arch and
+  Build-Depends-Indep need for A and the profiles;
+- has no package that its Build-Conflicts, Build-Conflicts-Arch or
+  Build-Conflicts-Indep excludes.
+Each source package is asked by itself. `--installed` makes INDEX a status file.
+
+Nothing is printed before all files have been read.
 
 Exit statuses:
-  0  nothing is printed: each package is installable
+  0  nothing is printed: each package can be installed, or each source package built
   1  a line is printed
-  2  the architecture or the file is refused: standard error has
-     `line 0: 23 BadEnvironment` or `line N: CODE NAME`, and nothing is printed
+  2  the architecture, a profile or a file is refused: standard error has
+     `line 0: 23 BadEnvironment` or `line N: CODE NAME`, and nothing is printed. With
+     source packages `first: ` is before that line for INDEX, and `second: ` for PATH
   3  wrong arguments, out of memory, or a failed read or write
 
 Example:
@@ -653,4 +672,12 @@ Example:
   $ printf '\\nPackage: cc\\nVersion: 2\\nArchitecture: amd64\\n' >> index
   $ debctl installable --arch amd64 index; echo $?
   uninstallable 1 aa 1 all
+  1
+
+Which source packages can't be built?
+  $ printf '\\nPackage: build-essential\\nVersion: 1\\nArchitecture: amd64\\n' >> index
+  $ printf 'Package: ss\\nVersion: 2\\nBuild-Depends: bb, cc\\n' > sources
+  $ printf '\\nPackage: tt\\nVersion: 2\\nBuild-Depends: bb | cc\\n' >> sources
+  $ debctl installable --arch amd64 --kind sources --index index sources; echo $?
+  uninstallable 1 ss 2 source
   1";

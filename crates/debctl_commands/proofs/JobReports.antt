@@ -5,13 +5,14 @@ use Rattle.std.specs.Prelude.{IsFalse, IsTrue}
 use Rattle.deb_base.specs.declared.version_text.VersionText.{VersionText}
 use Rattle.deb_index.specs.Questions.{Question, question}
 use Rattle.debctl_commands.specs.JobDevices.{ReaderOfJob, WriterOfJob}
+use Rattle.debctl_commands.specs.BuildJob.{AreRefusedSources, SourceWords, build_promise, can_be_asked}
 use Rattle.debctl_commands.specs.DiffJob.{FindsChanges, form_asked}
 use Rattle.debctl_commands.specs.Promises.{Ends, plain, sided, yes_or_no}
 use Rattle.debctl_commands.specs.QueryFrom.{AreRefusedFrom, from_promise}
 use Rattle.deb_index.specs.declared.members.Members.{Members as IndexMembers}
 use Rattle.debctl_args.specs.declared.jobs.Members.{Members}
 use Rattle.debctl_commands.specs.QueryJob.{AreRefused, QueriesFile, index_members, query_options}
-use Rattle.debctl_commands.specs.Running.{IfRefusedRelation, IfRefusedWords, IfSecondUnread, Reported, asked, asked_of_file, of_file, words_of_unmet}
+use Rattle.debctl_commands.specs.Running.{IfRefusedRelation, IfRefusedWords, IfSecondUnread, Reported, asked, asked_of_file, of_file, words_of_build, words_of_unmet}
 use Rattle.debctl_commands.specs.UnmetJob.{AreRefusedBefore, Words, has_environment, is_index, unmet_promise, words}
 use Rattle.debctl_commands.specs.declared.diff_job.DiffOptions.{DiffOptions}
 use Rattle.debctl_commands.specs.declared.query_job.QueryOptions.{QueryOptions}
@@ -20,7 +21,8 @@ use Rattle.debctl_args.specs.declared.jobs.Detail.{Detail}
 use Rattle.debctl_args.specs.declared.jobs.DiffDetail.{DiffDetail}
 use Rattle.debctl_args.specs.declared.jobs.DiffKind.{DiffKind}
 use Rattle.debctl_args.specs.declared.jobs.Job.{Job}
-use Rattle.debctl_args.specs.declared.jobs.Job.TheVariants.{Diff, Query, QueryFrom, Unmet}
+use Rattle.debctl_args.specs.declared.jobs.Job.TheVariants.{Buildable, Diff, Query, QueryFrom, Unmet}
+use Rattle.debctl_args.specs.declared.jobs.SourceKind.{SourceKind}
 
 -- what is reported of a job is reported of an equal one
 pub reported_as : {W E : Type 0} (job other : Job) → job ≡ other → (first second : ReaderOfJob) (out : WriterOfJob W) (err : WriterOfJob E) (status : ℕ) → Reported other first second out err status → Reported job first second out err status
@@ -100,3 +102,18 @@ module _ (job : Job) (arch : String Global) (profiles : Vec (String Global) Glob
   unmet_reported first second out err status reports =
       subst (λ (asked : Job). Reported asked first second out err status) (sym is)
       (of_unmet (λ w. Ends (unmet_promise w) first second out err status) arch profiles members dependents versions target items packages tried chosen target_is items_is packages_are tried_is chosen_is reports)
+
+module _ (job : Job) (arch : String Global) (profiles : Vec (String Global) Global) (members : Members) (sources : SourceKind) (budget : ℕ) (is : job ≡ Buildable arch profiles members sources budget) (given : SourceWords) (given_is : given ≡ words_of_build arch profiles members sources) where
+  -- what refused words of `installable` on source packages leave, and what a refused index does
+  pub build_unread_index : (P : Type 0) → (IsFalse (can_be_asked given) → P) → IfRefusedWords job P
+  build_unread_index P then =
+      subst (λ (asked : Job). IfRefusedWords asked P) (sym is) (subst (λ w. IsFalse (can_be_asked w) → P) given_is then)
+
+  pub build_unread_file : (left : Option (List ℕ)) (P : Type 0) → (AreRefusedSources given left → P) → IfRefusedRelation job left P
+  build_unread_file left P then =
+      subst (λ (asked : Job). IfRefusedRelation asked left P) (sym is) (subst (λ w. AreRefusedSources w left → P) given_is then)
+
+  -- the answer, and its report
+  pub build_reported : {W E : Type 0} (first second : ReaderOfJob) (out : WriterOfJob W) (err : WriterOfJob E) (status : ℕ) → Ends (build_promise given) first second out err status → Reported job first second out err status
+  build_reported first second out err status reports =
+      subst (λ (asked : Job). Reported asked first second out err status) (sym is) (subst (λ w. Ends (build_promise w) first second out err status) given_is reports)

@@ -1,5 +1,6 @@
 pub mod AllReports
 pub mod AuditAllReports
+pub mod BuildReports
 pub mod DocumentReports
 pub mod ExplainReports
 pub mod JobReports

@@ -30,7 +30,7 @@ no_index Installed text packages refusal lists refused =
 
 module _ {E : Type 0} (err : WriterOfJob E) (side : Side) (status n n_after : ℕ) (rose : n < n_after) where
   -- where the count of failed reads or writes rose, the status is 3
-  read_is_three : (tried : Result Summary Fault) → n_after ≡ read_failures_after n tried → ReportsTried err (at_side side tried) status → status ≡ 3
+  pub read_is_three : (tried : Result Summary Fault) → n_after ≡ read_failures_after n tried → ReportsTried err (at_side side tried) status → status ≡ 3
   read_is_three (Err Read) counted (inl whole) = whole.status
   read_is_three (Err Read) counted (inr front) = front.status
   read_is_three (Ok summary) counted reports = absurd (omega (arith, counted, rose))
@@ -38,7 +38,7 @@ module _ {E : Type 0} (err : WriterOfJob E) (side : Side) (status n n_after : �
   read_is_three (Err Memory) counted reports = absurd (omega (arith, counted, rose))
   read_is_three (Err Write) counted reports = absurd (omega (arith, counted, rose))
 
-  write_is_three : (tried : Result Summary Fault) → n_after ≡ write_failures_after n tried → ReportsTried err (at_side side tried) status → status ≡ 3
+  pub write_is_three : (tried : Result Summary Fault) → n_after ≡ write_failures_after n tried → ReportsTried err (at_side side tried) status → status ≡ 3
   write_is_three (Err Write) counted (inl whole) = whole.status
   write_is_three (Err Write) counted (inr front) = front.status
   write_is_three (Ok summary) counted reports = absurd (omega (arith, counted, rose))
@@ -46,7 +46,7 @@ module _ {E : Type 0} (err : WriterOfJob E) (side : Side) (status n n_after : �
   write_is_three (Err Memory) counted reports = absurd (omega (arith, counted, rose))
   write_is_three (Err Read) counted reports = absurd (omega (arith, counted, rose))
 
-  index_is_three : (fault : Fault) → n_after ≡ read_failures_after {T = ⊤} n (Err fault) → ReportsTried err (at_side side (Err fault)) status → status ≡ 3
+  pub index_is_three : (fault : Fault) → n_after ≡ read_failures_after {T = ⊤} n (Err fault) → ReportsTried err (at_side side (Err fault)) status → status ≡ 3
   index_is_three Read counted (inl whole) = whole.status
   index_is_three Read counted (inr front) = front.status
   index_is_three (Refused refusal) counted reports = absurd (omega (arith, counted, rose))

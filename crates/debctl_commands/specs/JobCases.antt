@@ -22,7 +22,9 @@ use Rattle.debctl_args.specs.declared.jobs.DiffDetail.TheVariants as diff_detail
 use Rattle.debctl_args.specs.declared.jobs.DiffKind.TheVariants as diff_kinds
 use Rattle.debctl_args.specs.declared.jobs.Job.{Job}
 use Rattle.debctl_args.specs.declared.jobs.Job.TheVariants as job
+use Rattle.debctl_args.specs.declared.jobs.SourceKind.TheVariants as sources
 use Rattle.debctl_args.specs.declared.jobs.Strength.TheVariants.{Depends}
+use Rattle.debctl_commands.specs.BuildJob.{AreRefusedSources, can_be_asked, source_words}
 use Rattle.debctl_commands.specs.DiffJob.{IsRefusedOld}
 use Rattle.debctl_commands.specs.HealthJob.{is_architecture}
 use Rattle.debctl_commands.specs.JobDevices.{reader_of, writer_of}
@@ -34,6 +36,7 @@ use Rattle.debctl_commands.specs.Reporting.{by_line, by_status}
 use Rattle.debctl_commands.specs.Running.{IfCompare, IfRefusedRelation, IfRefusedWords, IfSecondUnread}
 use Rattle.debctl_commands.specs.Running.{IfUnread, promise_of}
 use Rattle.deb_index.specs.declared.members.Members.TheVariants.{Installed}
+use Rattle.deb_install.specs.declared.source_kind.SourceKind.TheVariants as kinds
 use Rattle.debctl_args.specs.declared.jobs.Members.TheVariants as members
 use Rattle.debctl_commands.specs.UnmetJob.{AreRefusedBefore, of_words, words}
 use Rattle.debctl_commands.specs.Verdicts.{demand, verdict_line}
@@ -68,6 +71,9 @@ unmet given = job.Unmet one names members.Installed given Spelled
 abbrev installable : ℕ → Job
 installable budget = job.Installable one members.Installed Depends budget
 
+abbrev buildable : ℕ → Job
+buildable budget = job.Buildable one names members.Installed sources.Source budget
+
 -- ---- promises
 
 abbrev promise : Job → Promise (List ℕ)
@@ -93,7 +99,10 @@ reports_of_jobs : ((promise (job.Check Source)).report tt ≡ by_status 0)
     ≡ by_status 1)
     × ((promise (installable 9)).report (record { paragraphs = 3; is_empty = true })
     ≡ by_status 0)
+    × ((promise (buildable 9)).report (record { paragraphs = 3; is_empty = false })
+    ≡ by_status 1)
 reports_of_jobs = (
+  refl,
   refl,
   refl,
   refl,
@@ -113,8 +122,9 @@ reports_of_jobs = (
 )
 
 -- `installable` promises the same with another budget
-promises_of_budgets : promise (installable 1) ≡ promise (installable 9)
-promises_of_budgets = refl
+promises_of_budgets : (promise (installable 1) ≡ promise (installable 9))
+    × (promise (buildable 1) ≡ promise (buildable 9))
+promises_of_budgets = (refl, refl)
 
 -- the refusal of a file has a side where both files are of one kind, and other faults have none
 lines_of_jobs : ((promise (job.Check Source)).line Read ≡ codes "fault: read\n")
@@ -124,10 +134,11 @@ lines_of_jobs : ((promise (job.Check Source)).line Read ≡ codes "fault: read\n
     × ((promise query_from).line (record { side = First; fault = Refused long_relation })
     ≡ codes "line 0: 8 ParagraphTooLong\n")
     × ((promise (unmet dependents.Source)).line (of_words Memory) ≡ codes "fault: memory\n")
+    × ((promise (buildable 9)).line (of_words Read) ≡ codes "fault: read\n")
     × ((promise diff).fault (record { side = First; fault = Write }) ≡ Write)
     × ((promise query_from).fault (record { side = Second; fault = Read }) ≡ Read)
 unfolding digits
-lines_of_jobs = (refl, refl, refl, refl, refl, refl)
+lines_of_jobs = (refl, refl, refl, refl, refl, refl, refl)
 
 abbrev Says : (asked : Job) → Result (promise asked).Answer (promise asked).Failure → Type 0
 Says asked answer =
@@ -151,7 +162,8 @@ unread : (IfUnread (job.Check Source) ℕ ≡ Unit {0}) × (IfUnread (job.Same S
     × (IfSecondUnread (job.Same Source) ℕ ≡ Unit {0}) × (IfSecondUnread compare ℕ ≡ ℕ)
     × (IfSecondUnread (unmet (dependents.Index Depends)) ℕ ≡ (IsTrue true → ℕ))
     × (IfSecondUnread (unmet dependents.Sources) ℕ ≡ (IsTrue false → ℕ))
-unread = (refl, refl, refl, refl, refl, refl, refl, refl, refl, refl, refl, refl)
+    × (IfSecondUnread (buildable 9) ℕ ≡ Unit {0})
+unread = (refl, refl, refl, refl, refl, refl, refl, refl, refl, refl, refl, refl, refl)
 
 -- by the words of a query, of `unmet` and of `installable`, and by the text of the first file
 unread_by_words : (IfRefusedWords query ℕ
@@ -164,8 +176,14 @@ unread_by_words : (IfRefusedWords query ℕ
     ≡ (AreRefusedBefore (words (codes "amd64") (codes "b-" ∷ codes "amd64" ∷ []) Installed
     dependents.Source Spelled) None → ℕ))
     × (IfRefusedWords (installable 9) ℕ ≡ (IsFalse (is_architecture (codes "amd64")) → ℕ))
+    × (IfRefusedWords (buildable 9) ℕ
+    ≡ (IsFalse (can_be_asked (source_words (codes "amd64") (codes "b-" ∷ codes "amd64" ∷ [])
+    Installed kinds.Source)) → ℕ))
+    × (IfRefusedRelation (buildable 9) None ℕ
+    ≡ (AreRefusedSources (source_words (codes "amd64") (codes "b-" ∷ codes "amd64" ∷ []) Installed
+    kinds.Source) None → ℕ))
 unfolding one other
-unread_by_words = (refl, refl, refl, refl, refl, refl)
+unread_by_words = (refl, refl, refl, refl, refl, refl, refl, refl)
 
 -- ---- paths
 
@@ -174,7 +192,7 @@ on_one = job.Check Source ∷ job.CheckAll Source ∷ job.CheckWhole Source (dem
     ∷ job.Normalise Source ∷ job.Sort true ∷ query ∷ installable 9 ∷ []
 
 abbrev on_two : List Job
-on_two = job.Same Source ∷ diff ∷ query_from ∷ unmet dependents.Source ∷ []
+on_two = job.Same Source ∷ diff ∷ query_from ∷ unmet dependents.Source ∷ buildable 9 ∷ []
 
 abbrev on_words : List Job
 on_words = compare ∷ job.CanonVersion one ∷ job.VersionKey names ∷ []

@@ -9,6 +9,8 @@ use Rattle.deb_control.specs.declared.summary.Summary.{Summary}
 use Rattle.deb_index.specs.Questions.{Question, question}
 use Rattle.deb_sort.specs.Files.{SortsFile}
 use Rattle.debctl_commands.specs.AllJobs.{ChecksAll, summary_status}
+use Rattle.debctl_commands.specs.BuildJob.{AreRefusedSources, SourceWords, build_promise}
+use Rattle.debctl_commands.specs.BuildJob.{can_be_asked, kind_tried, source_words}
 use Rattle.debctl_commands.specs.DiffJob.{FindsChanges, IsRefusedOld, form_asked}
 use Rattle.debctl_commands.specs.DocumentJobs.{ChecksFile, NormalisesFile}
 use Rattle.debctl_commands.specs.HealthJob.{health_promise, is_architecture}
@@ -30,7 +32,9 @@ use Rattle.debctl_args.specs.declared.jobs.Members.{Members}
 use Rattle.debctl_args.specs.declared.jobs.Job.{Job}
 use Rattle.debctl_args.specs.declared.jobs.Job.TheVariants.{Check, CheckAll, CheckWhole, Normalise, Same, Diff}
 use Rattle.debctl_args.specs.declared.jobs.Job.TheVariants.{Compare, CanonVersion, Sort, Query, QueryFrom}
-use Rattle.debctl_args.specs.declared.jobs.Job.TheVariants.{Healthy, Installable, Unmet, VersionKey}
+use Rattle.debctl_args.specs.declared.jobs.Job.TheVariants.{Buildable, Healthy, Installable}
+use Rattle.debctl_args.specs.declared.jobs.Job.TheVariants.{Unmet, VersionKey}
+use Rattle.debctl_args.specs.declared.jobs.SourceKind.{SourceKind}
 
 -- the question that a query's words are
 abbrev pub asked : String Global → Vec (String Global) Global → String Global → Question
@@ -48,6 +52,13 @@ abbrev pub words_of_unmet : String Global → Vec (String Global) Global → Mem
 words_of_unmet arch profiles members dependents versions =
     words (string_bytes arch) (map string_bytes profiles.items) (index_members members) dependents
     versions
+
+-- the words of `installable` on source packages
+abbrev pub words_of_build : String Global → Vec (String Global) Global → Members → SourceKind
+    → SourceWords
+words_of_build arch profiles members kind =
+    source_words (string_bytes arch) (map string_bytes profiles.items) (index_members members)
+    (kind_tried kind)
 
 -- ---- promises
 
@@ -91,6 +102,8 @@ promise_of (Healthy arch members strength) =
     health_promise (string_bytes arch) (index_members members) strength
 promise_of (Installable arch members strength budget) =
     install_promise (string_bytes arch) (index_members members) strength
+promise_of (Buildable arch profiles members kind budget) =
+    build_promise (words_of_build arch profiles members kind)
 
 -- ---- what each status says
 
@@ -145,12 +158,13 @@ abbrev pub IfCompare : Job → Type 0 → Type 0
 IfCompare (Compare former operator latter) P = P
 IfCompare _ P = Unit {0}
 
--- Every job but `same`, `diff`, `query --relation-from` and an `unmet` of another file than the
--- index leaves the second reader as it was.
+-- Every job but `same`, `diff`, `query --relation-from`, `installable` on source packages and an
+-- `unmet` of another file than the index leaves the second reader as it was.
 abbrev pub IfSecondUnread : Job → Type 0 → Type 0
 IfSecondUnread (Same doc) P = Unit {0}
 IfSecondUnread (Diff kind detail versions) P = Unit {0}
 IfSecondUnread (QueryFrom arch profiles members detail versions) P = Unit {0}
+IfSecondUnread (Buildable arch profiles members kind budget) P = Unit {0}
 IfSecondUnread (Unmet arch profiles members dependents versions) P =
     IsTrue (is_index dependents) → P
 IfSecondUnread _ P = P
@@ -166,15 +180,19 @@ IfRefusedWords (Healthy arch members strength) P =
     IsFalse (is_architecture (string_bytes arch)) → P
 IfRefusedWords (Installable arch members strength budget) P =
     IsFalse (is_architecture (string_bytes arch)) → P
+IfRefusedWords (Buildable arch profiles members kind budget) P =
+    IsFalse (can_be_asked (words_of_build arch profiles members kind)) → P
 IfRefusedWords _ P = Unit {0}
 
 -- A query whose relation is that of a file leaves the second reader, which is that of the index, as
--- it was, if the words with that relation are refused; `unmet`, if its words or the index are; and
--- `diff`, if the old file is.
+-- it was, if the words with that relation are refused; `unmet` and `installable` on source
+-- packages, if their words or the index are; and `diff`, if the old file is.
 abbrev pub IfRefusedRelation : Job → Option (List ℕ) → Type 0 → Type 0
 IfRefusedRelation (QueryFrom arch profiles members detail versions) left P =
     AreRefusedFrom (asked_of_file arch profiles) left → P
 IfRefusedRelation (Unmet arch profiles members dependents versions) left P =
     AreRefusedBefore (words_of_unmet arch profiles members dependents versions) left → P
+IfRefusedRelation (Buildable arch profiles members kind budget) left P =
+    AreRefusedSources (words_of_build arch profiles members kind) left → P
 IfRefusedRelation (Diff kind detail versions) left P = IsRefusedOld kind left → P
 IfRefusedRelation _ left P = Unit {0}

@@ -182,13 +182,14 @@ ReportsTried err answer status =
 
 -- ---- the answer of the job
 
--- The environment is refused, or out of memory: no file was read, and nothing was written to `out`.
-pub record FailsAtWords {W : Type 0} (w : Words) (first second : ReaderOfJob)
+-- The environment isn't good and is refused, or out of memory: no file was read, and nothing was
+-- written to `out`.
+pub record FailsAtWords {W : Type 0} (good : Bool) (first second : ReaderOfJob)
     (out : WriterOfJob W) (answer : Result Summary Failure) : Type 0 where
   pub fault : Fault
   pub is : answer ≡ Err (of_words fault)
   pub fault_is : RefusedOrMemory fault
-      (λ refusal. IsFalse (has_environment w) × (refusal ≡ bad_environment))
+      (λ refusal. IsFalse good × (refusal ≡ bad_environment))
   pub first_untouched : first.failures_after ≡ first.failures
   pub second_untouched : second.failures_after ≡ second.failures
   pub unwritten : out.new ≡ out.old
@@ -256,7 +257,8 @@ unmet_promise {W} w =
       report = unmet_report;
       fault = fault_of;
       line = line_of;
-      Says = λ first second out answer. FailsAtWords w first second out answer
+      Says = λ first second out answer. FailsAtWords (has_environment w) first second out
+          answer
           ⊎ (IsTrue (has_environment w)
           × AsksIn w.members w.dependents w.versions (environment_in w) first second out
           answer);

@@ -1,16 +1,18 @@
 //! Runs a whole command, over two readers and two writers.
 
-ghost use Rattle.std.specs.Prelude.{◌≡◌, ◌<◌, string_bytes};
+ghost use Rattle.std.specs.Prelude.{◌≡◌, ◌<◌, map, string_bytes};
 ghost use Rattle.deb_base.specs.Devices.{one_more};
 ghost use Rattle.debctl_commands.specs.Running.{Done, HasDetail, IfCompare, IfRefusedRelation};
 ghost use Rattle.debctl_commands.specs.Running.{IfRefusedWords, IfSecondUnread, IfUnread};
 ghost use Rattle.debctl_commands.specs.Running.{IsOnPackages, IsRefused, Reported, SaysNo};
+ghost use Rattle.debctl_commands.specs.BuildJob.{kind_tried, source_words, source_words_of};
 ghost use Rattle.debctl_commands.specs.DiffJob.{form_asked};
 ghost use Rattle.debctl_commands.specs.JobDevices.{ReaderOfJob, reader_of, writer_of};
 ghost use Rattle.debctl_commands.specs.QueryJob.{index_members, query_options};
 ghost use Rattle.debctl_commands.specs.Taking.{TakesFile};
 
 use crate::all_jobs::run_check_all;
+use crate::build_job::{BuildWords, kind_tried, run_buildable};
 use crate::diff_job::{DiffOptions, form_asked, run_diff};
 use crate::document_jobs::{run_check, run_normalise};
 use crate::health_job::{SetAsked, run_healthy};
@@ -23,19 +25,22 @@ use crate::unmet_job::{UnmetWords, run_unmet};
 use crate::version_jobs::{run_canon_version, run_compare, run_version_key};
 use crate::whole_job::run_check_whole;
 use deb_base::{Sink, Source, VersionText};
-use debctl_args::{Dependents, Detail, DiffDetail, DiffKind, Job, Members};
+use deb_install::BuildRequest;
+use deb_solve::Budget;
+use debctl_args::{Dependents, Detail, DiffDetail, DiffKind, Job, Members, SourceKind};
 use std::alloc::Global;
 
 /// Runs a job over readers and writers, reports on `err` why it failed, and returns the status.
 ///
 /// `check`, `normalise`, `sort` and `query` read `first`, and `same` reads both. `diff` reads the
 /// old file from `first`, and then the new one from `second`. `query` with a relation from a file
-/// reads the relation from `first`, and then the index from `second`. `unmet` reads the index from
-/// `first`, and then the file, if it isn't the index, from `second`. A reader that a job doesn't
-/// use is unchanged. So is that of the index if the arguments of a `query`, or the relation that it
-/// has read, are refused; and so are both of an `unmet` if its arguments are refused, and the
-/// second if the index is, or the old file of a `diff`. At most 4,295,032,831 bytes are read from a
-/// reader: a file of the most bytes, and one piece.
+/// reads the relation from `first`, and then the index from `second`. `unmet` and `installable` on
+/// source packages read the index from `first`, and then the file, if it isn't the index, from
+/// `second`. A reader that a job doesn't use is unchanged. So is that of the index if the arguments
+/// of a `query`, or the relation that it has read, are refused; and so are both of an `unmet` or of
+/// `installable` on source packages if its arguments are refused, and the second if the index is,
+/// or the old file of a `diff`. At most 4,295,032,831 bytes are read from a reader: a file of the
+/// most bytes, and one piece.
 ///
 /// - 0: done, or the answer is yes. `out` has `ok N` and a newline, with `--all` `ok N, 0 refused`
 ///   and a newline, the canonical text of the file, `same` and a newline, nothing, the canonical
@@ -44,12 +49,12 @@ use std::alloc::Global;
 /// - 1: the answer of `same` or `compare` is no, a group of a `query` is unmet, or `diff` or
 ///   `unmet` has a line. `out` has `different` and a newline for `same`, the report for `query`,
 ///   and the lines for `diff` and `unmet`; nothing else was written.
-/// - 2: a file or an argument is refused. `err` has the refusal's line, after `first: ` or `second:
-///   ` for a file of `same`, `diff` or `unmet`. `out` has nothing, except for `normalise` and
-///   `unmet` of a second file: the canonical text, or the lines, of the paragraphs before the first
-///   that fails. For `check --all` `out` has all lines of the file instead, and nothing was written
-///   to `err`. For `check` with demands also: the file is accepted and doesn't meet them, and `err`
-///   has the line that says so.
+/// - 2: a file or an argument is refused. `err` has the refusal's line, after `first: ` or
+///   `second: ` for a file of a job that reads two and isn't a `query`. `out` has nothing, except
+///   for `normalise` and `unmet` of a second file: the canonical text, or the lines, of the
+///   paragraphs before the first that fails. For `check --all` `out` has all lines of the file
+///   instead, and nothing was written to `err`. For `check` with demands also: the file is accepted
+///   and doesn't meet them, and `err` has the line that says so.
 /// - 3: out of memory, or a read or a write failed; for `compare` only a write to `err`. `err` has
 ///   `fault: memory`, `fault: read` or `fault: write`; if a write to `err` failed, a prefix of its
 ///   line.
@@ -161,6 +166,16 @@ fn run_job<R: Source, S: Source, W: Sink, E: Sink>(
             let members = index_members(*members);
             let words = unmet_words(arch, profiles, members, *dependents, *versions);
             run_unmet(alloc, &words, first, second, out, err)
+        }
+        Job::Buildable {
+            arch,
+            profiles,
+            members,
+            sources,
+            budget,
+        } => {
+            let words = build_words(arch, profiles, *members, *sources, *budget);
+            run_buildable(alloc, &words, first, second, out, err)
         }
         Job::Healthy { .. } | Job::Installable { .. } => {
             run_on_packages(alloc, job, first, out, err)
@@ -316,6 +331,27 @@ fn query_words<'a>(
         profiles,
         members: index_members(members),
         options: QueryOptions { detail, versions },
+    }
+}
+
+fn build_words<'a>(
+    arch: &'a String,
+    profiles: &'a [String],
+    members: Members,
+    sources: SourceKind,
+    budget: u32,
+) -> BuildWords<'a>
+    ensures { source_words_of result ≡ source_words (string_bytes arch.entry.now)
+        (map string_bytes profiles.entry.now) (index_members members) (kind_tried sources) }
+{
+    BuildWords {
+        target: arch.as_str(),
+        profiles,
+        members: index_members(members),
+        request: BuildRequest {
+            kind: kind_tried(sources),
+            budget: Budget { one_search: budget },
+        },
     }
 }
 

@@ -7,7 +7,7 @@ use crate::reader::SystemFiles;
 use deb_base::{Doc, Fault, Sink, put_all, put_pieces};
 use deb_explain::write_path;
 use deb_version::{BadVersion, Version};
-use debctl_args::{Call, Dependents, DiffKind, Job, Members};
+use debctl_args::{Call, Dependents, DiffKind, Job, Members, SourceKind};
 use itoa::Buffer;
 use std::env;
 use std::io::IsTerminal;
@@ -132,6 +132,15 @@ fn kind_of_file(job: &Job, about: About) -> Option<Doc> {
             (About::Second, Dependents::Sources) => Doc::Sources,
             (About::Second, Dependents::Source) => Doc::Source,
             (About::Second, _) => Doc::Packages,
+            _ => kind_of_index(*members),
+        }),
+        Job::Buildable {
+            members,
+            sources,
+            ..
+        } => Some(match (about, sources) {
+            (About::Second, SourceKind::Sources) => Doc::Sources,
+            (About::Second, SourceKind::Source) => Doc::Source,
             _ => kind_of_index(*members),
         }),
         _ => job.document(),

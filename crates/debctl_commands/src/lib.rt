@@ -14,6 +14,7 @@
 mod all_jobs;
 mod audit_all_job;
 mod audit_job;
+mod build_job;
 mod command;
 mod diff_job;
 mod document_jobs;

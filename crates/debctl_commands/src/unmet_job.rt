@@ -238,7 +238,7 @@ fn run_over<S: Source, W: Sink, E: Sink>(
 }
 
 /// Reports the answer of the file of a side, and returns the status.
-fn report_tried<E: Sink>(side: Side, answer: Result<Summary, Fault>, err: &mut E) -> u8
+pub(crate) fn report_tried<E: Sink>(side: Side, answer: Result<Summary, Fault>, err: &mut E) -> u8
     ensures { ReportsTried (writer_of E.held E.failures err.old err.new) (at_side side answer)
         result }
 {
