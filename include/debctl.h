@@ -47,13 +47,15 @@ enum deb_status {
     DEB_YES = 0,            /* done, or yes */
     DEB_NO = 1,             /* deb_same, deb_diff: the files differ; deb_query, deb_unmet: a group is
                              * unmet; deb_healthy: the set isn't healthy; deb_installable: a package
-                             * has a line; deb_index_package: there is no such package */
+                             * has a line; deb_buildable: a source package has one;
+                             * deb_index_package: there is no such package */
     DEB_REFUSED = 2,        /* a text is refused, or the first of two */
     DEB_SECOND_REFUSED = 3, /* the first text is accepted, and the second is refused */
     DEB_NO_ROOM = 4,        /* the buffer is too small; its length is what it needs */
     DEB_NO_MEMORY = 5,      /* out of memory */
     DEB_NO_KIND = 6,        /* no kind of document has this number, or no detail; deb_diff, deb_unmet,
-                             * deb_healthy, deb_installable: the call doesn't take this kind */
+                             * deb_healthy, deb_installable, deb_buildable: the call doesn't take
+                             * this kind */
     DEB_NO_INDEX = 7        /* the index that is asked holds none, since it was refused */
 };
 
@@ -120,9 +122,10 @@ struct deb_answer {
     uint64_t line;  /* the line of the refusal in its file; 0 for a text that isn't a file */
     uint64_t count; /* the number of paragraphs of the file: for DEB_YES of deb_check, deb_check_all,
                      * deb_normalise, deb_explain, deb_explain_all and deb_fields, and for DEB_YES
-                     * and DEB_NO of deb_unmet; of the paragraphs that pass, for DEB_REFUSED of
-                     * deb_check_all and deb_explain_all; of the packages, for DEB_YES and DEB_NO of
-                     * deb_healthy and deb_installable, and for DEB_YES of deb_index_read */
+                     * and DEB_NO of deb_unmet and deb_buildable; of the paragraphs that pass, for
+                     * DEB_REFUSED of deb_check_all and deb_explain_all; of the packages, for DEB_YES
+                     * and DEB_NO of deb_healthy and deb_installable, and for DEB_YES of
+                     * deb_index_read */
 };
 
 /* The answer of a comparison of two versions. */
@@ -387,6 +390,25 @@ struct deb_answer deb_installable(uint8_t kind, uint8_t recommends, uint32_t bud
                                   const uint8_t *index, size_t index_length,
                                   uint8_t *out, size_t out_size, size_t *length);
 
+/* Writes which source packages of a file can't be built with the packages of an index, for a target
+ * architecture and with these build profiles active. One can be built if a healthy set of these
+ * packages has build-essential and what its Build-Depends, Build-Depends-Arch and Build-Depends-Indep
+ * need, and none that its Build-Conflicts, Build-Conflicts-Arch or Build-Conflicts-Indep exclude. Each
+ * source package is asked by itself. The lines are those that the program `debctl installable --kind
+ * sources` writes: those of deb_installable, with `source` as the architecture. `kind` is that of the
+ * file `text`, DEB_SOURCES or DEB_SOURCE. `budget` is that of deb_installable, for the search for one
+ * source package; all searches take at most so many steps, and 100 for each package of both files.
+ * DEB_YES: there is no line, each source package can be built; DEB_NO: there is one; both with the
+ * number of source packages. DEB_REFUSED: the target or a profile (DEB_BAD_ENVIRONMENT) or the index,
+ * in this order; DEB_SECOND_REFUSED: the file; DEB_NO_ROOM; DEB_NO_MEMORY; DEB_NO_KIND: `kind` is
+ * neither of these two. */
+struct deb_answer deb_buildable(uint8_t kind, uint32_t budget,
+                                const uint8_t *target, size_t target_length,
+                                const struct deb_text *profiles, size_t profile_count,
+                                const uint8_t *index, size_t index_length,
+                                const uint8_t *text, size_t text_length,
+                                uint8_t *out, size_t out_size, size_t *length);
+
 /* An index that is read once and asked often. It lies in memory of the caller, as many bytes as
  * deb_index_size returns, aligned as malloc aligns. deb_index_read fills that memory, whatever its
  * status is, and deb_index_free empties it; what lies there may not be copied or moved in between.
@@ -502,7 +524,7 @@ enum deb_form {
     DEB_DIFF_LINES = 2,  /* deb_diff */
     DEB_EXPLANATION = 3, /* deb_explain, deb_explain_all, deb_explain_relation, deb_explain_version */
     DEB_HEALTH_LINES = 4, /* deb_healthy */
-    DEB_INSTALLABLE_LINES = 5 /* deb_installable */
+    DEB_INSTALLABLE_LINES = 5 /* deb_installable, deb_buildable */
 };
 
 /* What a line of a text says, and its cells. */

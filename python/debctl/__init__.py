@@ -30,8 +30,8 @@ from ._explanations import (
     AllExplained, Explanation, explain, explain_all, explain_relation, explain_version,
 )
 from ._files import (
-    AllChecked, HealthReport, InstallReport, Report, UnmetReport, check, check_all, diff, healthy,
-    installable, normalise, query, same, unmet,
+    AllChecked, BuildReport, HealthReport, InstallReport, Report, UnmetReport, buildable, check,
+    check_all, diff, healthy, installable, normalise, query, same, unmet,
 )
 from ._index import Details, Index, Package
 from ._library import Kind, Text, lib
@@ -53,18 +53,18 @@ def library_version() -> str:
 
 
 __all__ = [
-    "AllChecked", "AllExplained", "Alternative", "Change", "Code", "Details", "Explanation",
-    "Group", "HealthReason", "HealthReport", "Index", "InstallReport", "Kind", "NotInstallable",
-    "NumberedPackage", "Package", "Paragraph", "Parts", "Reason", "Refused", "Report", "Text",
-    "UnmetGroup", "UnmetReport", "Version", "applies", "canonical", "check", "check_all", "compare",
-    "diff", "explain", "explain_all", "explain_relation", "explain_version", "healthy",
-    "installable", "key", "library_version", "normalise", "paragraphs", "query", "relations",
-    "same", "satisfies", "unmet",
+    "AllChecked", "AllExplained", "Alternative", "BuildReport", "Change", "Code", "Details",
+    "Explanation", "Group", "HealthReason", "HealthReport", "Index", "InstallReport", "Kind",
+    "NotInstallable", "NumberedPackage", "Package", "Paragraph", "Parts", "Reason", "Refused",
+    "Report", "Text", "UnmetGroup", "UnmetReport", "Version", "applies", "buildable", "canonical",
+    "check", "check_all", "compare", "diff", "explain", "explain_all", "explain_relation",
+    "explain_version", "healthy", "installable", "key", "library_version", "normalise",
+    "paragraphs", "query", "relations", "same", "satisfies", "unmet",
 ]
 
 for _public in (
-    AllChecked, AllExplained, Alternative, Change, Code, Details, Explanation, Group, HealthReason,
-    HealthReport, Index, InstallReport, NotInstallable, NumberedPackage, Package, Paragraph, Parts,
-    Reason, Refused, Report, UnmetGroup, UnmetReport, Version,
+    AllChecked, AllExplained, Alternative, BuildReport, Change, Code, Details, Explanation, Group,
+    HealthReason, HealthReport, Index, InstallReport, NotInstallable, NumberedPackage, Package,
+    Paragraph, Parts, Reason, Refused, Report, UnmetGroup, UnmetReport, Version,
 ):
     _public.__module__ = __name__

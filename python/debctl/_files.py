@@ -86,6 +86,22 @@ class InstallReport(NamedTuple):
         return not_installable_of(self.text)
 
 
+class BuildReport(NamedTuple):
+    """The report on which source packages can't be built, which is true if each can, and its text.
+    """
+
+    buildable: bool
+    text: str
+
+    def __bool__(self) -> bool:
+        return self.buildable
+
+    @property
+    def packages(self) -> List[NotInstallable]:
+        """The source packages that can't be built, or may not be, in the order of the text."""
+        return not_installable_of(self.text)
+
+
 def check(text: Text, kind: Kind = "packages") -> int:
     """Returns the number of paragraphs of a file that is accepted as a document of this kind:
     `packages`, `binary`, `source`, `sources`, `status` or `any`.
@@ -298,9 +314,7 @@ def installable(
     Raises Refused if the architecture or the file is refused, and ValueError for another kind or
     budget.
     """
-    number, (data, length), steps = kind_of(kind), text_of(index), operator.index(budget)
-    if not 0 < steps < 1 << 32:
-        raise ValueError(f"no budget: {budget!r}")
+    number, (data, length), steps = kind_of(kind), text_of(index), _steps_of(budget)
     call = functools.partial(
         lib.deb_installable, number, bool(recommends), steps, *text_of(arch), data, length
     )
@@ -308,3 +322,55 @@ def installable(
     if answer.status == NO_KIND:
         raise ValueError(f"there are no sets of {kind!r}")
     return InstallReport(answered_file(answer, number, data).status == YES, lines.decode())
+
+
+def buildable(
+    index: Text,
+    file: Text,
+    arch: Text,
+    profiles: Iterable[Text] = (),
+    *,
+    kind: Kind = "sources",
+    budget: int = 100_000,
+) -> BuildReport:
+    """Finds which source packages of a file can't be built with the packages of an index, for this
+    architecture and these build profiles: no healthy set of these packages has build-essential and
+    what the Build-Depends fields need, and none that the Build-Conflicts fields exclude. Each
+    source package is asked by itself. The lines are those that the program
+    `debctl installable --kind sources` writes. `kind` is that of the file, `sources` or `source`.
+
+        >>> import debctl
+        >>> index = "Package: build-essential\\nVersion: 1\\nArchitecture: amd64\\n"
+        >>> sources = "Package: ss\\nVersion: 1\\nBuild-Depends: bb <!nocheck>\\n"
+        >>> report = debctl.buildable(index, sources, "amd64")
+        >>> print(bool(report), report.text, end="")
+        False uninstallable 1 ss 1 source
+        >>> [(it.verdict, it.package, it.architecture) for it in report.packages]
+        [('uninstallable', 'ss', 'source')]
+        >>> bool(debctl.buildable(index, sources, "amd64", ["nocheck"]))
+        True
+
+    `budget` is that of `installable`, for the search for one source package.
+
+    Raises Refused if the architecture, a profile, the index or the file is refused; its `second`
+    is true if the file is. Raises ValueError for another kind or budget.
+    """
+    number, active, steps = kind_of(kind), texts_of(profiles), _steps_of(budget)
+    (data, length), (text, size) = text_of(index), text_of(file)
+    call = functools.partial(
+        lib.deb_buildable, number, steps, *text_of(arch), active, len(active), data, length, text,
+        size,
+    )
+    answer, lines = written(2 * size + 64, call)
+    if answer.status == NO_KIND:
+        raise ValueError(f"there are no source packages of {kind!r}")
+    refused_as = _PACKAGES if answer.status == REFUSED else number
+    return BuildReport(answered_file(answer, refused_as, data, text).status == YES, lines.decode())
+
+
+def _steps_of(budget: int) -> int:
+    """Returns a budget as the library takes it."""
+    steps = operator.index(budget)
+    if not 0 < steps < 1 << 32:
+        raise ValueError(f"no budget: {budget!r}")
+    return steps

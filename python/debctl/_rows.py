@@ -104,7 +104,8 @@ class HealthReason(NamedTuple):
 
 class NotInstallable(NamedTuple):
     """A package that can't be installed, or may not be: its number, its name, its canonical version
-    and its architecture. An architecture wildcard decides about one that is "unsure"; of one that
+    and its architecture; or a source package that can't be built, or may not be, whose
+    `architecture` is "source". An architecture wildcard decides about one that is "unsure"; of one that
     is "undecided" the search took all its steps."""
 
     verdict: Literal["uninstallable", "unsure", "undecided"]
@@ -188,7 +189,7 @@ def health_reasons_of(text: str) -> List[HealthReason]:
 
 
 def not_installable_of(text: str) -> List[NotInstallable]:
-    """Returns the packages of a report on which ones can't be installed."""
+    """Returns the packages of a report on which ones can't be installed, or built."""
     return [
         NotInstallable(_INSTALLABLE[kind], int(cells[0]), *cells[1:])
         for kind, cells in rows_of(INSTALLABLE_LINES, text)

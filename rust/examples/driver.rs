@@ -6,10 +6,10 @@
 mod printed;
 
 use debctl::{
-    canonical, check, check_all, compare, diff, explain, explain_all, explain_relation,
+    buildable, canonical, check, check_all, compare, diff, explain, explain_all, explain_relation,
     explain_version, healthy, installable, key, normalise, paragraphs, query, query_why, relations,
     same, spelled_relations, unmet, AllChecked, Asked, Compared, Error, Explanation, Index, Kind,
-    Members, ReadError, Reader, Refusal, Report, Version,
+    Members, ReadError, Reader, Refusal, Report, SourceKind, Version,
 };
 use printed::Printed;
 use std::env::args_os;
@@ -215,6 +215,23 @@ fn of_set(call: &str, number: usize, files: &[Vec<u8>]) -> Result<String, Error>
     ))
 }
 
+/// What is asked of source packages: the target, the index, the file and the profiles.
+fn of_sources(number: usize, files: &[Vec<u8>]) -> Result<String, Error> {
+    let (target, index, file) = (&files[0], &files[1], &files[2]);
+    let kind = match KINDS[number % 8] {
+        Kind::Source => SourceKind::Source,
+        _ => SourceKind::Sources,
+    };
+    let profiles: Vec<&[u8]> = files[3..].iter().map(Vec::as_slice).collect();
+    let budget = NonZeroU32::new((number / 8) as u32);
+    let report = buildable(kind, budget, target, &profiles, index, file)?;
+    Ok(with_rows(
+        &done(report.buildable, 0),
+        &report.text,
+        &report.printed(),
+    ))
+}
+
 /// What changed between two files.
 fn of_diff(number: usize, files: &[Vec<u8>]) -> Result<String, Error> {
     let kind = match KINDS[number % 8] {
@@ -260,6 +277,7 @@ fn answer(call: &str, number: usize, files: &[Vec<u8>]) -> Result<Vec<u8>, Error
         "query" | "why" => of_query(call, files)?,
         "unmet" => of_unmet(number, files)?,
         "healthy" | "installable" => of_set(call, number, files)?,
+        "buildable" => of_sources(number, files)?,
         "diff" => of_diff(number, files)?,
         "check" => {
             let checked = check(KINDS[number], &files[0]);

@@ -126,6 +126,26 @@ impl Members {
     }
 }
 
+/// The kind of a file of source packages, for [`buildable`](crate::buildable).
+#[derive(Clone, Copy, Debug, PartialEq, Eq, Hash)]
+#[non_exhaustive]
+pub enum SourceKind {
+    /// An index of source packages.
+    Sources,
+    /// The description of a source package.
+    Source,
+}
+
+impl SourceKind {
+    /// Returns the kind of the file.
+    pub(crate) fn kind(self) -> Kind {
+        match self {
+            SourceKind::Sources => Kind::Sources,
+            SourceKind::Source => Kind::Source,
+        }
+    }
+}
+
 /// The kind of two files that are compared.
 #[derive(Clone, Copy, Debug, PartialEq, Eq, Hash)]
 #[non_exhaustive]

@@ -45,14 +45,15 @@ pub use explanations::{
 };
 pub use files::{check, check_all, normalise, same, AllChecked};
 pub use index::{Details, Index, Package};
-pub use kinds::{Asked, Compared, Kind, Members, UnknownKind};
+pub use kinds::{Asked, Compared, Kind, Members, SourceKind, UnknownKind};
 pub use paragraphs::{paragraphs, Field, Iter, Paragraph, Paragraphs};
 pub use reader::{ReadError, Reader};
 pub use refusals::{Code, Error, Refusal};
 pub use relations::{applies, relations, satisfies, spelled_relations, Alternative};
 pub use reports::{
-    healthy, installable, query, query_why, unmet, Group, HealthFault, HealthReason, HealthReport,
-    InstallFault, InstallReport, NotInstallable, Reason, Report, UnmetGroup, UnmetReport, Verdict,
+    buildable, healthy, installable, query, query_why, unmet, BuildReport, Group, HealthFault,
+    HealthReason, HealthReport, InstallFault, InstallReport, NotInstallable, Reason, Report,
+    UnmetGroup, UnmetReport, Verdict,
 };
 pub use versions::{canonical, compare, key, Version};
 

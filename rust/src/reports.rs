@@ -1,10 +1,11 @@
 //! Which packages meet a relation, which relations of a file nothing meets, whether a set of
-//! packages is healthy, and which packages can't be installed.
+//! packages is healthy, which packages can't be installed, and which source packages can't be
+//! built.
 
 use crate::library::{self, Answer, Text};
 use crate::refusals::answered_of;
 use crate::texts::{self, rows, string, written, Form, Row};
-use crate::{Asked, Error, Kind, Members, Package};
+use crate::{Asked, Error, Kind, Members, Package, SourceKind};
 use std::fmt;
 use std::num::NonZeroU32;
 
@@ -164,7 +165,20 @@ pub struct InstallReport {
     pub text: String,
 }
 
-/// A package that can't be installed, or may not be.
+/// The report on which source packages of a file can't be built.
+#[derive(Clone, Debug, PartialEq, Eq, Hash)]
+#[non_exhaustive]
+pub struct BuildReport {
+    /// Whether each source package can be built: there is none in the report.
+    pub buildable: bool,
+    /// The source packages that can't be built, or may not be, in the order of the lines.
+    pub packages: Vec<NotInstallable>,
+    /// The lines of the report.
+    pub text: String,
+}
+
+/// A package that can't be installed, or may not be; or a source package that can't be built, or
+/// may not be, whose architecture is `source`.
 #[derive(Clone, Debug, PartialEq, Eq, Hash)]
 #[non_exhaustive]
 pub struct NotInstallable {
@@ -174,11 +188,11 @@ pub struct NotInstallable {
     pub fault: InstallFault,
 }
 
-/// What is known about a package that isn't found to be installable.
+/// What is known about a package that isn't found to be installable, or to be buildable.
 #[derive(Clone, Copy, Debug, PartialEq, Eq, Hash)]
 #[non_exhaustive]
 pub enum InstallFault {
-    /// It can't be installed.
+    /// It can't be.
     Uninstallable,
     /// An architecture wildcard decides whether it can be.
     Unsure,
@@ -205,6 +219,12 @@ impl fmt::Display for HealthReport {
 }
 
 impl fmt::Display for InstallReport {
+    fn fmt(&self, out: &mut fmt::Formatter<'_>) -> fmt::Result {
+        out.write_str(&self.text)
+    }
+}
+
+impl fmt::Display for BuildReport {
     fn fmt(&self, out: &mut fmt::Formatter<'_>) -> fmt::Result {
         out.write_str(&self.text)
     }
@@ -497,6 +517,54 @@ pub fn installable(
     let text = string(text);
     Ok(InstallReport {
         installable: answer.status == library::YES,
+        packages: rows(Form::InstallableLines, &text)
+            .map(not_installable)
+            .collect(),
+        text,
+    })
+}
+
+/// Finds which source packages of a file can't be built with the packages of an index, for a target
+/// architecture and with these build profiles active: no healthy set of these packages has
+/// build-essential and what the Build-Depends fields need, and none that the Build-Conflicts fields
+/// exclude. Each source package is asked by itself. The lines are those that the program `debctl
+/// installable --kind sources` writes. If the file is refused, the error is
+/// [`Error::SecondRefused`].
+///
+/// The search for one source package takes at most `budget` steps, 100,000 if there is none.
+///
+/// ```
+/// use debctl::{buildable, InstallFault, SourceKind};
+///
+/// let index = "Package: build-essential\nVersion: 1\nArchitecture: amd64\n";
+/// let sources = "Package: ss\nVersion: 1\nBuild-Depends: bb <!nocheck>\n";
+/// let report = buildable(SourceKind::Sources, None, "amd64", &[], index, sources)?;
+/// assert!(!report.buildable);
+/// assert_eq!(report.text, "uninstallable 1 ss 1 source\n");
+/// assert_eq!(report.packages[0].fault, InstallFault::Uninstallable);
+/// let report = buildable(SourceKind::Sources, None, "amd64", &[b"nocheck"], index, sources)?;
+/// assert!(report.buildable);
+/// # Ok::<(), debctl::Error>(())
+/// ```
+pub fn buildable(
+    kind: SourceKind,
+    budget: Option<NonZeroU32>,
+    target: impl AsRef<[u8]>,
+    profiles: &[&[u8]],
+    index: impl AsRef<[u8]>,
+    file: impl AsRef<[u8]>,
+) -> Result<BuildReport, Error> {
+    let (target, index, file) = (target.as_ref(), index.as_ref(), file.as_ref());
+    let asked = (kind.kind() as u8, budget.map_or(0, NonZeroU32::get));
+    let profiles = texts_of(profiles);
+    let call = |out: &mut [u8], length: &mut usize| {
+        library::buildable(asked, (target, &profiles), (index, file), out, length)
+    };
+    let (answer, text) = written(2 * file.len() + 64, call);
+    let answer = answered_of(answer, (Kind::Packages, index), (kind.kind(), file))?;
+    let text = string(text);
+    Ok(BuildReport {
+        buildable: answer.status == library::YES,
         packages: rows(Form::InstallableLines, &text)
             .map(not_installable)
             .collect(),

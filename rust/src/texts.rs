@@ -175,6 +175,12 @@ mod tests {
         (0..COUNT).map(package).collect()
     }
 
+    /// Source packages that can't be built.
+    fn sources() -> String {
+        let source = |at| format!("Package: s{at}\nVersion: 1\n\n");
+        (0..COUNT).map(source).collect()
+    }
+
     fn answer(asked: usize, old: &str, new: &str, loaded: &Index) -> Result<(), Error> {
         let wrong = old.replace("Version: ", "Version: _");
         let relation: String = (0..COUNT).map(|at| format!("aa{at}|bb(<{at}),")).collect();
@@ -201,6 +207,14 @@ mod tests {
             14 => drop((key("1:2.0~rc1-3")?, canonical("1:2.0~rc1-3")?)),
             15 => drop(healthy(Members::All, true, "amd64", old)?),
             16 => drop(installable(Members::All, true, None, "amd64", old)?),
+            17 => drop(buildable(
+                SourceKind::Sources,
+                None,
+                "amd64",
+                &[],
+                old,
+                sources(),
+            )?),
             _ => drop(relations(relation)?),
         }
         Ok(())
@@ -210,7 +224,7 @@ mod tests {
     fn the_first_room_is_enough() -> Result<(), Error> {
         let (old, new) = (index("1"), index("2"));
         let loaded = Index::read(&old)?;
-        for asked in 0..=17 {
+        for asked in 0..=18 {
             let before = REPEATED.with(Cell::get);
             answer(asked, &old, &new, &loaded)?;
             assert_eq!(REPEATED.with(Cell::get), before, "call {asked}");

@@ -1,11 +1,13 @@
 //! Versions and their keys, relations, unmet relations, sets of packages, which packages can be
-//! installed, and the paragraphs of a file and all its refusals.
+//! installed and which source packages built, and the paragraphs of a file and all its refusals.
 
 use debctl::{
-    check, check_all, compare, diff, explain, explain_all, healthy, installable, key, paragraphs,
-    query, relations, unmet, Asked, Code, Compared, Error, Index, Kind, Members, Refusal, Version,
+    buildable, check, check_all, compare, diff, explain, explain_all, healthy, installable, key,
+    paragraphs, query, relations, unmet, Asked, Code, Compared, Error, Index, Kind, Members,
+    Refusal, SourceKind, Version,
 };
 use std::collections::HashSet;
+use std::num::NonZeroU32;
 
 /// The code, the line and the field of the refusal that an answer is.
 fn refused<Answer>(answer: Result<Answer, Error>) -> (Code, u64, Option<String>) {
@@ -213,6 +215,45 @@ fn packages_that_cannot_be_installed_have_lines() -> Result<(), Error> {
     assert_eq!(
         refused(installable(Members::Installed, false, None, "amd64", index)),
         (Code::MissingField, 1, Some("Status".to_owned()))
+    );
+    Ok(())
+}
+
+#[test]
+fn source_packages_that_cannot_be_built_have_lines() -> Result<(), Error> {
+    let index = "Package: build-essential\nVersion: 1\nArchitecture: amd64\n";
+    let sources = "Package: ss\nVersion: 1.0-0\nBuild-Depends: zz <!nocheck>\n";
+    let line = "uninstallable 1 ss 1.0 source\n";
+    let kind = SourceKind::Sources;
+    let report = buildable(kind, None, "amd64", &[], index, sources)?;
+    assert_eq!((report.buildable, report.text.as_str()), (false, line));
+    assert_eq!(report.to_string(), report.text);
+    let profiles: &[&[u8]] = &[b"cross", b"nocheck"];
+    let report = buildable(kind, None, b"amd64", profiles, index.as_bytes(), sources)?;
+    assert!(report.buildable && report.text.is_empty());
+    let source = format!("Format: 1.0\n{}", sources.replace("Package", "Source"));
+    for budget in [1, u32::MAX].map(NonZeroU32::new) {
+        let report = buildable(SourceKind::Source, budget, "amd64", &[], index, &source)?;
+        assert_eq!(report.text, line);
+    }
+    assert!(buildable(kind, None, "amd64", &[], "", "")?.buildable);
+    for (target, profiles) in [("any", &[][..]), ("amd64", &[b"".as_slice()][..])] {
+        assert_eq!(
+            refused(buildable(kind, None, target, profiles, "x", "x")),
+            (Code::BadEnvironment, 0, None)
+        );
+    }
+    let wrong = index.replacen('1', "1_", 1);
+    assert_eq!(
+        refused(buildable(kind, None, "amd64", &[], wrong, "x")),
+        (Code::BadVersion, 2, Some("Version".to_owned()))
+    );
+    let nameless = format!("Format: 1.0\n{sources}");
+    let second = buildable(SourceKind::Source, None, "amd64", &[], index, nameless);
+    assert!(matches!(second, Err(Error::SecondRefused(_))));
+    assert_eq!(
+        refused(second),
+        (Code::MissingField, 1, Some("Source".to_owned()))
     );
     Ok(())
 }

@@ -2,10 +2,10 @@
 //! an index keeps.
 
 use debctl::{
-    applies, canonical, compare, diff, explain, explain_relation, explain_version, healthy,
-    installable, paragraphs, query, query_why, relations, satisfies, spelled_relations, unmet,
-    Alternative, Asked, ChangeKind, Code, Compared, Error, Explanation, HealthFault, Index,
-    InstallFault, Kind, Members, Verdict, Version,
+    applies, buildable, canonical, compare, diff, explain, explain_relation, explain_version,
+    healthy, installable, paragraphs, query, query_why, relations, satisfies, spelled_relations,
+    unmet, Alternative, Asked, ChangeKind, Code, Compared, Error, Explanation, HealthFault, Index,
+    InstallFault, Kind, Members, SourceKind, Verdict, Version,
 };
 use std::collections::HashMap;
 use std::num::NonZeroU32;
@@ -196,6 +196,40 @@ fn a_report_on_installable_packages_has_faults() -> Result<(), Error> {
     }
     let report = installable(Members::All, true, None, "amd64", INDEX)?;
     assert!(report.installable && report.packages.is_empty());
+    Ok(())
+}
+
+#[test]
+fn a_report_on_source_packages_has_faults() -> Result<(), Error> {
+    let index = "Package: build-essential\nVersion: 1\nArchitecture: amd64\n\n\
+        Package: aa\nVersion: 1\nArchitecture: all\nConflicts: bb\n\n\
+        Package: bb\nVersion: 1\nArchitecture: all\n";
+    let sources = "Package: ss\nVersion: 01\nBuild-Depends: aa\nBuild-Depends-Indep: bb\n\n\
+        Package: tt\nVersion: 1\nBuild-Depends: aa | bb\n\n\
+        Package: uu\nVersion: 1-0\nBuild-Conflicts-Arch: build-essential [linux-any]\n";
+    let report = buildable(SourceKind::Sources, None, "amd64", &[], index, sources)?;
+    let found: Vec<_> = report
+        .packages
+        .iter()
+        .map(|it| {
+            let package = &it.package;
+            (
+                package.number,
+                package.name.as_str(),
+                package.version.as_str(),
+                package.architecture.as_str(),
+                it.fault,
+            )
+        })
+        .collect();
+    let wanted = [
+        (1, "ss", "1", "source", InstallFault::Uninstallable),
+        (3, "uu", "1", "source", InstallFault::Unsure),
+    ];
+    assert_eq!(found, wanted);
+    assert!(!report.buildable);
+    let report = buildable(SourceKind::Sources, None, "amd64", &[], index, "")?;
+    assert!(report.buildable && report.packages.is_empty());
     Ok(())
 }
 

@@ -12,6 +12,10 @@ use Rattle.deb_diff.specs.declared.detail.Detail.{Detail}
 use Rattle.deb_diff.specs.declared.detail.Detail.TheVariants.{Fields, Values}
 use Rattle.deb_diff.specs.declared.kind.Kind.{Kind}
 use Rattle.deb_diff.specs.declared.kind.Kind.TheVariants as kinds
+use Rattle.deb_install.specs.SourceKinds.{doc_of as doc_built}
+use Rattle.deb_install.specs.declared.source_kind.SourceKind.{SourceKind}
+use Rattle.deb_install.specs.declared.source_kind.SourceKind.TheVariants as built
+use Rattle.debctl_ffi.specs.Buildable.{AsksNoSources, AsksSources}
 use Rattle.debctl_ffi.specs.Diffs.{ComparesNothing, IsNotCompared, detail_number}
 use Rattle.debctl_ffi.specs.Documents.{kind_number}
 use Rattle.debctl_ffi.specs.Health.{AsksNoSet, AsksSet}
@@ -71,3 +75,10 @@ neither kind (inr (inr (inr (inr most)))) = (λ is. omega (arith, most, is), λ 
 pub asks_a_set : (kind : ℕ) (members : Members) → AsksSet kind members → AsksNoSet kind → ⊥
 asks_a_set kind All asks none = (neither kind none).0 asks
 asks_a_set kind Installed asks none = (neither kind none).1 asks
+
+kinds_built : (kind : SourceKind) → AsksNoSources (kind_number (doc_built kind)) → ⊥
+kinds_built built.Source none = elim none [ inl e ↦ omega (arith, e) | inr others ↦ elim others [ inl e ↦ omega (arith, e) | inr most ↦ omega (arith, most) ] ]
+kinds_built built.Sources none = elim none [ inl e ↦ omega (arith, e) | inr others ↦ elim others [ inl e ↦ omega (arith, e) | inr most ↦ omega (arith, most) ] ]
+
+pub asks_sources : (number : ℕ) (kind : SourceKind) → AsksSources number kind → AsksNoSources number → ⊥
+asks_sources number kind asks none = kinds_built kind (subst AsksNoSources asks none)

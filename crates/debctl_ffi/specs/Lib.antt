@@ -11,6 +11,8 @@ pub mod Unmet
 pub mod Askers
 pub mod Health
 pub mod Installable
+pub mod Buildable
+pub mod Builders
 pub mod Fields
 pub mod Tables
 pub mod RelationParts

@@ -81,7 +81,7 @@ pub extern "C" fn deb_installable(
 }
 
 /// How long the search may take, if this is the most steps for one package.
-fn budget_of(steps: u32) -> Budget {
+pub(crate) fn budget_of(steps: u32) -> Budget {
     let one_search = if steps == 0 { STEPS } else { steps };
     Budget { one_search }
 }

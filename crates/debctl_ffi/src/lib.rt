@@ -18,6 +18,7 @@ mod answer;
 mod asker;
 mod blank_lines;
 mod buffer;
+mod buildable;
 mod details;
 mod diff;
 mod documents;

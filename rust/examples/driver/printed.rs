@@ -1,8 +1,9 @@
 //! The texts of answers, printed again from their values alone.
 
 use debctl::{
-    AllExplained, Alternative, Change, ChangeKind, Explanation, HealthFault, HealthReport,
-    InstallFault, InstallReport, Package, Report, UnmetReport, Verdict,
+    AllExplained, Alternative, BuildReport, Change, ChangeKind, Explanation, HealthFault,
+    HealthReport, InstallFault, InstallReport, NotInstallable, Package, Report, UnmetReport,
+    Verdict,
 };
 
 /// What has a text.
@@ -103,18 +104,29 @@ impl Printed for HealthReport {
     }
 }
 
+/// The lines of packages that can't be installed, or of source packages that can't be built.
+fn faults(packages: &[NotInstallable]) -> String {
+    let mut text = String::new();
+    for it in packages {
+        let word = match it.fault {
+            InstallFault::Uninstallable => "uninstallable",
+            InstallFault::Unsure => "unsure",
+            _ => "undecided",
+        };
+        text += &format!("{word} {}\n", package(&it.package));
+    }
+    text
+}
+
 impl Printed for InstallReport {
     fn printed(&self) -> String {
-        let mut text = String::new();
-        for it in &self.packages {
-            let word = match it.fault {
-                InstallFault::Uninstallable => "uninstallable",
-                InstallFault::Unsure => "unsure",
-                _ => "undecided",
-            };
-            text += &format!("{word} {}\n", package(&it.package));
-        }
-        text
+        faults(&self.packages)
+    }
+}
+
+impl Printed for BuildReport {
+    fn printed(&self) -> String {
+        faults(&self.packages)
     }
 }
 

@@ -220,3 +220,29 @@ pub fn installable(
         length
     )
 }
+
+/// `asked` is the kind of the file, and the budget.
+pub fn buildable(
+    asked: (u8, u32),
+    (target, profiles): (&[u8], &[Text]),
+    (index, text): (&[u8], &[u8]),
+    out: &mut [u8],
+    length: &mut usize,
+) -> Answer {
+    written!(
+        deb_buildable(
+            asked.0,
+            asked.1,
+            target.as_ptr(),
+            target.len(),
+            profiles.as_ptr(),
+            profiles.len(),
+            index.as_ptr(),
+            index.len(),
+            text.as_ptr(),
+            text.len()
+        ),
+        out,
+        length
+    )
+}

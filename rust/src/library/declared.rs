@@ -290,6 +290,21 @@ extern "C" {
         out_size: usize,
         length: *mut usize,
     ) -> Answer;
+    pub fn deb_buildable(
+        kind: u8,
+        budget: u32,
+        target: *const u8,
+        target_length: usize,
+        profiles: *const Text,
+        profile_count: usize,
+        index: *const u8,
+        index_length: usize,
+        text: *const u8,
+        text_length: usize,
+        out: *mut u8,
+        out_size: usize,
+        length: *mut usize,
+    ) -> Answer;
     pub fn deb_index_size() -> usize;
     pub fn deb_index_read(
         index: *mut Room,
