@@ -450,6 +450,16 @@ static void try_index(uint8_t kind, struct deb_text relation, struct deb_text te
     REQUIRE(!is_held || (agrees(one.answer, two.answer) && one.length == two.length));
     if (one.answer.status <= DEB_NO)
         try_rows(DEB_UNMET_LINES, one, DEB_YES);
+    WRITE(two, 2, 1, deb_buildable(kind, chosen % 3, ASK, text.bytes, text.length, relation.bytes, relation.length, out, room, length));
+    REQUIRE((two.answer.status == DEB_NO_KIND) == (kind != DEB_SOURCE && kind != DEB_SOURCES));
+    if (two.answer.status != DEB_NO_KIND) {
+        WRITE(one, 1, 1, deb_unmet(kind, 0, ASK, text.bytes, text.length, relation.bytes, relation.length, out, room, length));
+        REQUIRE(two.answer.status > DEB_NO ? agrees(one.answer, two.answer) : one.answer.status <= two.answer.status);
+        if (two.answer.status <= DEB_NO) {
+            REQUIRE(two.answer.count == one.answer.count && two.answer.status == (two.length > 0));
+            try_rows(DEB_INSTALLABLE_LINES, two, DEB_YES);
+        }
+    }
     WRITE(one, 1, 1, deb_unmet(DEB_PACKAGES, chosen >> 7, ASK, text.bytes, text.length, text.bytes, text.length, out, room, length));
     if (one.answer.status <= DEB_NO)
         try_rows(DEB_UNMET_LINES, one, DEB_YES);

@@ -122,6 +122,16 @@ static std::string uninstallable(const std::string &text, uint32_t budget = 0) {
     return std::to_string(answer.status) + ' ' + std::string(out.begin(), out.begin() + length);
 }
 
+// Which source packages of a text can't be built with the packages of another.
+static std::string unbuilt(const std::string &index, const std::string &text) {
+    std::vector<uint8_t> out(256);
+    size_t length = 0;
+    deb_answer answer = deb_buildable(DEB_SOURCES, 0, bytes("amd64"), 5, nullptr, 0, bytes(index),
+                                      index.size(), bytes(text), text.size(), out.data(),
+                                      out.size(), &length);
+    return std::to_string(answer.status) + ' ' + std::string(out.begin(), out.begin() + length);
+}
+
 int main() {
     const std::string text = "vERSION: 01.0-0\npackage:hello\nArchitecture: amd64\n";
     int failed = 0;
@@ -149,6 +159,10 @@ int main() {
     failed += uninstallable(text) != "0 " || uninstallable(text + "\n" + text, 1) != "0 " ||
               uninstallable(text + "Depends: aa\n\n" + text) !=
                   "1 uninstallable 1 hello 1.0 amd64\n";
-    std::printf("cpp: %d passed, %d failed\n", 14 - failed, failed);
+    const std::string source = "Package: ss\nVersion: 1\n";
+    failed += unbuilt(text, source) != "1 uninstallable 1 ss 1 source\n" ||
+              unbuilt(text + "Provides: build-essential\n", source) != "0 " ||
+              unbuilt(text, "x") != "3 " || unbuilt("x", "x") != "2 ";
+    std::printf("cpp: %d passed, %d failed\n", 15 - failed, failed);
     return failed != 0;
 }

@@ -18,7 +18,7 @@ struct file {
 
 /* What is asked: the number, three files, and all further files as profiles. The number is that of a
  * kind, and with more that is asked: 8 times a detail or whether Recommends is asked, and 16 times a
- * budget. */
+ * budget; 8 times the budget of source packages. */
 struct question {
     const char *call;
     long long number;
@@ -99,6 +99,10 @@ static struct deb_answer ask(const struct question *q, uint8_t *out, size_t room
         return deb_installable((uint8_t)(q->number % 8), (uint8_t)(q->number / 8 % 2),
                                (uint32_t)(q->number / 16), target->bytes, target->length,
                                first->bytes, first->length, out, room, length);
+    if (calls(q, "buildable"))
+        return deb_buildable((uint8_t)(q->number % 8), (uint32_t)(q->number / 8), target->bytes,
+                             target->length, q->profiles, q->profile_count, first->bytes,
+                             first->length, second->bytes, second->length, out, room, length);
     return ask_file(q, out, room, length);
 }
 
@@ -136,6 +140,7 @@ static int rows_agree(const struct question *q, const uint8_t *text, size_t leng
                    : calls(q, "unmet") ? DEB_UNMET_LINES
                    : calls(q, "healthy") ? DEB_HEALTH_LINES
                    : calls(q, "installable") ? DEB_INSTALLABLE_LINES
+                   : calls(q, "buildable") ? DEB_INSTALLABLE_LINES
                    : calls(q, "diff")  ? DEB_DIFF_LINES
                                        : DEB_EXPLANATION;
     struct deb_row *rows;

@@ -77,6 +77,12 @@ static const char *uninstallable =
     "Package: ee\nVersion: 1\nArchitecture: all\nProvides: mta (= 2), other\n\n"
     "Package: ff\nVersion: 1\nArchitecture: all\nDepends: zz [linux-any]\n";
 
+/* The same, for source packages. */
+static const char *sources =
+    "Package: ss\nVersion: 01\nBuild-Depends: bb | cc, dd | mta, gg <!nocheck>\n\n"
+    "Package: tt\nVersion: 2\nBuild-Depends-Indep: ff\nBuild-Conflicts: aa\n"
+    "Build-Conflicts-Arch: bb, mta (= 2)\n";
+
 static uint8_t out[1024];
 static size_t length;
 
@@ -230,6 +236,10 @@ static struct deb_answer call(int which) {
     case 33:
         return deb_installable(DEB_STATUS, 1, 0, bytes("amd64"), 5, bytes(installed),
                                strlen(installed), out, sizeof out, &length);
+    case 34:
+        return deb_buildable(DEB_SOURCES, 0, bytes("amd64"), 5, &profile, 1, bytes(uninstallable),
+                             strlen(uninstallable), bytes(sources), strlen(sources), out, sizeof out,
+                             &length);
     default:
         return deb_query(bytes("amd64"), 5, &profile, 1, bytes("hello (>= 1) | xx, mta"), 22, text,
                          size, out, sizeof out, &length);
@@ -249,7 +259,7 @@ int main(void) {
                                   "relation_parts",    "reader_feed", "reader_feed, refused",
                                   "index_new",         "healthy",     "healthy, installed",
                                   "installable",       "installable, installed",
-                                  "query"};
+                                  "buildable",         "query"};
     enum { CALLS = sizeof names / sizeof *names };
     static const int statuses[CALLS] = {
         DEB_YES, DEB_YES, DEB_YES, DEB_YES, DEB_REFUSED, DEB_YES,
@@ -257,7 +267,7 @@ int main(void) {
         DEB_YES, DEB_YES, DEB_NO,  DEB_NO,  DEB_REFUSED, DEB_YES,
         DEB_REFUSED, DEB_NO,  DEB_NO,  DEB_YES, DEB_REFUSED, DEB_YES,
         DEB_REFUSED, DEB_YES, DEB_YES, DEB_YES, DEB_REFUSED, DEB_YES,
-        DEB_NO,  DEB_NO,  DEB_NO,  DEB_NO,  DEB_YES,
+        DEB_NO,  DEB_NO,  DEB_NO,  DEB_NO,  DEB_NO,  DEB_YES,
     };
     struct deb_answer reading;
     int which, passed = 0, failed = 0;

@@ -104,6 +104,28 @@ def states():
     )
 
 
+def not_buildable():
+    """Whether a report on which source packages can't be built has each with its verdict."""
+    index = "\n".join([
+        HELLO.replace("hello", "build-essential"), HELLO.replace("hello", "aa") + "Conflicts: cc\n",
+        HELLO.replace("hello", "bb") + "Conflicts: cc\n", HELLO.replace("hello", "cc") + "Provides: mm\n",
+    ])
+    sources = "".join(
+        f"Package: {name}\nVersion: 1:2\nBuild-Depends: {needs}\n\n"
+        for name, needs in [("ss", "aa | bb, mm"), ("tt", "cc"), ("uu", "zz [linux-any]")]
+    )
+    report, brief = debctl.buildable(index, sources, "amd64"), debctl.buildable(index, sources, "amd64", budget=1)
+    ss = NotInstallable("uninstallable", 1, "ss", "1:2", "source")
+    uu = NotInstallable("unsure", 3, "uu", "1:2", "source")
+    whole = debctl.buildable(index, "", "amd64")
+    return (
+        not report and not brief and bool(whole) and whole == (True, "") and whole.packages == []
+        and report.packages == [ss, uu]
+        and brief.packages in ([ss, uu], [ss._replace(verdict="undecided"), uu])
+        and all(printed(it) == it.text.encode() for it in (report, brief, whole))
+    )
+
+
 def not_installable():
     """Whether a report on which packages can't be installed has each with its verdict."""
     choices = "\n".join([
@@ -353,7 +375,7 @@ def texts():
 
 TESTS = {
     "groups": groups(), "reports": reports(), "health": health(), "states": states(),
-    "not installable": not_installable(), "changes": changes(), "explanations": explanations(), "parts": parts(),
+    "not installable": not_installable(), "not buildable": not_buildable(), "changes": changes(), "explanations": explanations(), "parts": parts(),
     "versions and texts": versions_and_texts(), "spelled": spelled(),
     "profiles": profiles(), "one alternative": one_alternative(), "details": details(),
     "pieces": pieces(), "texts": texts(),

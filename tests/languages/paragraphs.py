@@ -220,10 +220,14 @@ def refused_sets():
     )
 
 
+def spellings(text):
+    """A text in each of its types."""
+    return [text, text.encode(), bytearray(text.encode()), memoryview(text.encode())]
+
+
 def installable():
     """Whether each package that can't be installed has the line that the program prints of it, from each
     type of text, and by the packages of each kind of file."""
-    texts = [SET, SET.encode(), bytearray(SET.encode()), memoryview(SET.encode())]
     removed = "Status: deinstall ok config-files\nPackage: bb\nVersion: 1\nArchitecture: all\n\n"
     last = "Status: install ok installed\nPackage: aa\nVersion: 01\nArchitecture: all\nRecommends: bb\n"
     aa, status = "uninstallable 1 aa 1 amd64\n", removed + last
@@ -231,7 +235,7 @@ def installable():
         all(
             debctl.installable(it, "amd64") == debctl.installable(it, b"amd64", recommends=True)
             == debctl.installable(it, memoryview(b"amd64"), budget=1) == (False, aa)
-            for it in texts
+            for it in spellings(SET)
         )
         and debctl.installable(status, "amd64", kind="status") == (True, "")
         and debctl.installable(status, "amd64", kind="status", recommends=True)
@@ -239,6 +243,54 @@ def installable():
         and debctl.installable(status, "amd64", recommends=True) == (True, "")
         and debctl.installable("", "amd64") == debctl.installable("", "amd64", kind="status")
         == (True, "")
+    )
+
+
+def buildable():
+    """Whether each spelling of the files, of the target and of the profiles has the lines of the sources."""
+    index = "Package: build-essential\nVersion: 1\nArchitecture: all\n"
+    source = "Format: 1.0\nSource: ss\nVersion: 1.0-0\nBuild-Depends: zz <!nocheck>\nBuild-Conflicts: build-essential <cross>\n"
+    sources = source.replace("Source", "Package")
+    line = "uninstallable 1 ss 1.0 source\n"
+    ask = functools.partial(debctl.buildable, index)
+    return (
+        all(
+            debctl.buildable(one, two, "amd64") == debctl.buildable(one, two, b"amd64", (), budget=1)
+            == debctl.buildable(one, two, memoryview(b"amd64"), iter(["cross"])) == (False, line)
+            for one in spellings(index) for two in spellings(sources)
+        )
+        and all(ask(it, "amd64", [b"nocheck"], kind=kind) == (True, "")
+                for it, kind in [(source, "source"), (sources, "sources")])
+        and ask(source, "amd64", {"cross": 1, "nocheck": 2}, kind="source") == (False, line)
+        and ask("", "amd64") == debctl.buildable("", "", "amd64") == (True, "")
+        and debctl.buildable("", sources, "amd64", ["nocheck"]) == (False, line)
+    )
+
+
+def refused_buildable():
+    """Whether files, a target, profiles, a kind and a budget that are wrong have their exceptions."""
+    ask, wrong = functools.partial(error, debctl.buildable), CONTROL.replace("01", "1-")
+    sources = "Package: ss\nVersion: 1-\n"
+    found = [
+        ask(wrong, sources, "amd64"), ask(CONTROL, sources, "amd64"), ask("x", "x", "any"),
+        ask("", "", "amd64", ["a b"]), ask("", "", "amd64", kind="source"),
+    ]
+    others, budgets = ["binary", "packages", "status", "any"], [0, -1, 1 << 32, 1 << 64]
+    return (
+        [(it.name, it.line, it.second, it.field) for it in found] == [
+            ("BadVersion", 2, False, "Version"), ("BadVersion", 2, True, "Version"),
+            ("BadEnvironment", 0, False, None), ("BadEnvironment", 0, False, None),
+            ("NoParagraph", 1, True, None),
+        ]
+        and [str(ask("x", "x", "any", kind=it)) for it in others]
+        == [f"there are no source packages of {it!r}" for it in others]
+        and isinstance(ask("x", "x", "any", kind="index"), ValueError)
+        and [str(ask("x", "x", "any", budget=it)) for it in budgets]
+        == [f"no budget: {it}" for it in budgets]
+        and all(isinstance(ask("x", "x", "any", budget=it), TypeError) for it in (None, "1", 1.0))
+        and all(isinstance(ask("", "", "amd64", it), TypeError) for it in ("nocheck", b"nocheck", [1], 1))
+        and isinstance(ask("", "", "amd64", [], "sources"), TypeError)
+        and debctl.buildable("", "", "amd64", budget=(1 << 32) - 1).buildable
     )
 
 
@@ -310,6 +362,8 @@ TESTS = {
     "healthy, no target": [error(debctl.healthy, "x", it).line for it in ("any", "all", "")] == [0] * 3,
     "installable": installable(),
     "installable, refused": refused_installable(),
+    "buildable": buildable(),
+    "buildable, refused": refused_buildable(),
     "paragraphs": read(FILE)
     == [(2, {"Package": "hello", "Depends": "aa,\n bb"}), (6, {"x": ""})],
     "no paragraphs": read("") == read("\n \n") == [],

@@ -1,6 +1,8 @@
 """The texts of the Python module's objects, printed again from what the objects say alone."""
 
-from debctl import AllExplained, Explanation, HealthReport, InstallReport, Report, UnmetReport
+from debctl import (
+    AllExplained, BuildReport, Explanation, HealthReport, InstallReport, Report, UnmetReport,
+)
 
 
 def of_package(package):
@@ -90,7 +92,7 @@ def printed(it):
         lines = [of_unmet(group) for group in it.groups]
     elif isinstance(it, HealthReport):
         lines = [of_health(reason) for reason in it.reasons]
-    elif isinstance(it, InstallReport):
+    elif isinstance(it, (BuildReport, InstallReport)):
         lines = [of_not_installable(package) for package in it.packages]
     elif isinstance(it, Explanation):
         lines = of_explanation(it)

@@ -11,6 +11,7 @@ LONGEST_RELATION = 16_777_216  # in a file that the program reads; the libraries
 FLAGS = ["--recommends", "--installed", "--all", "--why", "--values"]
 VALUES = [
     "--kind", "--arch", "--profiles", "--relation", "--version-text", "--relation-from", "--budget",
+    "--index",
 ]
 
 
@@ -91,8 +92,23 @@ def installable_question(options, others, given):
     budget = options.pop("--budget", "0")
     if not budget.isdecimal() or int(budget) > 1_000_000_000:
         raise Unknown
+    kind = options.pop("--kind", "packages")
+    if kind in ("source", "sources"):
+        return buildable_question(kind, int(budget), options, others, given)
+    if kind != "packages":
+        raise Unknown
     _, number, texts = healthy_question(options, others, given)
     return "installable", number + 16 * int(budget), texts
+
+
+def buildable_question(kind, budget, options, others, given):
+    """A question which source packages can be built: its number is that of the kind, and 8 for each step
+    of the budget, if there is one; its texts are the target, the index, the file and the profiles."""
+    index = options.pop("--index")
+    if len(others) != 1 or [index] == others == ["-"]:
+        raise Unknown
+    texts = [bytes_of(options.pop("--arch")), read(index, given), read(others[0], given)]
+    return "buildable", KINDS.index(kind) + 8 * budget, texts + profiles_of(options)
 
 
 def query_question(options, others, given):

@@ -40,6 +40,7 @@ SHORT = "a:\n\n" * COUNT
 WRONG = index("1_")
 NEEDS = ",".join(f"a{at}|b{at}(<1)" for at in range(COUNT))
 SOURCES = f"Package: ss\nVersion: 1\nBuild-Depends:{NEEDS}\n"
+UNBUILT = "".join(f"Package: s{at}\nVersion: 1\n\n" for at in range(COUNT))
 NAMES = ", ".join(f"p{at}" for at in range(200))
 REAL = 50 * ((Path(__file__).parents[2] / "examples/Packages").read_text() + "\n")
 LONG = "a: " + "x" * 1000000 + "\n"
@@ -70,6 +71,7 @@ TESTS = {
     "installable, of a status file": (
         lambda: debctl.installable(STATUS, "amd64", kind="status", recommends=True).packages, 2,
     ),
+    "buildable": (lambda: debctl.buildable(INDEX, UNBUILT, "amd64").packages, 2),
     "Index": (lambda: debctl.Index(INDEX), 2),  # and frees it
     "Index.query": (lambda: LOADED.query(NAMES, "amd64").groups, 2),
     "Index.unmet": (lambda: LOADED.unmet(INDEX, "amd64").groups, 2),

@@ -327,6 +327,95 @@ static void try_installable(void) {
         try_set(ask_installable, &all[at]);
 }
 
+/* ---- source packages */
+
+static const char toolchain[] =
+    "Package: build-essential\nVersion: 1\nArchitecture: amd64\n\n"
+    "Package: aa\nVersion: 2\nArchitecture: all\nConflicts: bb\n\n"
+    "Package: bb\nVersion: 1\nArchitecture: amd64\nProvides: mm\n";
+static const char built[] =
+    "Package: ss\nVersion: 01\nBuild-Depends: aa\nBuild-Depends-Indep: mm <!nodoc>\n\n"
+    "Package: tt\nVersion: 1:0-0\nBuild-Depends-Arch: aa | bb\n\n"
+    "Package: uu\nVersion: 3\nBuild-Depends: zz [linux-any]\n\n"
+    "Package: vv\nVersion: 4\nBuild-Conflicts: build-essential <nodoc>\n";
+static const char described[] =
+    "Format: 1.0\nSource: ss\nVersion: 1.0-0\nBuild-Depends: zz\n";
+
+/* What is asked of source packages, and the answer; no lines are written if these are NULL. */
+struct of_sources {
+    int kind;
+    const char *target, *profile, *index, *text;
+    int status, code;
+    uint64_t line, count;
+    const char *lines;
+};
+
+static struct deb_answer ask_buildable(const struct of_sources *q, uint8_t *out, size_t room,
+                                       size_t *length) {
+    struct deb_text profile = {NULL, 0};
+    size_t index = strlen(q->index), text = strlen(q->text);
+    if (q->profile) {
+        profile.bytes = bytes(q->profile);
+        profile.length = strlen(q->profile);
+    }
+    return deb_buildable((uint8_t)q->kind, 0, bytes(q->target), strlen(q->target),
+                         q->profile ? &profile : NULL, q->profile != NULL,
+                         index ? bytes(q->index) : NULL, index, text ? bytes(q->text) : NULL, text,
+                         out, room, length);
+}
+
+static void try_sources(const struct of_sources *q) {
+    size_t whole = q->lines ? strlen(q->lines) : 0, room, length;
+    for (room = whole ? whole - 1 : 0; room <= whole + 1; room++) {
+        uint8_t *out = malloc(room + 1);
+        struct deb_answer answer;
+        memset(out, 7, room + 1);
+        length = 99;
+        answer = ask_buildable(q, out, room, &length);
+        IS(length == whole);
+        if (!q->lines)
+            IS(is(answer, q->status, q->code, q->line, 0) && untouched(out, room + 1));
+        else if (room < whole)
+            IS(is(answer, DEB_NO_ROOM, 0, 0, 0) && untouched(out, room + 1));
+        else
+            IS(is(answer, q->status, 0, 0, q->count) && memcmp(out, q->lines, whole) == 0 &&
+               untouched(out + whole, room + 1 - whole));
+        free(out);
+    }
+}
+
+static void try_buildable(void) {
+    static const struct of_sources all[] = {
+        {3, "amd64", NULL, toolchain, built, DEB_NO, 0, 0, 4,
+         "uninstallable 1 ss 1 source\nunsure 3 uu 3 source\n"},
+        {3, "amd64", "nodoc", toolchain, built, DEB_NO, 0, 0, 4,
+         "unsure 3 uu 3 source\nuninstallable 4 vv 4 source\n"},
+        {3, "amd64", NULL, "", "Package: ss\nVersion: 1\n", DEB_NO, 0, 0, 1,
+         "uninstallable 1 ss 1 source\n"},
+        {3, "i386", NULL, toolchain, "Package: ss\nVersion: 1\n", DEB_NO, 0, 0, 1,
+         "uninstallable 1 ss 1 source\n"},
+        {3, "amd64", NULL, toolchain, "Package: ss\nVersion: 1\n", DEB_YES, 0, 0, 1, ""},
+        {3, "amd64", NULL, "", "", DEB_YES, 0, 0, 0, ""},
+        {2, "amd64", NULL, toolchain, described, DEB_NO, 0, 0, 1,
+         "uninstallable 1 ss 1.0 source\n"},
+        {2, "amd64", NULL, toolchain, "Format: 1.0\nSource: ss\nVersion: 1\n", DEB_YES, 0, 0, 1, ""},
+        {3, "any", NULL, "x", "x", DEB_REFUSED, DEB_BAD_ENVIRONMENT, 0, 0, NULL},
+        {3, "amd64", "", "x", "x", DEB_REFUSED, DEB_BAD_ENVIRONMENT, 0, 0, NULL},
+        {3, "amd64", NULL, "\nx", "x", DEB_REFUSED, DEB_NO_COLON, 2, 0, NULL},
+        {3, "amd64", NULL, toolchain, "\n\nx", DEB_SECOND_REFUSED, DEB_NO_COLON, 3, 0, NULL},
+        {2, "amd64", NULL, toolchain, "", DEB_SECOND_REFUSED, DEB_NO_PARAGRAPH, 1, 0, NULL},
+        {2, "amd64", NULL, toolchain, built, DEB_SECOND_REFUSED, DEB_MISSING_FIELD, 1, 0, NULL},
+        {0, "amd64", NULL, toolchain, built, DEB_NO_KIND, 0, 0, 0, NULL},
+        {1, "any", NULL, "x", "x", DEB_NO_KIND, 0, 0, 0, NULL},
+        {4, "amd64", "", "", "", DEB_NO_KIND, 0, 0, 0, NULL},
+        {5, "amd64", NULL, status_file, built, DEB_NO_KIND, 0, 0, 0, NULL},
+        {255, "amd64", NULL, toolchain, built, DEB_NO_KIND, 0, 0, 0, NULL},
+    };
+    size_t at;
+    for (at = 0; at < sizeof all / sizeof *all; at++)
+        try_sources(&all[at]);
+}
+
 /* aa needs one of bb and cc, and one of dd and ee; neither of the first goes with one of the others. So
  * no choice is the right one. */
 static const char choices[] =
@@ -540,6 +629,7 @@ int main(void) {
     try_unmet();
     try_healthy();
     try_installable();
+    try_buildable();
     try_budgets();
     try_fields();
     try_refusals();

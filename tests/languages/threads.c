@@ -57,6 +57,7 @@ static void *run(void *wrong) {
         struct deb_refusal refusal;
         size_t length;
         const uint8_t *text = bytes(hello);
+        const char *source = "Package: aa\nVersion: 1-2\n";
         size_t size = strlen(hello);
         struct deb_comparison order = deb_version_compare(bytes("1~"), 2, bytes("1"), 1);
         *(int *)wrong += order.status != DEB_YES || order.order >= 0;
@@ -91,6 +92,10 @@ static void *run(void *wrong) {
         *(int *)wrong += deb_installable(DEB_PACKAGES, 0, 0, bytes("amd64"), 5, text, size, out,
                                          sizeof out, &length)
                              .status != DEB_YES;
+        *(int *)wrong += deb_buildable(DEB_SOURCES, 0, bytes("amd64"), 5, NULL, 0, text, size,
+                                       bytes(source), strlen(source), out, sizeof out, &length)
+                                 .status != DEB_NO ||
+                         length != 30;
         *(int *)wrong += ask_more(text, size);
     }
     return NULL;

@@ -12,7 +12,7 @@ from laws.documents import alternative, made, mistaken, read, text_of
 from laws.reasons import FIELDS, Fault, fault_of, nearly
 from laws.refusals import REFUSAL, AllRefusals
 from laws.spelling import planted, respelled, spoiled
-from laws.universes import NAMES, package, universe
+from laws.universes import NAMES, package, sources, universe
 
 SECONDS = 10
 REASON_LINE = re.compile(rb"^(name|place|reason): (.*)$", re.M)
@@ -138,6 +138,9 @@ class Asked:
         yield from self.of_planted_faults()
         if case.kind == "status":
             yield from self.of_installed(normal)
+        if case.kind in ("source", "sources"):
+            yield from self.of_source_file(normal)
+        yield from self.of_sources()
 
     def of_check(self, normal):
         """`check` and `normalise` agree, and the number of paragraphs is that of the text."""
@@ -368,6 +371,84 @@ class Asked:
         answer = self.installable(b"\n".join(paragraphs), *made.words, "--installed")
         if answer != Answer(lines, b"", int(bool(lines))):
             yield f"installable --installed of {paragraphs!r}: {shown(answer)}, and not {lines!r}"
+
+    def buildable(self, index, text, *words) -> Answer:
+        """What `installable` answers of source packages."""
+        return self.program.run(["installable", *words], [index, text])
+
+    def of_source_file(self, normal):
+        """`installable` of source packages has the refusals that `check` has, and then no line. An
+        accepted file has the lines of its normal text, and one of each source package with a line of
+        `unmet`, as that says."""
+        words = ["--arch", "amd64", "--kind", self.case.kind]
+        implied = b"Package: build-essential\nVersion: 1\nArchitecture: all\n\n"
+        index = implied + universe(self.case.random).text
+        answer = self.buildable(index, self.case.text, *words, "--index")
+        if normal.status == 2:
+            if answer != Answer(b"", b"second: " + normal.err, 2):
+                yield f"installable: {shown(answer)}, and not {shown(normal)}"
+            return
+        again = self.buildable(index, normal.out, *words, "--index")
+        if answer.status not in (0, 1) or answer != again:
+            yield f"installable with {index!r}: {shown(answer)}; of normal text {shown(again)}"
+        found = words_of(answer.out)
+        for line in LINE.findall(self.program.run(["unmet", *words], [index, self.case.text]).out):
+            word, number, *_ = line.split(b" ")
+            if found.get(int(number)) not in ({b"uninstallable"} if word == b"unmet" else MAYBE):
+                yield f"installable with {index!r}: {found!r}, but unmet has {line!r}"
+
+    def of_sources(self):
+        """Which source packages can be built with a small universe is what trying each set says. That
+        doesn't depend on the spelling, and each is asked by itself; with steps of one some answers are
+        missing, and none is another one."""
+        random = self.case.random
+        made = sources(random)
+        words = made.solved()
+        index, lines = made.universe.text, made.lines(words)
+        answer = self.buildable(index, made.text, *made.words)
+        if answer != Answer(lines, b"", int(bool(lines))):
+            told = f"installable {made.words} of {index!r} and {made.text!r}"
+            yield f"{told}: {shown(answer)}, and not {lines!r}"
+        law = random.choice((self.of_sources_in_order, self.of_sources_budget, self.of_sources_with_more))
+        yield from law(made, words)
+
+    def of_sources_in_order(self, made, words):
+        """In another spelling the lines are the same, in another order they come in that."""
+        random = self.case.random
+        order = random.sample(range(len(words)), len(words))
+        there = replace(made, sources=[made.sources[at] for at in order])
+        lines = there.lines([words[at] for at in order])
+        text = respelled(random, "sources", read(there.text))
+        index = respelled(random, "packages", read(made.universe.text))
+        answer = self.buildable(index, text, *made.words)
+        if answer != Answer(lines, b"", int(bool(lines))):
+            yield f"installable of {index!r} and {text!r}: {shown(answer)}, and not {lines!r}"
+
+    def of_sources_budget(self, made, words):
+        """With few steps each word is that with many, or `undecided`."""
+        budget = self.case.random.choice(("1", "2", "1000000000"))
+        index = made.universe.text
+        answer = self.buildable(index, made.text, "--budget", budget, *made.words)
+        found = words_of(answer.out)
+        few = [found.get(number, b"") for number in range(1, len(words) + 1)]
+        is_whole = budget == "1000000000"
+        if any(it != word and (is_whole or it != b"undecided") for it, word in zip(few, words)):
+            yield f"--budget {budget} of {index!r} and {made.text!r}: {shown(answer)}, and not {words!r}"
+
+    def of_sources_with_more(self, made, words):
+        """A package more, at the end, makes no source package uninstallable. As installed packages of a
+        status file they have the same lines."""
+        random = self.case.random
+        more = made.universe.text + b"\n" + package(random, NAMES).paragraph()
+        found = words_of(self.buildable(more, made.text, *made.words).out)
+        for number, word in enumerate(words, 1):
+            if found.get(number, b"") not in {b"": {b""}, b"unsure": {b"", b"unsure"}}.get(word, ANY):
+                yield f"installable of {more!r} and {made.text!r}: {found!r}; with one less {words!r}"
+        status = b"\n".join(it.paragraph(b"Status: hold ok installed") for it in made.universe.packages)
+        lines = made.lines(words)
+        answer = self.buildable(status, made.text, "--installed", *made.words)
+        if answer != Answer(lines, b"", int(bool(lines))):
+            yield f"--installed of {status!r} and {made.text!r}: {shown(answer)}, and not {lines!r}"
 
     def of_bound(self):
         """A package meets a bound where `compare` says so of its version."""

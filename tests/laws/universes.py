@@ -1,11 +1,11 @@
-"""Small sets of packages for the fuzzer, and which of them can be installed: docs/FORMAT.md, section
-11, read once more, by trying each subset in each reading of its lists. Nothing here follows the code
-of the crates.
+"""Small sets of packages for the fuzzer, and which of them can be installed; and source packages, and
+which of them can be built: docs/FORMAT.md, section 11, read once more, by trying each subset in each
+reading of its lists. Nothing here follows the code of the crates.
 """
 import re
-from dataclasses import dataclass, field
+from dataclasses import dataclass, field, replace
 from itertools import product
-from typing import Dict, Iterator, List, NamedTuple, Optional, Tuple
+from typing import Dict, Iterator, List, NamedTuple, Optional, Set, Tuple
 
 from laws.documents import OPERATORS
 
@@ -14,7 +14,11 @@ PROVIDED = (b"vv", b"ww")
 # Their canonical texts are these.
 VERSIONS = (b"1", b"1.0", b"1.0~rc1-1", b"2.10-3", b"1:0", b"1.0+b1")
 LISTS = (b"amd64", b"i386", b"linux-any", b"any", b"linux-i386")
-FORMULAS = {b"": True, b" <nocheck>": False, b" <!nocheck>": True, b" <nocheck> <!stage1 !x>": True}
+# Each formula, and whether it holds: without profiles, and with nocheck.
+FORMULAS = {
+    b"": (True, True), b" <nocheck>": (False, True), b" <!nocheck>": (True, False),
+    b" <nocheck> <!stage1 !x>": (True, True),
+}
 # How many lists may be read in two ways.
 MOST_OPEN = 3
 NEEDED = (b"Pre-Depends", b"Depends")
@@ -23,6 +27,15 @@ EXCLUDING = (b"Conflicts", b"Breaks")
 COUNTS = {
     b"Depends": (0, 1, 1, 2), b"Pre-Depends": (0, 0, 0, 1), b"Recommends": (0, 0, 0, 1),
     b"Conflicts": (0, 0, 0, 1, 1, 2), b"Breaks": (0, 0, 0, 1),
+}
+# The same of a source package.
+BUILT_WITH = {
+    b"Build-Depends": (0, 1, 1, 1, 2), b"Build-Depends-Arch": (0, 0, 0, 1),
+    b"Build-Depends-Indep": (0, 0, 0, 1),
+}
+BUILT_WITHOUT = {
+    b"Build-Conflicts": (0, 0, 1), b"Build-Conflicts-Arch": (0, 0, 0, 0, 1),
+    b"Build-Conflicts-Indep": (0, 0, 0, 0, 1),
 }
 PART = re.compile(rb"([^0-9]*)([0-9]*)")
 END = ((0,), 0)
@@ -48,13 +61,14 @@ class Alternative(NamedTuple):
             text += b" [%s]" % b" ".join(sign + name for name in names)
         return text + self.formula
 
-    def applies(self, target: bytes, holds: bool) -> bool:
+    def applies(self, target: bytes, holds: bool, nocheck: bool) -> bool:
         """Whether it applies, if its list holds the target where that is open."""
+        is_meant = FORMULAS[self.formula][nocheck]
         if not self.names:
-            return FORMULAS[self.formula]
+            return is_meant
         sign, names = self.names
         is_named = target in names or (self.is_open(target) and holds)
-        return FORMULAS[self.formula] and is_named != (sign == b"!")
+        return is_meant and is_named != (sign == b"!")
 
     def is_open(self, target: bytes) -> bool:
         """Whether its list may be read as holding the target or not."""
@@ -164,11 +178,12 @@ def meets(version: bytes, bound: Optional[Tuple[bytes, bytes]]) -> bool:
 
 @dataclass
 class Universe:
-    """Packages, and the architecture and the fields that are asked."""
+    """Packages, and the architecture, the fields and the profile that are asked."""
 
     packages: List[Package]
     native: bytes
     recommends: bool
+    nocheck: bool = False
 
     @property
     def text(self) -> bytes:
@@ -180,15 +195,19 @@ class Universe:
         """The options that ask for it."""
         return ["--arch", self.native.decode(), *["--recommends"] * self.recommends]
 
+    @property
     def needed(self) -> Tuple[bytes, ...]:
         """The fields that a package needs."""
         return (*NEEDED, *[b"Recommends"] * self.recommends)
 
     def open_lists(self) -> List[Tuple[int, bytes, int, int]]:
         """Where the lists are that may be read in two ways."""
+        return [it for number, one in enumerate(self.packages) for it in self.open_in(number, one)]
+
+    def open_in(self, number: int, package: Package) -> List[Tuple[int, bytes, int, int]]:
+        """Where those of a package with this number are."""
         return [
             (number, name, at, nth)
-            for number, package in enumerate(self.packages)
             for name, groups in package.relations.items()
             for at, group in enumerate(groups)
             for nth, it in enumerate(group)
@@ -200,7 +219,7 @@ class Universe:
         powers of two of its packages."""
         needs, exclusions = [], []
         for number, package in enumerate(self.packages):
-            needs.append([*self.needs(number, package, held)])
+            needs.append([*self.needs(number, package, self.needed, held)])
             exclusions.append(self.exclusions(number, package, held))
         for them in range(1 << len(self.packages)):
             members = [it for it in range(len(self.packages)) if them >> it & 1]
@@ -213,39 +232,41 @@ class Universe:
         target = package.target(self.native)
         for at, group in enumerate(package.relations.get(name, ())):
             places = ((number, name, at, nth) for nth in range(len(group)))
-            yield [it for it, place in zip(group, places) if it.applies(target, place in held)]
+            yield [it for it, place in zip(group, places) if it.applies(target, place in held, self.nocheck)]
 
-    def needs(self, number: int, package: Package, held) -> Iterator[int]:
-        """The packages that meet each group of a package that isn't ignored."""
+    def needs(self, number: int, package: Package, names, held) -> Iterator[int]:
+        """The packages that meet each group in these fields of a package that isn't ignored."""
         target = package.target(self.native)
-        for name in self.needed():
+        for name in names:
             for group in self.applying(number, package, name, held):
                 if group:
                     yield self.those(lambda it: any(it.fits(one, target, self.native) for one in group))
 
     def exclusions(self, number: int, package: Package, held) -> int:
         """The packages that can't be in a set with a package because of it."""
-        unwanted = [
-            it for name in EXCLUDING for group in self.applying(number, package, name, held) for it in group
-        ]
-        excluded = self.those(lambda it: any(package.excludes(one, it, self.native) for one in unwanted))
         same_name = self.those(lambda it: it.name == package.name and not package.is_beside(it, self.native))
-        return excluded | same_name & ~(1 << number)
+        return self.excluded(number, package, EXCLUDING, held) | same_name & ~(1 << number)
+
+    def excluded(self, number: int, package: Package, names, held) -> int:
+        """The packages that these fields of a package exclude."""
+        unwanted = [
+            it for name in names for group in self.applying(number, package, name, held) for it in group
+        ]
+        return self.those(lambda it: any(package.excludes(one, it, self.native) for one in unwanted))
 
     def those(self, are) -> int:
         """The packages for which a test holds."""
         return sum(1 << at for at, it in enumerate(self.packages) if are(it))
 
+    def found(self) -> Tuple[Set[int], Set[int]]:
+        """The sets that are healthy in every reading, and those that are in one."""
+        found = [{*self.healthy_sets(held)} for held in readings(self.open_lists())]
+        return set.intersection(*found), set.union(*found)
+
     def solved(self) -> Tuple[List[bytes], bool]:
         """The word of each package, which is empty if it can be installed, and whether all of them
         are a healthy set."""
-        places = self.open_lists()
-        readings = [
-            {place for place, holds in zip(places, choice) if holds}
-            for choice in product((False, True), repeat=len(places))
-        ]
-        found = [{*self.healthy_sets(held)} for held in readings]
-        in_every, in_one = set.intersection(*found), set.union(*found)
+        in_every, in_one = self.found()
         words = [
             b"" if any(them >> at & 1 for them in in_every)
             else b"unsure" if any(them >> at & 1 for them in in_one)
@@ -261,6 +282,59 @@ class Universe:
             for number, (word, it) in enumerate(zip(words, self.packages), 1)
             if word
         )
+
+
+def readings(places) -> List[set]:
+    """The open lists that hold the target, in each reading of those at these places."""
+    return [
+        {place for place, holds in zip(places, choice) if holds}
+        for choice in product((False, True), repeat=len(places))
+    ]
+
+
+@dataclass
+class Sources:
+    """Source packages, and those with which they are built."""
+
+    sources: List[Package]
+    universe: Universe
+
+    @property
+    def text(self) -> bytes:
+        """They as an index of source packages."""
+        return b"\n".join(it.paragraph().replace(b"Architecture: source\n", b"") for it in self.sources)
+
+    @property
+    def words(self) -> List[str]:
+        """The options that ask for them; the index comes next, and then their file."""
+        profiles = ["--profiles", "nocheck"] * self.universe.nocheck
+        arch = self.universe.native.decode()
+        return ["--arch", arch, *profiles, "--kind", "sources", "--index"]
+
+    def sets_with(self, source: Package, sets: Set[int], held) -> Set[int]:
+        """Those of some sets that can build a source package, if these open lists hold the target. It
+        has no name among packages."""
+        implied = Alternative(b"build-essential", b"native", None, None, b"")
+        asked, native = self.universe, self.universe.native
+        needs = [asked.those(lambda it: it.fits(implied, native, native))]
+        needs += asked.needs(-1, source, BUILT_WITH, held)
+        excluded = asked.excluded(-1, replace(source, name=b""), BUILT_WITHOUT, held)
+        return {them for them in sets if not excluded & them and all(mask & them for mask in needs)}
+
+    def solved(self) -> List[bytes]:
+        """The word of each source package, which is empty if it can be built."""
+        in_every, in_one = self.universe.found()
+        words = []
+        for source in self.sources:
+            places = readings(self.universe.open_in(-1, source))
+            found = [self.sets_with(source, in_one, held) for held in places]
+            is_sure = in_every.intersection(*found)
+            words.append(b"" if is_sure else b"unsure" if set.union(*found) else b"uninstallable")
+        return words
+
+    def lines(self, words: List[bytes]) -> bytes:
+        """The lines of source packages with these words."""
+        return Universe(self.sources, self.universe.native, False).lines(words)
 
 
 def universe(random) -> Universe:
@@ -288,14 +362,44 @@ def package(random, names: List[bytes]) -> Package:
         random.choice((b"", b"", b"no", b"same", b"same", b"foreign", b"allowed")),
         provided,
     )
-    for name, counts in COUNTS.items():
+    made.relations = relations(random, names, COUNTS)
+    return made
+
+
+def relations(random, names: List[bytes], all_counts) -> Dict[bytes, List[Tuple[Alternative, ...]]]:
+    """Fields that speak of these names, each with as many groups as one of its counts."""
+    made = {}
+    for name, counts in all_counts.items():
         groups = []
         for _ in range(random.choice(counts)):
-            count = 1 if name in EXCLUDING else random.choice((1, 1, 2, 2, 3))
+            is_alone = name in EXCLUDING or name in BUILT_WITHOUT
+            count = 1 if is_alone else random.choice((1, 1, 2, 2, 3))
             groups.append(tuple(alternative(random, names) for _ in range(count)))
         if groups:
-            made.relations[name] = groups
+            made[name] = groups
     return made
+
+
+def sources(random) -> Sources:
+    """Source packages, for which build-essential is mostly there, with what it needs."""
+    made = universe(random)
+    names = [*sorted({it.name for it in made.packages}), b"build-essential"]
+    made.recommends, made.nocheck = False, random.random() < 0.3
+    few = {b"Depends": (0, 0, 0, 0, 1), b"Breaks": (0, 0, 0, 0, 1)}
+    for _ in range(random.choice((0, 1, 1, 1, 1, 1, 1, 1, 2))):
+        one = replace(package(random, names), name=b"build-essential")
+        one.architecture = random.choice((b"all", b"amd64", b"amd64", b"i386", made.native, made.native))
+        one.relations = relations(random, names, few)
+        made.packages.insert(random.randint(0, len(made.packages)), one)
+        if len(made.open_lists()) > MOST_OPEN:
+            made.packages.remove(one)
+    asked = []
+    for _ in range(random.choice((0, 1, 2, 3, 4))):
+        one = Package(random.choice(names), random.choice(VERSIONS), b"source", b"", [])
+        one.relations = relations(random, names, {**BUILT_WITH, **BUILT_WITHOUT})
+        if len(made.open_in(-1, one)) <= MOST_OPEN:
+            asked.append(one)
+    return Sources(asked, made)
 
 
 def alternative(random, names: List[bytes]) -> Alternative:

@@ -146,6 +146,20 @@ const LINES: [(&str, &str); 45] = [
         "installable --arch amd64 --budget 1000000001 x",
         "Err(Usage(\"usage: --budget takes a number from 1 to 1000000000\"))",
     ),
+    (
+        "installable --arch amd64 --profiles a,b --kind sources --index i --installed x",
+        "Ok(Run(Call { job: Buildable { arch: \"amd64\", profiles: [\"a\", \"b\"], \
+        members: Installed, sources: Sources, budget: 100000 }, first: Some(\"i\"), \
+        second: Some(\"x\") }))",
+    ),
+    (
+        "installable --arch amd64 --kind source --index i",
+        "Err(Usage(\"usage: installable takes source packages only with --index and PATH\"))",
+    ),
+    (
+        "installable --arch amd64 --kind status x",
+        "Err(Usage(\"usage: installable takes --kind packages, sources or source\"))",
+    ),
     ("compare 1 xx 2", "Err(Usage(\"usage: unknown operator\"))"),
     ("check --kind foo", "Err(Usage(\"usage: unknown kind\"))"),
     (
