@@ -65,9 +65,13 @@ _debctl() {
         [healthy:options]='--arch --recommends --installed --help'
         [healthy:0]=files
         [healthy:--arch]='$(dpkg-architecture -L 2>/dev/null)'
-        [installable:options]='--arch --recommends --installed --budget --help'
+        [installable:options]='--arch --profiles --kind --index --recommends --installed --budget --help'
         [installable:0]=files
         [installable:--arch]='$(dpkg-architecture -L 2>/dev/null)'
+        [installable:--profiles]=''
+        [installable:-k]='packages source sources'
+        [installable:--kind]='packages source sources'
+        [installable:--index]=files
         [installable:--budget]=''
         [help:options]=--help
         [help:0]='check explain audit normalise same diff compare canon-version version-key sort query unmet healthy installable help kinds'
@@ -80,7 +84,7 @@ _debctl() {
         fi
         case ${words[i]} in
             --) ended=yes ;;
-            -k | --kind | --least | --arch | --profiles | --budget) ((i++)) ;;
+            -k | --kind | --least | --arch | --profiles | --index | --budget) ((i++)) ;;
             # The value is in place of a word, as it is if it is a word of its own.
             --code=* | --relation=* | --version-text=* | --files0-from=* | --relation-from=*) ((given++)) ;;
         esac

@@ -9,7 +9,7 @@ function __debctl_arguments
             case --
                 string join -- \n $words[2..]
                 return
-            case -k --kind --least --arch --profiles --budget
+            case -k --kind --least --arch --profiles --index --budget
                 set words $words[2..]
             case - '--code=*' '--relation=*' '--version-text=*' '--files0-from=*' '--relation-from=*'
                 printf '%s\n' $words[1]
@@ -42,7 +42,7 @@ complete -c debctl -n __debctl_at -a sort -d 'Sorts the lines of a file, each a 
 complete -c debctl -n __debctl_at -a query -d 'Finds the packages of an index that meet a relation'
 complete -c debctl -n __debctl_at -a unmet -d 'Finds the dependencies of a whole file that no package of an index meets'
 complete -c debctl -n __debctl_at -a healthy -d 'Checks whether a set of packages is consistent'
-complete -c debctl -n __debctl_at -a installable -d 'Finds the packages of an index that can'"'"'t be installed'
+complete -c debctl -n __debctl_at -a installable -d 'Finds the packages that can'"'"'t be installed, or the sources that can'"'"'t be built'
 complete -c debctl -n __debctl_at -a help -d 'Prints the help of the program or of a command'
 complete -c debctl -n __debctl_at -s h -l help -d 'Print help'
 complete -c debctl -n __debctl_at -s V -l version -d 'Print version'
@@ -111,6 +111,9 @@ complete -c debctl -n '__debctl_at healthy' -l installed -d 'Read a status file 
 complete -c debctl -n '__debctl_at healthy' -s h -l help -d 'Print help'
 complete -c debctl -n '__debctl_at installable 0' -F
 complete -c debctl -n '__debctl_at installable' -l arch -x -a '(dpkg-architecture -L 2>/dev/null)' -d 'The target architecture, such as amd64'
+complete -c debctl -n '__debctl_at installable' -l profiles -x -d 'The active build profiles, separated by commas'
+complete -c debctl -n '__debctl_at installable' -s k -l kind -x -a 'packages source sources' -d 'The kind of PATH'
+complete -c debctl -n '__debctl_at installable' -l index -r -F -d 'The index with which source packages are built'
 complete -c debctl -n '__debctl_at installable' -l recommends -d 'Try the groups of Recommends too'
 complete -c debctl -n '__debctl_at installable' -l installed -d 'Read a status file such as /var/lib/dpkg/status'
 complete -c debctl -n '__debctl_at installable' -l budget -x -d 'Search at most N steps for each package'
