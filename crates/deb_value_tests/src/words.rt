@@ -16,7 +16,7 @@ fn words(alloc: Global, line: &str) -> Result<Vec<String>, AllocError> {
 }
 
 /// A command line, and the task or the fault that it has.
-const LINES: [(&str, &str); 45] = [
+const LINES: [(&str, &str); 48] = [
     (
         "check",
         "Ok(Run(Call { job: Check(Packages), first: None, second: None }))",
