@@ -52,7 +52,8 @@ impl<T: Drop> From<AllocFailed<T>> for EnvFault {
 
 impl Env {
     ghost use Rattle.deb_relation.specs.Applying.{is_among};
-    ghost use Rattle.deb_relation.specs.Environments.{environment_of, environment_with, with_target};
+    ghost use Rattle.deb_relation.specs.Environments.{environment_of, environment_with};
+    ghost use Rattle.deb_relation.specs.Environments.{with_target};
 
     /// Copies a target, which is also the native architecture, and profiles.
     ///
