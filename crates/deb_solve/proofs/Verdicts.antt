@@ -6,7 +6,7 @@ use Rattle.std.proofs.lemmas.List.Folds.{list_any_at}
 use Rattle.std.proofs.lemmas.Option.{slice_get_within, get_or_from_slice_get, slice_get-get_or}
 use Rattle.deb_solve.specs.Health.{IsHealthy, IsInstallable, is_among}
 use Rattle.deb_solve.specs.Refuting.{IsOut}
-use Rattle.deb_solve.specs.Verdicts.{AreTrue, AreVerdicts}
+use Rattle.deb_solve.specs.Verdicts.{AreTrue, AreVerdicts, NoneIsInstallable}
 use Rattle.deb_solve.specs.declared.universe.Universe.{Universe}
 use Rattle.deb_solve.specs.declared.verdict.Verdict.{Verdict}
 use Rattle.deb_solve.specs.declared.verdict.Verdict.TheVariants.{Installable, Uninstallable, Undecided}
@@ -85,3 +85,12 @@ AreVerdicts-undecided u n verdicts are same =
 
 pub AreVerdicts-after : (u : Universe) (old new : List Verdict) → AreVerdicts u old → AreTrue u new → length new ≡ length old → AreVerdicts u new
 AreVerdicts-after u old new before are same = record { each = same ∙ before.each; are_true = are }
+
+pub none-undecided : (n : ℕ) (verdicts : List Verdict) → verdicts ≡ replicate n Undecided → NoneIsInstallable verdicts
+none-undecided n verdicts are p is = not_yes (undecided_at n p Installable (ap (λ vs. slice_get vs p) (sym are) ∙ is))
+
+pub none-refused : (verdicts : List Verdict) (m : ℕ) → NoneIsInstallable verdicts → NoneIsInstallable (set verdicts m Uninstallable)
+none-refused verdicts m none p is = elim (cases_eq p m) [
+  | inl same ↦ yes_not_no (sym (set_here verdicts m p Uninstallable Installable same is))
+  | inr other ↦ none p (set_there verdicts m p Uninstallable Installable other is)
+]

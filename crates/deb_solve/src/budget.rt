@@ -11,8 +11,15 @@ pub struct Budget {
 }
 
 impl Budget {
-    /// Returns the steps of all searches in a universe of this many packages.
-    pub(crate) fn all_searches(&self, packages: u32) -> u32 {
-        self.one_search.saturating_add(packages.saturating_mul(100))
+    /// Returns the steps that the next search may take in a universe of so many packages, after the
+    /// searches before took so many.
+    pub(crate) fn steps_left(&self, packages: u32, taken: u32) -> u32 {
+        let all = self.one_search.saturating_add(packages.saturating_mul(100));
+        let left = all.saturating_sub(taken);
+        if self.one_search < left {
+            self.one_search
+        } else {
+            left
+        }
     }
 }

@@ -32,4 +32,4 @@ pub use health::is_healthy;
 pub use rows::Rows;
 pub use universe::Universe;
 pub use verdict::{Verdict, solve};
-pub use witnesses::witness;
+pub use witnesses::{SetOrVerdicts, witness};

@@ -2,7 +2,7 @@
 
 ghost use Rattle.std.specs.Prelude.{◌≡◌, IfOk, length};
 ghost use Rattle.deb_solve.specs.Health.{IsHealthy, IsInstallable, is_among};
-ghost use Rattle.deb_solve.specs.Verdicts.{AreTrue, AreVerdicts};
+ghost use Rattle.deb_solve.specs.Verdicts.{AreTrue, AreVerdicts, NoneIsInstallable};
 
 use crate::budget::Budget;
 use crate::growth::Growth;
@@ -37,19 +37,14 @@ struct Searches<'t> {
     growth: Growth,
     marks: Marks,
     poor: u32,
-    one_search: u32,
-    all_searches: u32,
+    budget: Budget,
+    packages: u32,
 }
 
 impl Searches<'_> {
     /// Returns the steps that the next search may take.
     fn steps_left(&self) -> u32 {
-        let left = self.all_searches.saturating_sub(self.search.steps);
-        if self.one_search < left {
-            self.one_search
-        } else {
-            left
-        }
+        self.budget.steps_left(self.packages, self.search.steps)
     }
 }
 
@@ -68,8 +63,8 @@ pub fn solve(alloc: Global, universe: &Universe, budget: Budget) -> Result<Vec<V
         growth: Growth::new(alloc, universe)?,
         marks: Marks::new(alloc, universe)?,
         poor: 0,
-        one_search: budget.one_search,
-        all_searches: budget.all_searches(narrow(verdicts.len())),
+        budget,
+        packages: narrow(verdicts.len()),
     };
     searches.search.prune_all(alloc, &mut known)?;
     for number in 0..narrow(verdicts.len()) {
@@ -199,10 +194,11 @@ fn refuse_all(known: &Refuter<'_>, verdicts: &mut Vec<Verdict>)
 }
 
 /// Notes that a package isn't installable, if it is out.
-fn refuse(known: &Refuter<'_>, number: u32, verdicts: &mut Vec<Verdict>)
+pub(crate) fn refuse(known: &Refuter<'_>, number: u32, verdicts: &mut Vec<Verdict>)
     requires { AreTrue known.now.universe.now verdicts.old.items }
     ensures are_true { AreTrue known.now.universe.now verdicts.new.items }
     ensures each { length verdicts.new.items ≡ length verdicts.old.items }
+    ensures none { NoneIsInstallable verdicts.old.items → NoneIsInstallable verdicts.new.items }
 {
     if (number as usize) < verdicts.len() && known.is_out(number) {
         verdicts[number as usize] = Verdict::Uninstallable;
