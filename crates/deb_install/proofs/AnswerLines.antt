@@ -1,11 +1,12 @@
 -- The lines of answers, package by package, and that answers by verdicts are true.
-use Rattle.std.proofs.Common.{◌≡◌, ℕ, zero, suc, ◌+◌, ◌-◌, ◌<◌, ◌≤◌, if◌then◌else◌, List, [], ◌∷◌, ◌++◌, length, drop, get_or, None, Some, slice_get, append_assoc, refl, sym, ap, ◌∙◌, arith}
+use Rattle.std.proofs.Common.{◌≡◌, ℕ, zero, suc, ◌+◌, ◌-◌, ◌<◌, ◌≤◌, if◌then◌else◌, List, [], ◌∷◌, ◌++◌, length, drop, get_or, None, Some, slice_get, append_assoc, append-nil, drop_of_length-le, refl, sym, ap, ◌∙◌, arith}
 use Rattle.std.specs.List.{slice_index_or}
 use Rattle.std.specs.Option.{option_map_or}
 use Rattle.std.proofs.lemmas.List.{drop_more}
 use Rattle.std.proofs.lemmas.Option.{slice_get-get_or}
 use Rattle.deb_control.specs.Documents.{Meaning}
 use Rattle.deb_health.specs.Lines.{line_at, listed}
+use Rattle.deb_index.specs.Reports.{Numbered}
 use Rattle.deb_index.specs.Listed.{Listed}
 use Rattle.deb_index.specs.Named.{package_at}
 use Rattle.deb_index.proofs.Numbered.{from-one}
@@ -13,7 +14,7 @@ use Rattle.deb_relation.specs.Applying.{Environment}
 use Rattle.deb_solve.specs.declared.verdict.Verdict.{Verdict}
 use Rattle.deb_solve.specs.declared.verdict.Verdict.TheVariants as solved
 use Rattle.deb_unmet.specs.declared.asked.Strength.{Strength}
-use Rattle.deb_install.specs.Answers.{AreAnswers, AreVerdictsIn, Says, answer_at, answer_by, answer_line, lines_from}
+use Rattle.deb_install.specs.Answers.{AreAnswers, AreVerdictsIn, Says, answer_at, answer_by, lines_from}
 use Rattle.deb_install.specs.declared.answer.Answer.{Answer}
 use Rattle.deb_install.specs.declared.readings.Readings.TheVariants.{Every, One}
 
@@ -27,14 +28,20 @@ place packages i within =
     ∙ slice_get-get_or packages i any within
 
 -- the line of one package more
-pub lines-next : (answer : ℕ → Answer) (packages : List Listed) (i : ℕ) (out now all : List ℕ) → i < length packages → now ≡ out ++ line_at (answer_line (answer (i + 1))) packages (i + 1) → out ++ lines_from answer (i + 1) (drop i packages) ≡ all → now ++ lines_from answer ((i + 1) + 1) (drop (i + 1) packages) ≡ all
-lines-next answer packages i out now all within one before =
+pub lines-next : (line : Numbered → List ℕ) (packages : List Listed) (i : ℕ) (out now all : List ℕ) → i < length packages → now ≡ out ++ line_at line packages (i + 1) → out ++ lines_from line (i + 1) (drop i packages) ≡ all → now ++ lines_from line ((i + 1) + 1) (drop (i + 1) packages) ≡ all
+lines-next line packages i out now all within one before =
     let p = get_or packages i any in
-    let rest = lines_from answer ((i + 1) + 1) (drop (i + 1) packages) in
-    let line = answer_line (answer (i + 1)) (i + 1, p) in
-    ap (λ n. n ++ rest) (one ∙ ap (λ o. out ++ option_map_or (λ q. answer_line (answer (i + 1)) (i + 1, q)) o []) (place packages i within))
-    ∙ append_assoc out line rest
-    ∙ ap (λ l. out ++ lines_from answer (i + 1) l) (sym (drop_more packages i any within))
+    let rest = lines_from line ((i + 1) + 1) (drop (i + 1) packages) in
+    ap (λ n. n ++ rest) (one ∙ ap (λ o. out ++ option_map_or (λ q. line (i + 1, q)) o []) (place packages i within))
+    ∙ append_assoc out (line (i + 1, p)) rest
+    ∙ ap (λ l. out ++ lines_from line (i + 1) l) (sym (drop_more packages i any within))
+    ∙ before
+
+-- the lines of all packages are written, after the last
+pub lines-end : (line : Numbered → List ℕ) (packages : List Listed) (i : ℕ) (out all : List ℕ) → length packages ≤ i → out ++ lines_from line (i + 1) (drop i packages) ≡ all → out ≡ all
+lines-end line packages i out all past before =
+    sym (append-nil out)
+    ∙ ap (λ left. out ++ lines_from line (i + 1) left) (sym (drop_of_length-le packages past))
     ∙ before
 
 -- a verdict that is known is in the list

@@ -1,13 +1,14 @@
 -- A universe decides which packages are installable.
-use Rattle.std.proofs.Common.{◌≡◌, ℕ, ◌+◌, ◌≤◌, length, sym, ap, ◌∙◌}
+use Rattle.std.proofs.Common.{◌≡◌, ℕ, ◌+◌, ◌≤◌, Bool, true, length, sym, ap, ◌∙◌}
 use Rattle.deb_control.specs.Documents.{Meaning}
 use Rattle.deb_control.specs.Pairs.{Pairwise}
 use Rattle.deb_control.proofs.GivenValues.{pairwise-length}
 use Rattle.deb_index.specs.Listing.{Lists}
-use Rattle.deb_solve.specs.Health.{IsInstallable as IsInstallableIn}
+use Rattle.deb_solve.specs.Health.{IsHealthy, IsInstallable as IsInstallableIn}
 use Rattle.deb_solve.specs.declared.universe.Universe.{Universe}
-use Rattle.deb_install.specs.Installable.{IsInstallable}
+use Rattle.deb_install.specs.Installable.{IsInstallable, is_healthy_in}
 use Rattle.deb_install.specs.Laws.{AreDecidedBy}
+use Rattle.deb_install.specs.Members.{members_of}
 use Rattle.deb_install.specs.Universes.{IsUniverseOf, Setting}
 use Rattle.deb_install.proofs.InstallableRows.{rows_decide}
 use Rattle.deb_install.proofs.ListedRows.{excludes_in, fitting-healthy, healthy-fitting, rows_in}
@@ -29,10 +30,14 @@ module _ (s : Setting) (meaning : Meaning) (u : Universe) (is : IsUniverseOf s m
         contains = has.contains;
       }
 
+  -- a healthy set of the universe is a healthy set of the packages
+  pub healthy-in : (set : ℕ → Bool) → IsHealthy u set → is_healthy_in s.readings s.strength s.environment (members_of set s.packages) (members_of set meaning) ≡ true
+  healthy-in set healthy = decided.is_healthy set (fitting-healthy u.needs u.groups u.excludes (length s.packages) set healthy)
+
   pub in-installable : (number : ℕ) → 1 ≤ number → number ≤ length s.packages → IsInstallableIn u number → IsInstallable s.readings s.strength s.environment s.packages meaning number
   in-installable number some most has = record {
     set = has.set;
     contains = has.contains;
     listed = (some, most);
-    healthy = decided.is_healthy has.set (fitting-healthy u.needs u.groups u.excludes (length s.packages) has.set has.is_healthy);
+    healthy = healthy-in has.set has.is_healthy;
   }

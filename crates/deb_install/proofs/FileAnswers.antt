@@ -56,7 +56,7 @@ held-file members text packages kept lists keeps =
       holds = holds.holds;
     }
 
-module _ (asks : AsksInstallable) (text : List ℕ) (packages : List Listed) (kept : List Kept) (lists : ListsMembers asks.members text packages) (file : HeldFile asks.members text packages kept) (lines : List ℕ) (has : HasAnswers asks.strength asks.environment packages (filter (has_values asks.members) file.meaning) lines) where
+module _ (asks : AsksInstallable) (text : List ℕ) (packages : List Listed) (kept : List Kept) (lists : ListsMembers asks.members text packages) (file : HeldFile asks.members text packages kept) (lines : List ℕ) (has : HasAnswers asks.strength asks.names asks.environment packages (filter (has_values asks.members) file.meaning) lines) where
   abbrev answers : FileAnswers asks text
   answers = record {
     packages = packages;

@@ -27,6 +27,7 @@ pub mod TrueVerdicts
 pub mod NeededRows
 pub mod ExcludedRows
 pub mod FileAnswers
+pub mod FilesSought
 pub mod NextOf
 pub mod BuiltRows
 pub mod SourcesRead

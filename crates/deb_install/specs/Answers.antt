@@ -1,5 +1,5 @@
 -- What is known of whether each package can be installed, and its lines. This project's own.
-use Rattle.std.specs.Prelude.{◌≡◌, ℕ, ◌+◌, ◌==◌, ◌≤◌, cond, List, [], ◌∷◌, ◌++◌, length, map, Some, codes, refl}
+use Rattle.std.specs.Prelude.{◌≡◌, ℕ, ◌+◌, ◌==◌, ◌≤◌, Bool, true, false, cond, List, [], ◌∷◌, ◌++◌, length, map, Some, codes, refl}
 use Rattle.std.specs.Fmt.{digits}
 use Rattle.std.specs.List.{slice_get, slice_index_or}
 use Rattle.deb_control.specs.Documents.{Meaning}
@@ -7,7 +7,7 @@ use Rattle.deb_health.specs.Lines.{listed}
 use Rattle.deb_index.specs.Listed.{Listed}
 use Rattle.deb_index.specs.ReportText.{canonical_version, package_line}
 use Rattle.deb_index.specs.Reports.{Numbered}
-use Rattle.deb_relation.specs.Applying.{Environment}
+use Rattle.deb_relation.specs.Applying.{Environment, is_among}
 use Rattle.deb_solve.specs.declared.verdict.Verdict.{Verdict}
 use Rattle.deb_solve.specs.declared.verdict.Verdict.TheVariants as solved
 use Rattle.deb_unmet.specs.declared.asked.Strength.{Strength}
@@ -41,15 +41,24 @@ answer_line Uninstallable p = codes "uninstallable" ++ package_line canonical_ve
 answer_line Unsure p = codes "unsure" ++ package_line canonical_version p
 answer_line Undecided p = codes "undecided" ++ package_line canonical_version p
 
--- the lines of these packages, of which the first has this number
-abbrev pub lines_from : (ℕ → Answer) → ℕ → List Listed → List ℕ
-lines_from answer n [] = []
-lines_from answer n (p ∷ packages) =
-    answer_line (answer n) (n, p) ++ lines_from answer (n + 1) packages
+-- A package is asked if its name is one of these, or if there are none.
+abbrev pub is_asked : List (List ℕ) → List ℕ → Bool
+is_asked [] name = true
+is_asked (n ∷ names) name = is_among name (n ∷ names)
 
--- the lines of all packages, in their order
-abbrev pub answer_lines : (ℕ → Answer) → List Listed → List ℕ
-answer_lines answer packages = lines_from answer 1 packages
+-- only a package that is asked has a line
+abbrev pub asked_line : List (List ℕ) → Answer → Numbered → List ℕ
+asked_line names answer p = cond (is_asked names p.1.name) (answer_line answer p) []
+
+-- the lines of these packages, of which the first has this number
+abbrev pub lines_from : (Numbered → List ℕ) → ℕ → List Listed → List ℕ
+lines_from line n [] = []
+lines_from line n (p ∷ packages) = line (n, p) ++ lines_from line (n + 1) packages
+
+-- the lines of all packages that are asked, in their order
+abbrev pub answer_lines : List (List ℕ) → (ℕ → Answer) → List Listed → List ℕ
+answer_lines names answer packages =
+    lines_from (λ p. asked_line names (answer p.0) p) 1 packages
 
 -- Of packages with such numbers verdicts in these readings are true.
 pub record AreVerdictsIn (readings : Readings) (strength : Strength) (environment : Environment)
@@ -75,11 +84,11 @@ answer_at every one number =
     (slice_index_or one number solved.Undecided)
 
 -- This text has the lines of true answers.
-pub record HasAnswers (strength : Strength) (environment : Environment) (packages : List Listed)
-    (meaning : Meaning) (text : List ℕ) : Type 0 where
+pub record HasAnswers (strength : Strength) (names : List (List ℕ)) (environment : Environment)
+    (packages : List Listed) (meaning : Meaning) (text : List ℕ) : Type 0 where
   pub answer : ℕ → Answer
   pub are_true : AreAnswers strength environment packages meaning answer
-  pub is : text ≡ answer_lines answer packages
+  pub is : text ≡ answer_lines names answer packages
 
 abbrev bb : Numbered
 bb = (7, listed (codes "bb") (codes "1.0-0") (codes "amd64"))
@@ -91,13 +100,22 @@ worked-lines : map (λ answer. answer_line answer bb)
 unfolding digits
 worked-lines = refl
 
--- the second package alone has a line, under its number
+worked-asked : (map (λ names. is_asked names (codes "bb"))
+    ([] ∷ (codes "bb" ∷ []) ∷ (codes "aa" ∷ codes "bb" ∷ []) ∷ (codes "b" ∷ []) ∷ [])
+    ≡ true ∷ true ∷ true ∷ false ∷ [])
+    × (asked_line (codes "aa" ∷ []) Uninstallable bb ≡ [])
+    × (asked_line (codes "bb" ∷ []) Unsure bb ≡ codes "unsure 7 bb 1.0 amd64\n")
+unfolding digits
+worked-asked = (refl, refl, refl)
+
+-- the second package alone isn't installable
 abbrev only : ℕ → Answer
 only number = cond (number == 2) Uninstallable Installable
 
-worked-all : answer_lines only (listed (codes "aa") (codes "1") (codes "all")
-    ∷ listed (codes "bb") (codes "2") (codes "all") ∷ [])
-    ≡ codes "uninstallable 2 bb 2 all\n"
+worked-all : map (λ names. answer_lines names only (listed (codes "aa") (codes "1") (codes "all")
+    ∷ listed (codes "bb") (codes "2") (codes "all") ∷ []))
+    ([] ∷ (codes "bb" ∷ []) ∷ (codes "aa" ∷ []) ∷ [])
+    ≡ codes "uninstallable 2 bb 2 all\n" ∷ codes "uninstallable 2 bb 2 all\n" ∷ [] ∷ []
 unfolding digits
 worked-all = refl
 

@@ -1,6 +1,6 @@
 -- What is written of a file: which of its packages can't be installed. Debian Policy 7.2 to 7.5;
 -- the form of the lines is this project's own.
-use Rattle.std.specs.Prelude.{◌≡◌, ℕ, List, length, Option, refl}
+use Rattle.std.specs.Prelude.{◌≡◌, ℕ, List, [], ◌∷◌, codes, length, Option, refl}
 use Rattle.std.specs.Io.KnownBytes.{Appends}
 use Rattle.std.specs.List.{filter}
 use Rattle.deb_base.specs.Devices.{AppendsFront}
@@ -12,6 +12,7 @@ use Rattle.deb_index.specs.Members.{ListsMembers, doc_of, has_values}
 use Rattle.deb_index.specs.declared.members.Members.{Members}
 use Rattle.deb_index.specs.declared.members.Members.TheVariants.{Installed}
 use Rattle.deb_relation.specs.Applying.{Environment}
+use Rattle.deb_relation.specs.Views.{names_of}
 use Rattle.deb_unmet.specs.Files.{is_nothing}
 use Rattle.deb_unmet.specs.declared.asked.Strength.{Strength}
 use Rattle.deb_unmet.specs.declared.asked.Strength.TheVariants.{Recommends}
@@ -19,17 +20,27 @@ use Rattle.deb_unmet.specs.declared.asking.Summary.{Summary}
 use Rattle.deb_install.specs.Answers.{AreAnswers, answer_lines}
 use Rattle.deb_install.specs.Passing.{for_amd64}
 use Rattle.deb_install.specs.declared.answer.Answer.{Answer}
+use Rattle.deb_install.specs.declared.verdicts.InstallRequest.{InstallRequest}
 
--- what is asked of a file: which of its paragraphs are packages, which fields count, and for which
--- environment
+-- what is asked of a file: which of its paragraphs are packages, which fields count, packages of
+-- which names have lines, and for which environment
 pub record AsksInstallable : Type 0 where
   pub members : Members
   pub strength : Strength
+  pub names : List (List ℕ)
   pub environment : Environment
 
-abbrev pub asks_installable : Members → Strength → Environment → AsksInstallable
-asks_installable members strength environment =
-    record { members = members; strength = strength; environment = environment }
+abbrev pub asks_installable : Members → Strength → List (List ℕ) → Environment → AsksInstallable
+asks_installable members strength names environment = record {
+  members = members;
+  strength = strength;
+  names = names;
+  environment = environment;
+}
+
+abbrev pub asks_by : InstallRequest → Environment → AsksInstallable
+asks_by request environment =
+    asks_installable request.members request.strength (names_of request.names.now) environment
 
 -- The file is accepted and lists these packages. There is a true answer of each, by its number.
 pub record FileAnswers (asks : AsksInstallable) (text : List ℕ) : Type 0 where
@@ -47,14 +58,15 @@ pub record WritesAnswers (asks : AsksInstallable) (text : List ℕ) (summary : S
     (old new : Option (List ℕ)) : Type 0 where
   pub file : FileAnswers asks text
   pub count : length file.packages ≡ summary.paragraphs
-  pub written : Appends old new (answer_lines file.answer file.packages)
-  pub is_empty : summary.is_empty ≡ is_nothing (answer_lines file.answer file.packages)
+  pub written : Appends old new (answer_lines asks.names file.answer file.packages)
+  pub is_empty : summary.is_empty
+      ≡ is_nothing (answer_lines asks.names file.answer file.packages)
 
 -- A prefix of these lines was written.
 pub record BeginsAnswers (asks : AsksInstallable) (text : List ℕ) (old new : Option (List ℕ)) :
     Type 0 where
   pub file : FileAnswers asks text
-  pub written : AppendsFront old new (answer_lines file.answer file.packages)
+  pub written : AppendsFront old new (answer_lines asks.names file.answer file.packages)
 
 -- Nothing was written, or a write failed: then a prefix of the lines of an accepted file was.
 abbrev pub StopsAnswers : Fault → AsksInstallable → List ℕ → Option (List ℕ) → Option (List ℕ)
@@ -64,6 +76,10 @@ StopsAnswers faults.Memory asks text old new = old ≡ new
 StopsAnswers faults.Read asks text old new = old ≡ new
 StopsAnswers faults.Write asks text old new = BeginsAnswers asks text old new
 
-worked-asks : asks_installable Installed Recommends for_amd64
-    ≡ record { members = Installed; strength = Recommends; environment = for_amd64 }
+worked-asks : asks_installable Installed Recommends (codes "aa" ∷ []) for_amd64 ≡ record {
+  members = Installed;
+  strength = Recommends;
+  names = codes "aa" ∷ [];
+  environment = for_amd64;
+}
 worked-asks = refl

@@ -12,6 +12,8 @@ pub mod Keeping
 pub mod Universes
 pub mod Answers
 pub mod Installing
+pub mod Witnesses
+pub mod Seeking
 pub mod SourceKinds
 pub mod KeptSources
 pub mod ReadPackages

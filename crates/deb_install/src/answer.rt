@@ -6,7 +6,9 @@ ghost use Rattle.deb_index.specs.Kept.{listed_of};
 ghost use Rattle.deb_index.specs.ReportText.{canonical_version, package_line};
 ghost use Rattle.deb_health.specs.Lines.{line_at};
 ghost use Rattle.deb_solve.specs.declared.verdict.Verdict.TheVariants as solved;
+ghost use Rattle.deb_relation.specs.Views.{names_of};
 ghost use Rattle.deb_install.specs.Answers.{answer_at, answer_by, answer_line, answer_lines};
+ghost use Rattle.deb_install.specs.Answers.{asked_line, is_asked};
 
 use deb_index::{Index, Package};
 use deb_solve::Verdict;
@@ -27,22 +29,31 @@ pub enum Answer {
     Undecided,
 }
 
-/// Returns the lines of the packages of an index, by verdicts in every reading and in one.
+/// Returns the lines of the packages of an index that are asked, by verdicts in every reading and
+/// in one.
 pub(crate) fn lines_of(
     alloc: Global,
     index: &Index,
+    names: &[&[u8]],
     every: &[Verdict],
     one: &[Verdict],
 ) -> Result<Vec<u8>, AllocError>
-    ensures { IfOk result (λ text. text.items
-        ≡ answer_lines (answer_at every.now one.now) (packages_of index.now)) }
+    ensures { IfOk result (λ text. text.items ≡ answer_lines (names_of names.now)
+        (answer_at every.now one.now) (packages_of index.now)) }
 {
     let mut text = Vec::new(alloc);
     for count in 0..index.len() {
         let answer = answer_at(every, one, count + 1);
-        append_answer(&mut text, answer, index, count as u64 + 1)?;
+        append_answer(&mut text, names, answer, index, count as u64 + 1)?;
     }
     Ok(text)
+}
+
+/// Returns whether a package with this name is asked: its name is one of these, or there are none.
+pub(crate) fn is_asked(names: &[&[u8]], name: &[u8]) -> bool
+    ensures { result ≡ is_asked (names_of names.now) name.now }
+{
+    names.is_empty() || names.iter().any(|other| *other == name)
 }
 
 /// Returns the answer of the package with a number.
@@ -76,19 +87,38 @@ fn answer_by(every: Verdict, one: Verdict) -> Answer
     }
 }
 
-/// Appends the line of the package with this number, if it has one.
+/// Appends the line of the package with this number, if it is asked and has one.
 fn append_answer(
     out: &mut Vec<u8>,
+    names: &[&[u8]],
     answer: Answer,
     index: &Index,
     number: u64,
 ) -> Result<(), AllocError>
-    ensures { OnOk result (out.new.items
-        ≡ out.old.items ++ line_at (answer_line answer) (packages_of index.now) number) }
+    ensures { OnOk result (out.new.items ≡ out.old.items
+        ++ line_at (asked_line (names_of names.now) answer) (packages_of index.now) number) }
 {
     match index.package(number) {
-        Some(package) => append_line(out, answer, number, &package),
+        Some(package) => append_asked(out, names, answer, number, &package),
         None => Ok(()),
+    }
+}
+
+/// Appends the line of a package, if it is asked and has one.
+fn append_asked(
+    out: &mut Vec<u8>,
+    names: &[&[u8]],
+    answer: Answer,
+    number: u64,
+    package: &Package<'_>,
+) -> Result<(), AllocError>
+    ensures { OnOk result (out.new.items ≡ out.old.items
+        ++ asked_line (names_of names.now) answer (number, listed_of «package».now)) }
+{
+    if is_asked(names, package.name()) {
+        append_line(out, answer, number, package)
+    } else {
+        Ok(())
     }
 }
 
@@ -120,8 +150,20 @@ fn append_with(
     ensures { OnOk result (out.new.items ≡ out.old.items
         ++ (word.now ++ package_line canonical_version (number, listed_of «package».now))) }
 {
-    let mut buffer = Buffer::new();
     out.extend_from_slice(word)?;
+    append_package(out, number, package)
+}
+
+/// Appends the line of a package that `query` has for one that it finds.
+pub(crate) fn append_package(
+    out: &mut Vec<u8>,
+    number: u64,
+    package: &Package<'_>,
+) -> Result<(), AllocError>
+    ensures { OnOk result (out.new.items ≡ out.old.items
+        ++ package_line canonical_version (number, listed_of «package».now)) }
+{
+    let mut buffer = Buffer::new();
     append_spaced(out, buffer.format(number).as_bytes())?;
     append_spaced(out, package.name())?;
     append_spaced(out, package.version())?;

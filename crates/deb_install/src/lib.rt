@@ -5,8 +5,9 @@
 //!
 //! ```text
 //! let environment = Env::new(alloc, b"amd64", &[])?;
-//! let request = InstallRequest { members: Members::All, strength: Strength::Depends, budget };
-//! let summary = installable(alloc, &environment, request, &mut packages, &mut writer)?;
+//! let (members, strength) = (Members::All, Strength::Depends);
+//! let request = InstallRequest { members, strength, names: &[], budget };
+//! let summary = installable(alloc, &environment, &request, &mut packages, &mut writer)?;
 //! summary.is_empty; // no line was written: each package can be installed
 //! ```
 //!
@@ -32,6 +33,7 @@ mod source_reading;
 mod source_rows;
 mod universe;
 mod verdicts;
+mod witnesses;
 
 pub use answer::Answer;
 pub use builds::{BuildRequest, buildable};
@@ -39,3 +41,4 @@ pub use packages::Packages;
 pub use readings::Readings;
 pub use source_kind::SourceKind;
 pub use verdicts::{InstallRequest, installable};
+pub use witnesses::{Sought, witness};

@@ -13,10 +13,11 @@ ghost use Rattle.deb_index.specs.Indexes.{packages_of};
 ghost use Rattle.deb_index.specs.Listing.{Lists};
 ghost use Rattle.deb_index.specs.Members.{KeepsMembers, ListsMembers, doc_of};
 ghost use Rattle.deb_relation.specs.Environments.{environment_of};
+ghost use Rattle.deb_relation.specs.Views.{names_of};
 ghost use Rattle.deb_unmet.specs.Asking.{IsWritersFault};
 ghost use Rattle.deb_unmet.specs.Files.{is_nothing};
 ghost use Rattle.deb_install.specs.Answers.{AreVerdictsIn, HasAnswers};
-ghost use Rattle.deb_install.specs.Installing.{StopsAnswers, WritesAnswers, asks_installable};
+ghost use Rattle.deb_install.specs.Installing.{StopsAnswers, WritesAnswers, asks_by};
 ghost use Rattle.deb_install.specs.Keeping.{HoldsGiven, HoldsValues};
 ghost use Rattle.deb_install.specs.declared.readings.Readings.TheVariants.{Every, One};
 
@@ -34,18 +35,21 @@ use std::alloc::{AllocError, Global};
 
 /// Which packages of a file are asked, and how long the search may take.
 #[derive(Clone, Copy)]
-pub struct InstallRequest {
+pub struct InstallRequest<'a> {
     /// Which paragraphs of the file are its packages.
     pub members: Members,
     /// Which relations a package needs.
     pub strength: Strength,
+    /// The names of the packages that are asked: all are, if there are none. A set may contain the
+    /// others too.
+    pub names: &'a [&'a [u8]],
     /// How long each of the two searches may take: in every reading, and in one.
     pub budget: Budget,
 }
 
 /// Reads an index or the installed packages of a status file once, and writes a line for each
-/// package that can't be installed (Debian Policy 7.2 to 7.5): no healthy set of the file's
-/// packages contains it.
+/// package that is asked and can't be installed (Debian Policy 7.2 to 7.5): no healthy set of the
+/// file's packages contains it.
 ///
 /// - `uninstallable`: it can't be installed, however architecture lists are read.
 /// - `unsure`: it can be installed in one reading, and not in every one.
@@ -55,7 +59,7 @@ pub struct InstallRequest {
 ///
 /// The word is followed by the number, the name, the version and the architecture of the package.
 /// The number counts the packages from 1. The lines are in the order of the packages. A package
-/// without a line can be installed in every reading.
+/// that is asked and has no line can be installed in every reading.
 ///
 /// At most 4,295,032,831 bytes are read: a file of the most bytes, and one piece. Promises about
 /// the text of the file hold for a reader whose bytes are known.
@@ -71,19 +75,18 @@ pub struct InstallRequest {
 pub fn installable<R: Source, W: Sink>(
     alloc: Global,
     environment: &Env,
-    request: InstallRequest,
+    request: &InstallRequest<'_>,
     reader: &mut R,
     writer: &mut W,
 ) -> Result<Summary, Fault>
-    ensures ok { (text : List ℕ) → R.left reader.old ≡ Some text
-        → IfOk result (λ summary. WritesAnswers (asks_installable request.members request.strength
-        (environment_of environment.now)) text summary (W.held writer.old) (W.held writer.new)) }
-    ensures refused { (text : List ℕ) → R.left reader.old ≡ Some text
-        → IfRefused result (λ refusal. refusal_of (doc_of request.members) text ≡ Some refusal) }
-    ensures stopped { (text : List ℕ) → R.left reader.old ≡ Some text
-        → IfErr result (λ fault. StopsAnswers fault (asks_installable request.members
-        request.strength (environment_of environment.now)) text (W.held writer.old)
-        (W.held writer.new)) }
+    ensures ok { (text : List ℕ) → R.left reader.old ≡ Some text → IfOk result
+        (λ summary. WritesAnswers (asks_by request.now (environment_of environment.now)) text
+        summary (W.held writer.old) (W.held writer.new)) }
+    ensures refused { (text : List ℕ) → R.left reader.old ≡ Some text → IfRefused result
+        (λ refusal. refusal_of (doc_of request.now.members) text ≡ Some refusal) }
+    ensures stopped { (text : List ℕ) → R.left reader.old ≡ Some text → IfErr result
+        (λ fault. StopsAnswers fault (asks_by request.now (environment_of environment.now)) text
+        (W.held writer.old) (W.held writer.new)) }
     ensures reads_at_most { (text : List ℕ) → R.left reader.old ≡ Some text
         → TakesNoMore text file_limit (R.left reader.new) }
 
@@ -113,18 +116,19 @@ fn write_answers<W: Sink>(
     alloc: Global,
     index: &Index,
     environment: &Env,
-    request: InstallRequest,
+    request: &InstallRequest<'_>,
     kept: &[Kept],
     writer: &mut W,
 ) -> Result<Summary, Fault>
-    ensures ok { (text : List ℕ) → ListsMembers request.members text (packages_of index.now)
-        → KeepsMembers request.members (HoldsGiven request.members kept.now) text
-        → IfOk result (λ summary. WritesAnswers (asks_installable request.members request.strength
-        (environment_of environment.now)) text summary (W.held writer.old) (W.held writer.new)) }
-    ensures stopped { (text : List ℕ) → ListsMembers request.members text (packages_of index.now)
-        → KeepsMembers request.members (HoldsGiven request.members kept.now) text
-        → IfErr result (λ fault. StopsAnswers fault (asks_installable request.members
-        request.strength (environment_of environment.now)) text (W.held writer.old)
+    ensures ok { (text : List ℕ) → ListsMembers request.now.members text (packages_of index.now)
+        → KeepsMembers request.now.members (HoldsGiven request.now.members kept.now) text
+        → IfOk result (λ summary. WritesAnswers
+        (asks_by request.now (environment_of environment.now)) text summary (W.held writer.old) (W.held writer.new)) }
+    ensures stopped { (text : List ℕ)
+        → ListsMembers request.now.members text (packages_of index.now)
+        → KeepsMembers request.now.members (HoldsGiven request.now.members kept.now) text
+        → IfErr result (λ fault. StopsAnswers fault
+        (asks_by request.now (environment_of environment.now)) text (W.held writer.old)
         (W.held writer.new)) }
     ensures counts_failure { W.failures writer.new ≡ write_failures_after
         (W.failures writer.old) result }
@@ -150,13 +154,13 @@ fn text_of(
     alloc: Global,
     index: &Index,
     environment: &Env,
-    request: InstallRequest,
+    request: &InstallRequest<'_>,
     kept: &[Kept],
 ) -> Result<Vec<u8>, AllocError>
     ensures { (meaning : Meaning) → Pairwise HoldsValues meaning kept.now
         → Pairwise Lists meaning (packages_of index.now) → IfOk result (λ text. HasAnswers
-        request.strength (environment_of environment.now) (packages_of index.now) meaning
-        text.items) }
+        request.now.strength (names_of request.now.names.now) (environment_of environment.now)
+        (packages_of index.now) meaning text.items) }
 {
     let listing = Listing {
         index,
@@ -170,7 +174,7 @@ fn text_of(
         ..listing
     };
     let one = verdicts_if(alloc, &listing, kept, request.budget, &every)?;
-    lines_of(alloc, index, &every, &one)
+    lines_of(alloc, index, request.names, &every, &one)
 }
 
 /// Returns a verdict for each package, by its number, in the readings of a listing; none if the
@@ -194,7 +198,7 @@ fn verdicts_of(
 }
 
 /// Returns such verdicts, if a package isn't installable by other ones; else none, and no search.
-fn verdicts_if(
+pub(crate) fn verdicts_if(
     alloc: Global,
     listing: &Listing<'_>,
     kept: &[Kept],

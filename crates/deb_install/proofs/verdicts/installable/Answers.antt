@@ -19,13 +19,13 @@ returns-in_err-index-clause-stopped g c = λ text told.
 
 pub returns-clause-ok : goal.returns-clause-ok
 returns-clause-ok g c = λ text told.
-    let members = c.args.request.members in
+    let members = c.args.request.now.members in
     let keeps = c.in_ok-index.ensures.keeps text told (none_held members _ c.new-kept.ensures) in
     c.write_answers.ensures.ok text (c.in_ok-index.ensures.ok text told) (subst (λ kept. KeepsMembers members (HoldsGiven members kept) text) (sym c.deref.ensures.value) keeps)
 
 pub returns-clause-stopped : goal.returns-clause-stopped
 returns-clause-stopped g c = λ text told.
-    let members = c.args.request.members in
+    let members = c.args.request.now.members in
     let keeps = c.in_ok-index.ensures.keeps text told (none_held members _ c.new-kept.ensures) in
     c.write_answers.ensures.stopped text (c.in_ok-index.ensures.ok text told) (subst (λ kept. KeepsMembers members (HoldsGiven members kept) text) (sym c.deref.ensures.value) keeps)
 

@@ -1,5 +1,6 @@
 use Rattle.std.proofs.Common.{◌∙◌, ap}
 use Rattle.deb_relation.specs.Environments.{environment_of}
+use Rattle.deb_relation.specs.Views.{names_of}
 use Rattle.deb_index.specs.Indexes.{packages_of}
 use Rattle.deb_install.specs.Answers.{answer_at, answer_lines}
 use Rattle.deb_install.proofs.AnswerLines.{answers-true}
@@ -14,7 +15,7 @@ returns c = λ meaning holds lists.
     if-value _ _
     (λ text is. record {
       answer = answer_at every one;
-      are_true = answers-true c.args.request.strength (environment_of c.args.environment.now) packages meaning every one (c.in_ok-every.ensures meaning holds lists) (c.in_ok-one.ensures meaning holds lists);
-      is = is ∙ ap (λ v. answer_lines (answer_at v c.deref-3.result.now) packages) c.deref-2.ensures.value ∙ ap (λ v. answer_lines (answer_at every v) packages) c.deref-3.ensures.value;
+      are_true = answers-true c.args.request.now.strength (environment_of c.args.environment.now) packages meaning every one (c.in_ok-every.ensures meaning holds lists) (c.in_ok-one.ensures meaning holds lists);
+      is = is ∙ ap (λ v. answer_lines (names_of c.args.request.now.names.now) (answer_at v c.deref-3.result.now) packages) c.deref-2.ensures.value ∙ ap (λ v. answer_lines (names_of c.args.request.now.names.now) (answer_at every v) packages) c.deref-3.ensures.value;
     })
     c.lines_of.result c.lines_of.ensures

@@ -5,14 +5,14 @@ use Rattle.deb_base.specs.Devices.{AppendsFront}
 use Rattle.deb_relation.specs.Environments.{environment_of}
 use Rattle.deb_index.specs.Indexes.{packages_of}
 use Rattle.deb_unmet.specs.Files.{is_nothing}
-use Rattle.deb_install.specs.Installing.{asks_installable}
+use Rattle.deb_install.specs.Installing.{asks_by}
 use Rattle.deb_install.proofs.FileAnswers.{begins-answers, held-file, stopped-writing, writes-answers}
 use Rattle.deb_install.proofs.verdicts.write_answers.Goals as goal
 
 pub returns-in_err-put_all-clause-stopped : goal.returns-in_err-put_all-clause-stopped
 returns-in_err-put_all-clause-stopped g c = λ text lists keeps.
-    let request = c.args.request in
-    let asks = asks_installable request.members request.strength (environment_of c.args.environment.now) in
+    let request = c.args.request.now in
+    let asks = asks_by request (environment_of c.args.environment.now) in
     let packages = packages_of c.args.index.now in
     let file = held-file request.members text packages c.args.kept.now lists keeps in
     let has = c.in_ok-text.ensures _ file.holds file.listed in
@@ -23,8 +23,8 @@ returns-in_err-put_all-clause-stopped g c = λ text lists keeps.
 
 pub returns-clause-ok : goal.returns-clause-ok
 returns-clause-ok g c = λ text lists keeps.
-    let request = c.args.request in
-    let asks = asks_installable request.members request.strength (environment_of c.args.environment.now) in
+    let request = c.args.request.now in
+    let asks = asks_by request (environment_of c.args.environment.now) in
     let packages = packages_of c.args.index.now in
     let file = held-file request.members text packages c.args.kept.now lists keeps in
     let has = c.in_ok-text.ensures _ file.holds file.listed in

@@ -1,0 +1,110 @@
+-- What was found among the members of a file: a healthy set with a package that is asked, or answers.
+use Rattle.std.proofs.Common.{◌≡◌, ℕ, ◌≤◌, Bool, true, List, [], length, slice_get, Some, Option, refl, sym, subst}
+use Rattle.std.specs.Io.KnownBytes.{Appends}
+use Rattle.std.specs.List.{filter, slice_index_or}
+use Rattle.deb_base.specs.Devices.{AppendsFront}
+use Rattle.deb_base.specs.Faults.{IsReadersFault}
+use Rattle.deb_base.specs.declared.fault.Fault.{Fault}
+use Rattle.deb_base.specs.declared.fault.Fault.TheVariants as faults
+use Rattle.deb_base.specs.declared.refusal.Refusal.{Refusal}
+use Rattle.deb_control.specs.Documents.{Meaning}
+use Rattle.deb_control.specs.Pairs.{Pairwise}
+use Rattle.deb_health.specs.declared.kept.Kept.{Kept}
+use Rattle.deb_index.specs.Listed.{Listed}
+use Rattle.deb_index.specs.Listing.{Lists}
+use Rattle.deb_index.specs.Members.{ListsMembers, has_values}
+use Rattle.deb_solve.specs.Health.{is_among}
+use Rattle.deb_solve.specs.Verdicts.{AreRefusals, HasWitness, IsWitness as IsWitnessIn, NoneIsInstallable}
+use Rattle.deb_solve.specs.declared.universe.Universe.{Universe}
+use Rattle.deb_solve.specs.declared.verdict.Verdict.{Verdict}
+use Rattle.deb_solve.specs.declared.verdict.Verdict.TheVariants as solved
+use Rattle.deb_solve.specs.declared.witnesses.SetOrVerdicts.{SetOrVerdicts}
+use Rattle.deb_solve.specs.declared.witnesses.SetOrVerdicts.TheVariants.{Set, Refused}
+use Rattle.deb_install.specs.Answers.{AreVerdictsIn, answer_at, answer_by, answer_lines}
+use Rattle.deb_install.specs.Installing.{AsksInstallable}
+use Rattle.deb_install.specs.Seeking.{AreAsked, AreRefusalsIn, IsFoundIn, IsSetIn}
+use Rattle.deb_install.specs.Universes.{IsUniverseOf, Setting}
+use Rattle.deb_install.specs.Witnesses.{BeginsWitness, FileSought, HasNoSet, HasSet, HasSought, StopsWitness, WritesWitness, set_lines}
+use Rattle.deb_install.specs.declared.answer.Answer.{Answer}
+use Rattle.deb_install.specs.declared.answer.Answer.TheVariants.{Installable}
+use Rattle.deb_install.specs.declared.readings.Readings.TheVariants.{Every, One}
+use Rattle.deb_install.specs.declared.witnesses.Sought.{Sought}
+use Rattle.deb_install.proofs.AnswerLines.{answers-true, known-at}
+use Rattle.deb_install.proofs.Decided.{healthy-in}
+use Rattle.deb_install.proofs.FileAnswers.{HeldFile}
+use Rattle.deb_install.proofs.TrueVerdicts.{verdicts-in}
+
+module _ (asks : AsksInstallable) (text : List ℕ) (packages : List Listed) (kept : List Kept) (lists : ListsMembers asks.members text packages) (file : HeldFile asks.members text packages kept) (is_found : Bool) (lines : List ℕ) (has : HasSought asks packages (filter (has_values asks.members) file.meaning) is_found lines) where
+  file-sought : FileSought asks text is_found lines
+  file-sought = record {
+    packages = packages;
+    lists = lists;
+    meaning = file.meaning;
+    accepted = file.accepted;
+    has = has;
+  }
+
+  pub begins-witness : (old new : Option (List ℕ)) → AppendsFront old new lines → BeginsWitness asks text old new
+  begins-witness old new written = record { is_found = is_found; lines = lines; file = file-sought; written = written }
+
+  pub writes-witness : (paragraphs : ℕ) (old new : Option (List ℕ)) → length packages ≡ paragraphs → Appends old new lines → WritesWitness asks text (record { paragraphs = paragraphs; is_found = is_found }) old new
+  writes-witness paragraphs old new count written = record { lines = lines; file = file-sought; count = count; written = written }
+
+pub stopped-writing : (fault : Fault) (asks : AsksInstallable) (text : List ℕ) (old new : Option (List ℕ)) → fault ≡ faults.Write → BeginsWitness asks text old new → StopsWitness fault asks text old new
+stopped-writing fault asks text old new is begins = subst (λ f. StopsWitness f asks text old new) (sym is) begins
+
+-- a fault of the reader comes before anything is written
+pub unstarted : (fault : Fault) (P : Refusal → Type 0) (asks : AsksInstallable) (text : List ℕ) (held : Option (List ℕ)) → IsReadersFault fault P → StopsWitness fault asks text held held
+unstarted (faults.Refused refusal) P asks text held is = refl
+unstarted faults.Memory P asks text held is = refl
+unstarted faults.Read P asks text held is = refl
+unstarted faults.Write P asks text held is = absurd is
+
+-- of verdicts none of which is `Installable`, no answer is
+not-installable : (v w : Verdict) → (v ≡ solved.Installable → ⊥) → answer_by v w ≡ Installable → ⊥
+not-installable solved.Installable w none is = none refl
+not-installable solved.Undecided w none is = cc
+not-installable solved.Uninstallable solved.Installable none is = cc
+not-installable solved.Uninstallable solved.Uninstallable none is = cc
+not-installable solved.Uninstallable solved.Undecided none is = cc
+
+pub none-installable : (every one : List Verdict) → NoneIsInstallable every → (number : ℕ) → answer_at every one number ≡ Installable → ⊥
+none-installable every one none number is =
+    not-installable (slice_index_or every number solved.Undecided) (slice_index_or one number solved.Undecided)
+    (λ yes. none number (known-at every number solved.Installable (λ e. cc) yes)) is
+
+pub has-no-set : (asks : AsksInstallable) (packages : List Listed) (meaning : Meaning) (every one : List Verdict) (lines : List ℕ) → AreRefusalsIn Every asks.strength asks.environment packages meaning every → AreVerdictsIn One asks.strength asks.environment packages meaning one → lines ≡ answer_lines asks.names (answer_at every one) packages → HasNoSet asks packages meaning lines
+has-no-set asks packages meaning every one lines refused in_one are = record {
+  answer = answer_at every one;
+  are_true = answers-true asks.strength asks.environment packages meaning every one refused.are in_one;
+  none = none-installable every one refused.none;
+  lines_are = are;
+}
+
+pub has-set : (asks : AsksInstallable) (packages : List Listed) (meaning : Meaning) (members lines : List ℕ) → IsSetIn Every asks.strength asks.names asks.environment packages meaning members → lines ≡ set_lines (is_among members) packages → HasSet asks packages meaning lines
+has-set asks packages meaning members lines found are = record {
+  set = is_among members;
+  is = record { healthy = found.healthy; number = found.number; is_asked = found.is_asked; contains = found.contains };
+  lines_are = are;
+}
+
+-- what is found in a universe is found among the packages
+pub found-in : (s : Setting) (names : List (List ℕ)) (meaning : Meaning) (u : Universe) (wanted : List ℕ) (found : SetOrVerdicts) → IsUniverseOf s meaning u → Pairwise Lists meaning s.packages → AreAsked names s.packages wanted → IsWitnessIn u wanted found → IsFoundIn s.readings s.strength names s.environment s.packages meaning found
+found-in s names meaning u wanted (Set members) is lists asked witness = record {
+  healthy = healthy-in s meaning u is lists (is_among members.items) witness.is.is_healthy;
+  number = witness.number;
+  is_asked = asked witness.number witness.is_wanted;
+  contains = witness.is.contains;
+}
+found-in s names meaning u wanted (Refused verdicts) is lists asked witness = record {
+  are = verdicts-in s meaning u verdicts.items is lists witness.are;
+  none = witness.none;
+}
+
+-- without a universe there are no verdicts
+pub nothing-found : (s : Setting) (meaning : Meaning) (verdicts : List Verdict) → verdicts ≡ [] → AreRefusalsIn s.readings s.strength s.environment s.packages meaning verdicts
+nothing-found s meaning [] are = record {
+  are = record { yes = λ number some most at. absurd cc; no = λ number some most at. absurd cc };
+  none = λ number at. cc;
+}
+nothing-found s meaning (v ∷ verdicts) are = absurd cc
