@@ -1,5 +1,7 @@
 -- What was found among the members of a file: a healthy set with a package that is asked, or answers.
-use Rattle.std.proofs.Common.{◌≡◌, ℕ, ◌≤◌, Bool, true, List, [], length, slice_get, Some, Option, refl, sym, subst}
+use Rattle.std.proofs.Common.{◌≡◌, inl, inr, ℕ, eqb, Bool, true, false, ◌||◌, List, [], ◌∷◌, ◌++◌, length, Some, Option, Result, Ok, Err, OnOk, refl, sym, ◌∙◌, subst}
+use Rattle.std.proofs.lemmas.Bool.{eqb-true, false≢true, or_cases}
+use Rattle.std.proofs.lemmas.List.Folds.{list_any-append}
 use Rattle.std.specs.Io.KnownBytes.{Appends}
 use Rattle.std.specs.List.{filter, slice_index_or}
 use Rattle.deb_base.specs.Devices.{AppendsFront}
@@ -13,6 +15,7 @@ use Rattle.deb_health.specs.declared.kept.Kept.{Kept}
 use Rattle.deb_index.specs.Listed.{Listed}
 use Rattle.deb_index.specs.Listing.{Lists}
 use Rattle.deb_index.specs.Members.{ListsMembers, has_values}
+use Rattle.deb_index.specs.Named.{package_at}
 use Rattle.deb_solve.specs.Health.{is_among}
 use Rattle.deb_solve.specs.Verdicts.{AreRefusals, HasWitness, IsWitness as IsWitnessIn, NoneIsInstallable}
 use Rattle.deb_solve.specs.declared.universe.Universe.{Universe}
@@ -20,11 +23,11 @@ use Rattle.deb_solve.specs.declared.verdict.Verdict.{Verdict}
 use Rattle.deb_solve.specs.declared.verdict.Verdict.TheVariants as solved
 use Rattle.deb_solve.specs.declared.witnesses.SetOrVerdicts.{SetOrVerdicts}
 use Rattle.deb_solve.specs.declared.witnesses.SetOrVerdicts.TheVariants.{Set, Refused}
-use Rattle.deb_install.specs.Answers.{AreVerdictsIn, answer_at, answer_by, answer_lines}
+use Rattle.deb_install.specs.Answers.{AreVerdictsIn, answer_at, answer_by, answer_lines, is_asked}
 use Rattle.deb_install.specs.Installing.{AsksInstallable}
 use Rattle.deb_install.specs.Seeking.{AreAsked, AreRefusalsIn, IsFoundIn, IsSetIn}
 use Rattle.deb_install.specs.Universes.{IsUniverseOf, Setting}
-use Rattle.deb_install.specs.Witnesses.{BeginsWitness, FileSought, HasNoSet, HasSet, HasSought, StopsWitness, WritesWitness, set_lines}
+use Rattle.deb_install.specs.Witnesses.{BeginsWitness, FileSought, HasNoSet, HasSet, HasSought, IsAskedAt, StopsWitness, WritesWitness, set_lines}
 use Rattle.deb_install.specs.declared.answer.Answer.{Answer}
 use Rattle.deb_install.specs.declared.answer.Answer.TheVariants.{Installable}
 use Rattle.deb_install.specs.declared.readings.Readings.TheVariants.{Every, One}
@@ -35,7 +38,7 @@ use Rattle.deb_install.proofs.FileAnswers.{HeldFile}
 use Rattle.deb_install.proofs.TrueVerdicts.{verdicts-in}
 
 module _ (asks : AsksInstallable) (text : List ℕ) (packages : List Listed) (kept : List Kept) (lists : ListsMembers asks.members text packages) (file : HeldFile asks.members text packages kept) (is_found : Bool) (lines : List ℕ) (has : HasSought asks packages (filter (has_values asks.members) file.meaning) is_found lines) where
-  file-sought : FileSought asks text is_found lines
+  abbrev file-sought : FileSought asks text is_found lines
   file-sought = record {
     packages = packages;
     lists = lists;
@@ -108,3 +111,21 @@ nothing-found s meaning [] are = record {
   none = λ number at. cc;
 }
 nothing-found s meaning (v ∷ verdicts) are = absurd cc
+
+module _ (names : List (List ℕ)) (packages : List Listed) (out : List ℕ) (number : ℕ) (p : Listed) (asked : AreAsked names packages out) (at : package_at number packages ≡ Some p) (is : is_asked names p.name ≡ true) where
+  -- a number of the list with one more: of the list, or that one
+  pushed-asked : AreAsked names packages (out ++ number ∷ [])
+  pushed-asked n contains = elim (or_cases (is_among out n) (eqb number n || false) (sym (list_any-append (λ member. eqb member n) out (number ∷ [])) ∙ contains)) [
+    | inl before ↦ asked n before
+    | inr last ↦ elim (or_cases (eqb number n) false last) [
+      | inl same ↦ subst (IsAskedAt names packages) (eqb-true number n same) here
+      | inr no ↦ absurd (false≢true no)
+    ]
+  ]
+    where
+      here : IsAskedAt names packages number
+      here = record { «package» = p; at = at; asked = is }
+
+pub one-more-asked : {T E : Type 0} (names : List (List ℕ)) (packages : List Listed) (out new : List ℕ) (number : ℕ) (p : Listed) (r : Result T E) → OnOk r (new ≡ out ++ number ∷ []) → AreAsked names packages out → package_at number packages ≡ Some p → is_asked names p.name ≡ true → OnOk r (AreAsked names packages new)
+one-more-asked names packages out new number p (Ok x) more asked at is = subst (AreAsked names packages) (sym more) (pushed-asked names packages out number p asked at is)
+one-more-asked names packages out new number p (Err e) more asked at is = more

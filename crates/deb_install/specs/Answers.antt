@@ -1,5 +1,5 @@
 -- What is known of whether each package can be installed, and its lines. This project's own.
-use Rattle.std.specs.Prelude.{◌≡◌, ℕ, ◌+◌, ◌==◌, ◌≤◌, Bool, true, false, cond, List, [], ◌∷◌, ◌++◌, length, map, Some, codes, refl}
+use Rattle.std.specs.Prelude.{◌≡◌, ℕ, ◌+◌, ◌==◌, ◌≤◌, ◌||◌, Bool, true, false, cond, List, [], ◌∷◌, ◌++◌, length, map, Some, codes, refl}
 use Rattle.std.specs.Fmt.{digits}
 use Rattle.std.specs.List.{slice_get, slice_index_or}
 use Rattle.deb_control.specs.Documents.{Meaning}
@@ -43,8 +43,7 @@ answer_line Undecided p = codes "undecided" ++ package_line canonical_version p
 
 -- A package is asked if its name is one of these, or if there are none.
 abbrev pub is_asked : List (List ℕ) → List ℕ → Bool
-is_asked [] name = true
-is_asked (n ∷ names) name = is_among name (n ∷ names)
+is_asked names name = (length names == 0) || is_among name names
 
 -- only a package that is asked has a line
 abbrev pub asked_line : List (List ℕ) → Answer → Numbered → List ℕ

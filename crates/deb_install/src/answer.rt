@@ -6,7 +6,10 @@ ghost use Rattle.deb_index.specs.Kept.{listed_of};
 ghost use Rattle.deb_index.specs.ReportText.{canonical_version, package_line};
 ghost use Rattle.deb_health.specs.Lines.{line_at};
 ghost use Rattle.deb_solve.specs.declared.verdict.Verdict.TheVariants as solved;
-ghost use Rattle.deb_relation.specs.Views.{names_of};
+ghost use Rattle.std.specs.List.{list_any};
+ghost use Rattle.std.specs.Str.{bytes_eq};
+ghost use Rattle.deb_relation.specs.Applying.{is_among};
+ghost use Rattle.deb_relation.specs.Views.{name_key, names_of};
 ghost use Rattle.deb_install.specs.Answers.{answer_at, answer_by, answer_line, answer_lines};
 ghost use Rattle.deb_install.specs.Answers.{asked_line, is_asked};
 
@@ -53,7 +56,19 @@ pub(crate) fn lines_of(
 pub(crate) fn is_asked(names: &[&[u8]], name: &[u8]) -> bool
     ensures { result ≡ is_asked (names_of names.now) name.now }
 {
-    names.is_empty() || names.iter().any(|other| *other == name)
+    names.is_empty() || is_among(name, names)
+}
+
+fn is_among(name: &[u8], names: &[&[u8]]) -> bool
+    ensures { result ≡ is_among name.now (names_of names.now) }
+{
+    some_is(names, name)
+}
+
+fn some_is(names: &[&[u8]], name: &[u8]) -> bool
+    ensures { result ≡ list_any (λ other. bytes_eq (name_key other) name.now) names.now }
+{
+    names.iter().any(|other| *other == name)
 }
 
 /// Returns the answer of the package with a number.
