@@ -1,4 +1,5 @@
 pub mod Tests
+pub mod SetLines
 pub mod Sets
 pub mod GroupRows
 pub mod PackageRows

@@ -1,6 +1,6 @@
 //! Writes which packages of a file to install together with one of them.
 
-ghost use Rattle.std.specs.Prelude.{◌≡◌, ◌++◌, ℕ, List, Some, IfOk, IfErr, OnOk};
+ghost use Rattle.std.specs.Prelude.{◌≡◌, ◌++◌, ℕ, List, [], Some, IfOk, IfErr, OnOk, cond};
 ghost use Rattle.deb_base.specs.Bodies.{file_limit};
 ghost use Rattle.deb_base.specs.Devices.{read_failures_after, write_failures_after, ReadFaultIffFailed, WriteFaultIffFailed};
 ghost use Rattle.deb_base.specs.Reading.{TakesNoMore};
@@ -10,11 +10,14 @@ ghost use Rattle.deb_control.specs.Documents.{Meaning, refusal_of};
 ghost use Rattle.deb_control.specs.Pairs.{Pairwise};
 ghost use Rattle.deb_health.specs.Lines.{line_at};
 ghost use Rattle.deb_index.specs.Indexes.{packages_of};
+ghost use Rattle.deb_index.specs.Kept.{listed_of};
 ghost use Rattle.deb_index.specs.Listing.{Lists};
+ghost use Rattle.deb_index.specs.ReportText.{canonical_version, package_line};
 ghost use Rattle.deb_index.specs.Members.{KeepsMembers, ListsMembers, doc_of};
 ghost use Rattle.deb_relation.specs.Environments.{environment_of};
 ghost use Rattle.deb_relation.specs.Views.{names_of};
 ghost use Rattle.deb_solve.specs.Health.{is_among};
+ghost use Rattle.deb_solve.specs.Marks.{AreMarks, marked};
 ghost use Rattle.deb_unmet.specs.Asking.{IsWritersFault};
 ghost use Rattle.deb_install.specs.Installing.{asks_by};
 ghost use Rattle.deb_install.specs.Keeping.{HoldsGiven, HoldsValues};
@@ -29,7 +32,7 @@ use crate::universe::{Listing, universe_of};
 use crate::verdicts::{InstallRequest, verdicts_if};
 use deb_base::{Fault, Sink, Source, put_all};
 use deb_health::Kept;
-use deb_index::Index;
+use deb_index::{Index, Package};
 use deb_relation::Env;
 use deb_solve::{Budget, SetOrVerdicts};
 use std::alloc::{AllocError, Global};
@@ -233,31 +236,73 @@ fn lines_of_set(alloc: Global, index: &Index, members: &[u32]) -> Result<Vec<u8>
     ensures { IfOk result (λ lines. lines.items
         ≡ set_lines (is_among members.now) (packages_of index.now)) }
 {
+    let marks = marks_of(alloc, members, index.len() + 1)?;
+    marked_lines(alloc, index, &marks)
+}
+
+/// Returns for each number below a count whether it is one of these.
+fn marks_of(alloc: Global, numbers: &[u32], count: usize) -> Result<Vec<bool>, AllocError>
+    ensures { IfOk result (λ marks. AreMarks marks.items numbers.now count) }
+{
+    let mut marks = vec![in alloc; false; count]?;
+    for number in numbers {
+        if (*number as usize) < marks.len() {
+            marks[*number as usize] = true;
+        }
+    }
+    Ok(marks)
+}
+
+/// Returns the lines of the packages whose numbers have a mark.
+fn marked_lines(alloc: Global, index: &Index, marks: &[bool]) -> Result<Vec<u8>, AllocError>
+    ensures { IfOk result (λ lines. lines.items
+        ≡ set_lines (marked marks.now) (packages_of index.now)) }
+{
     let mut lines = Vec::new(alloc);
     for count in 0..index.len() {
-        append_member(&mut lines, members, index, count as u64 + 1)?;
+        append_member(&mut lines, marks, index, count as u64 + 1)?;
     }
     Ok(lines)
 }
 
-/// Appends the line of the package with this number, if it is a member.
+/// Appends the line of the package with this number, if it has a mark.
 fn append_member(
     out: &mut Vec<u8>,
-    members: &[u32],
+    marks: &[bool],
     index: &Index,
     number: u64,
 ) -> Result<(), AllocError>
     ensures { OnOk result (out.new.items ≡ out.old.items
-        ++ line_at (member_line (is_among members.now)) (packages_of index.now) number) }
+        ++ line_at (member_line (marked marks.now)) (packages_of index.now) number) }
 {
     match index.package(number) {
-        Some(package) if is_among(members, number) => append_package(out, number, &package),
-        _ => Ok(()),
+        Some(package) => append_if_marked(out, is_marked(marks, number), number, &package),
+        None => Ok(()),
     }
 }
 
-fn is_among(members: &[u32], number: u64) -> bool
-    ensures { result ≡ is_among members.now number }
+/// Appends the line of a package, if it has a mark.
+fn append_if_marked(
+    out: &mut Vec<u8>,
+    mark: bool,
+    number: u64,
+    package: &Package<'_>,
+) -> Result<(), AllocError>
+    ensures { OnOk result (out.new.items ≡ out.old.items
+        ++ cond mark (package_line canonical_version (number, listed_of «package».now)) []) }
 {
-    members.iter().any(|member| u64::from(*member) == number)
+    if mark {
+        append_package(out, number, package)
+    } else {
+        Ok(())
+    }
+}
+
+fn is_marked(marks: &[bool], number: u64) -> bool
+    ensures { result ≡ marked marks.now number }
+{
+    match marks.get(number as usize) {
+        Some(mark) => *mark,
+        None => false,
+    }
 }

@@ -1,21 +1,14 @@
-use Rattle.std.proofs.Common.{◌++◌, ap, subst, ◌<◌, ◌≤◌}
+use Rattle.std.proofs.Common.{◌∙◌, ap}
 use Rattle.deb_index.specs.Indexes.{packages_of}
-use Rattle.deb_solve.specs.Health.{is_among}
-use Rattle.deb_install.specs.Witnesses.{member_line, set_lines}
-use Rattle.deb_install.proofs.AnswerLines.{lines-end, lines-next}
+use Rattle.deb_solve.specs.Marks.{marked}
+use Rattle.deb_install.specs.Witnesses.{set_lines}
+use Rattle.deb_install.proofs.FileAnswers.{if-value}
+use Rattle.deb_install.proofs.SetLines.{same-lines}
 use Rattle.deb_install.proofs.witnesses.lines_of_set.Goals as goal
-
-pub loop-count-init : goal.loop-count-init
-loop-count-init c =
-    ap (λ lines. lines ++ set_lines (is_among c.args.members.now) (packages_of c.args.index.now)) c.new-lines.ensures.items
-
-pub loop-count-preserved : goal.loop-count-preserved
-loop-count-preserved c =
-    lines-next (member_line (is_among c.args.members.now)) (packages_of c.args.index.now) c.loop-count.count c.loop-count.lines.items c.append_member.new.out.items _
-    (subst (λ n. c.loop-count.count < n) c.len-count-end.ensures c.loop-count-test.true)
-    c.in_ok-append_member.ensures c.loop-count.invariant
 
 pub returns : goal.returns
 returns c =
-    lines-end (member_line (is_among c.args.members.now)) (packages_of c.args.index.now) c.loop-count.count c.loop-count.lines.items _
-    (subst (λ n. n ≤ c.loop-count.count) c.len-count-end.ensures c.loop-count-test.false) c.loop-count.invariant
+    if-value _ _
+    (λ lines is. is ∙ ap (λ marks. set_lines (marked marks) (packages_of c.args.index.now)) c.deref.ensures.value
+    ∙ same-lines (packages_of c.args.index.now) c.in_ok-marks.marks.items c.args.members.now _ c.len.ensures c.in_ok-marks.ensures)
+    c.marked_lines.result c.marked_lines.ensures
