@@ -15,7 +15,6 @@ use Rattle.deb_solve.specs.declared.verdict.Verdict.{Verdict}
 use Rattle.deb_solve.specs.declared.verdict.Verdict.TheVariants as solved
 use Rattle.deb_unmet.specs.declared.asked.Strength.{Strength}
 use Rattle.deb_install.specs.Answers.{AreAnswers, AreVerdictsIn, Says, answer_at, answer_by, lines_from}
-use Rattle.deb_install.specs.declared.answer.Answer.{Answer}
 use Rattle.deb_install.specs.declared.readings.Readings.TheVariants.{Every, One}
 
 abbrev any : Listed

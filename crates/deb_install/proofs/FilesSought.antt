@@ -17,7 +17,7 @@ use Rattle.deb_index.specs.Listing.{Lists}
 use Rattle.deb_index.specs.Members.{ListsMembers, has_values}
 use Rattle.deb_index.specs.Named.{package_at}
 use Rattle.deb_solve.specs.Health.{is_among}
-use Rattle.deb_solve.specs.Verdicts.{AreRefusals, HasWitness, IsWitness as IsWitnessIn, NoneIsInstallable}
+use Rattle.deb_solve.specs.Verdicts.{IsWitness as IsWitnessIn, NoneIsInstallable}
 use Rattle.deb_solve.specs.declared.universe.Universe.{Universe}
 use Rattle.deb_solve.specs.declared.verdict.Verdict.{Verdict}
 use Rattle.deb_solve.specs.declared.verdict.Verdict.TheVariants as solved
@@ -28,10 +28,8 @@ use Rattle.deb_install.specs.Installing.{AsksInstallable}
 use Rattle.deb_install.specs.Seeking.{AreAsked, AreRefusalsIn, IsFoundIn, IsSetIn}
 use Rattle.deb_install.specs.Universes.{IsUniverseOf, Setting}
 use Rattle.deb_install.specs.Witnesses.{BeginsWitness, FileSought, HasNoSet, HasSet, HasSought, IsAskedAt, StopsWitness, WritesWitness, set_lines}
-use Rattle.deb_install.specs.declared.answer.Answer.{Answer}
 use Rattle.deb_install.specs.declared.answer.Answer.TheVariants.{Installable}
 use Rattle.deb_install.specs.declared.readings.Readings.TheVariants.{Every, One}
-use Rattle.deb_install.specs.declared.witnesses.Sought.{Sought}
 use Rattle.deb_install.proofs.AnswerLines.{answers-true, known-at}
 use Rattle.deb_install.proofs.Decided.{healthy-in}
 use Rattle.deb_install.proofs.FileAnswers.{HeldFile}
@@ -119,7 +117,7 @@ module _ (names : List (List ℕ)) (packages : List Listed) (out : List ℕ) (nu
     | inl before ↦ asked n before
     | inr last ↦ elim (or_cases (eqb number n) false last) [
       | inl same ↦ subst (IsAskedAt names packages) (eqb-true number n same) here
-      | inr no ↦ absurd (false≢true no)
+      | inr none ↦ absurd (false≢true none)
     ]
   ]
     where

@@ -12,5 +12,15 @@ use Rattle.deb_install.proofs.witnesses.seek.Goals as goal
 pub returns-in_ok-lines_of_set-in-Set : goal.returns-in_ok-lines_of_set-in-Set
 returns-in_ok-lines_of_set-in-Set c = λ meaning holds lists.
     has-set (asks_by c.args.request.now (environment_of c.args.environment.now)) (packages_of c.args.index.now) meaning c.in-Set.members.items _
-    (rw c.in-Set.is at c.in_ok-set_of.ensures meaning holds lists)
+    (rw c.in-Set.is at c.in_ok-members.ensures meaning holds lists)
     (c.in_ok-lines_of_set-in-Set.ensures ∙ ap (λ members. set_lines (is_among members) (packages_of c.args.index.now)) c.deref.ensures.value)
+
+pub returns-in_ok-lines_of-in-Refused : goal.returns-in_ok-lines_of-in-Refused
+returns-in_ok-lines_of-in-Refused c = λ meaning holds lists.
+    let packages = packages_of c.args.index.now in
+    let names = names_of c.args.request.now.names.now in
+    has-no-set (asks_by c.args.request.now (environment_of c.args.environment.now)) packages meaning c.in-Refused.every.items c.in_ok-one-in-Refused.one.items _
+    (rw c.in-Refused.is at c.in_ok-members.ensures meaning holds lists) (c.in_ok-one-in-Refused.ensures meaning holds lists)
+    (c.in_ok-lines_of-in-Refused.ensures
+    ∙ ap (λ v. answer_lines names (answer_at v c.deref-in-Refused-3.result.now) packages) c.deref-in-Refused-2.ensures.value
+    ∙ ap (λ v. answer_lines names (answer_at c.in-Refused.every.items v) packages) c.deref-in-Refused-3.ensures.value)

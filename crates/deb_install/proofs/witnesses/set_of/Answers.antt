@@ -1,5 +1,4 @@
 use Rattle.std.proofs.Common.{subst}
-use Rattle.deb_index.specs.Indexes.{packages_of}
 use Rattle.deb_relation.specs.Views.{names_of}
 use Rattle.deb_solve.specs.Verdicts.{IsWitness}
 use Rattle.deb_install.proofs.FileAnswers.{if-value}
