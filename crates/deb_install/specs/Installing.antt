@@ -4,6 +4,7 @@ use Rattle.std.specs.Prelude.{◌≡◌, ℕ, List, [], ◌∷◌, codes, length
 use Rattle.std.specs.Io.KnownBytes.{Appends}
 use Rattle.std.specs.List.{filter}
 use Rattle.deb_base.specs.Devices.{AppendsFront}
+use Rattle.deb_base.specs.Literals.{lent}
 use Rattle.deb_base.specs.declared.fault.Fault.{Fault}
 use Rattle.deb_base.specs.declared.fault.Fault.TheVariants as faults
 use Rattle.deb_control.specs.Documents.{Meaning, Accepted}
@@ -83,3 +84,11 @@ worked-asks : asks_installable Installed Recommends (codes "aa" ∷ []) for_amd6
   environment = for_amd64;
 }
 worked-asks = refl
+
+worked-by : asks_by (record {
+  members = Installed;
+  strength = Recommends;
+  names = lent (lent (codes "aa") ∷ []);
+  budget = record { one_search = 1 };
+}) for_amd64 ≡ asks_installable Installed Recommends (codes "aa" ∷ []) for_amd64
+worked-by = refl
