@@ -5,9 +5,9 @@ use Rattle.std.specs.Fmt.{decimal}
 use Rattle.std.specs.Str.Parse.{digits_value}
 use Rattle.std.specs.List.{slice_split}
 use Rattle.std.specs.Option.{option_map_or}
-use Rattle.clap.specs.Simple.{App, subcommand_of}
-use Rattle.clap.specs.Walk.{Row, Rule, Text, all_of, first_of}
-use Rattle.debctl_args.specs.Commands.{CommandRow, all_rule, arch_rule, budget_rule, code_rule, complete_rule, has_row, index_rule, installed_rule, kind_rule, least_rule, list_rule, null_rule, optional_rule, paths_rule, profiles_rule, program_of, recommends_rule, relation_file_rule, relation_rule, required_rule, reverse_rule, spelled_rule, values_rule, version_rule, versions_rule, why_rule}
+use Rattle.clap.specs.Simple.{subcommand_of}
+use Rattle.clap.specs.Walk.{Row, Text, all_of, first_of}
+use Rattle.debctl_args.specs.Commands.{debctl_app, has_help}
 use Rattle.deb_base.specs.Codes.{name_of, number_of}
 use Rattle.deb_base.specs.declared.code.Code.{Code}
 use Rattle.deb_base.specs.declared.code.Code.TheVariants as code
@@ -46,70 +46,6 @@ use Rattle.debctl_args.specs.declared.jobs.Strength.{Strength}
 use Rattle.debctl_args.specs.declared.jobs.Strength.TheVariants.{Depends, Recommends}
 use Rattle.debctl_args.specs.declared.jobs.Task.{Task}
 use Rattle.debctl_args.specs.declared.jobs.Task.TheVariants as task
-
--- ---- commands
-
-abbrev pub row : Text → List Rule → CommandRow
-row name rules = record { name = name; rules = rules }
-
--- The commands: each has a name, and these options and arguments.
-abbrev pub commands : List CommandRow
-commands =
-    -- `check [--kind K] [--all] [--complete] [--least N] [PATH]`
-    row (codes "check") (kind_rule ∷ all_rule ∷ complete_rule ∷ least_rule
-    ∷ optional_rule (codes "path") ∷ [])
-    -- `explain [--kind K] [--all] [PATH]`, `explain --code N`, `explain --relation TEXT` and
-    -- `explain --version-text TEXT`
-    ∷ row (codes "explain") (kind_rule ∷ all_rule ∷ code_rule ∷ relation_rule ∷ version_rule
-    ∷ optional_rule (codes "path") ∷ [])
-    -- `audit [--kind K] [--all] [--complete] [--least N] [--null] PATH ..` and
-    -- `audit [--kind K] [--all] [--complete] [--least N] [--null] --files0-from PATH`
-    ∷ row (codes "audit") (kind_rule ∷ all_rule ∷ complete_rule ∷ least_rule ∷ list_rule
-    ∷ null_rule ∷ paths_rule ∷ [])
-    -- `normalise [--kind K] [PATH]`
-    ∷ row (codes "normalise") (kind_rule ∷ optional_rule (codes "path") ∷ [])
-    -- `same [--kind K] PATH PATH`
-    ∷ row (codes "same") (kind_rule ∷ required_rule (codes "first")
-    ∷ required_rule (codes "second") ∷ [])
-    -- `diff [--kind K] [--values] [--spelled] OLD NEW`
-    ∷ row (codes "diff") (kind_rule ∷ values_rule ∷ spelled_rule ∷ required_rule (codes "old")
-    ∷ required_rule (codes "new") ∷ [])
-    -- `compare V OP V`
-    ∷ row (codes "compare") (required_rule (codes "left") ∷ required_rule (codes "operator")
-    ∷ required_rule (codes "right") ∷ [])
-    -- `canon-version V`
-    ∷ row (codes "canon-version") (required_rule (codes "version") ∷ [])
-    -- `version-key V ..`
-    ∷ row (codes "version-key") (versions_rule ∷ [])
-    -- `sort [--reverse] [PATH]`
-    ∷ row (codes "sort") (reverse_rule ∷ optional_rule (codes "path") ∷ [])
-    -- `query --arch A [--profiles P,P] [--why] [--spelled] [--installed] RELATION [PATH]`, or with
-    -- `--relation-from PATH` and without RELATION
-    ∷ row (codes "query") (arch_rule ∷ profiles_rule ∷ why_rule ∷ spelled_rule ∷ installed_rule
-    ∷ relation_file_rule ∷ optional_rule (codes "relation") ∷ optional_rule (codes "path") ∷ [])
-    -- `unmet --arch A [--profiles P,P] [--kind K] [--recommends] [--spelled] [--installed] INDEX
-    -- [PATH]`
-    ∷ row (codes "unmet") (arch_rule ∷ profiles_rule ∷ kind_rule ∷ recommends_rule
-    ∷ spelled_rule ∷ installed_rule ∷ required_rule (codes "index")
-    ∷ optional_rule (codes "path") ∷ [])
-    -- `healthy --arch A [--recommends] [--installed] [PATH]`
-    ∷ row (codes "healthy") (arch_rule ∷ recommends_rule ∷ installed_rule
-    ∷ optional_rule (codes "path") ∷ [])
-    -- `installable --arch A [--recommends] [--installed] [--budget N] [PATH]` and
-    -- `installable --arch A [--profiles P,P] --kind K --index INDEX [--installed] [--budget N]
-    -- PATH`
-    ∷ row (codes "installable") (arch_rule ∷ profiles_rule ∷ kind_rule ∷ index_rule
-    ∷ recommends_rule ∷ installed_rule ∷ budget_rule ∷ optional_rule (codes "path") ∷ [])
-    -- `help [COMMAND]`
-    ∷ row (codes "help") (optional_rule (codes "command") ∷ []) ∷ []
-
--- the program with its commands
-abbrev pub debctl_app : App
-debctl_app = program_of commands
-
--- the word names a command, or the kinds of files, so that there is help on it
-abbrev pub has_help : Text → Bool
-has_help word = bytes_eq word (codes "kinds") || has_row word commands
 
 -- ---- words
 
@@ -183,10 +119,10 @@ budget_asked (Some word) = budget_named word
 abbrev pub comma_pieces : Text → List Text
 comma_pieces text = slice_split (λ b. b == 44) text
 
--- the profiles that are named: none where no word names them
-abbrev pub profiles_asked : Option Text → List Text
-profiles_asked None = []
-profiles_asked (Some word) = comma_pieces word
+-- the profiles or the names between the commas of a word: none without a word
+abbrev pub pieces_asked : Option Text → List Text
+pieces_asked None = []
+pieces_asked (Some word) = comma_pieces word
 
 -- whether a flag is given: `clap` reads one that is given as `true`
 abbrev pub flag_asked : Option Text → Bool
@@ -255,7 +191,8 @@ pub data Wanted : Type 0 where
   queries_from : Text → List Text → Members → Detail → VersionText → Wanted
   finds_unmet : Text → List Text → Members → Dependents → VersionText → Wanted
   checks_health : Text → Members → Strength → Wanted
-  finds_uninstallable : Text → Members → Strength → ℕ → Wanted
+  finds_uninstallable : Text → Members → Strength → List Text → ℕ → Wanted
+  finds_witness : Text → Members → Strength → List Text → ℕ → Wanted
   finds_unbuildable : Text → List Text → Members → SourceKind → ℕ → Wanted
   explains : Doc → Wanted
   explains_all : Doc → Wanted
@@ -290,8 +227,10 @@ wanted_of (job.QueryFrom arch profiles members detail versions) =
 wanted_of (job.Unmet arch profiles members dependents versions) =
     finds_unmet (string_bytes arch) (map string_bytes profiles.items) members dependents versions
 wanted_of (job.Healthy arch members strength) = checks_health (string_bytes arch) members strength
-wanted_of (job.Installable arch members strength budget) =
-    finds_uninstallable (string_bytes arch) members strength budget
+wanted_of (job.Installable arch members strength names budget) =
+    finds_uninstallable (string_bytes arch) members strength (map string_bytes names.items) budget
+wanted_of (job.Witness arch members strength names budget) =
+    finds_witness (string_bytes arch) members strength (map string_bytes names.items) budget
 wanted_of (job.Buildable arch profiles members kind budget) =
     finds_unbuildable (string_bytes arch) (map string_bytes profiles.items) members kind budget
 
@@ -311,7 +250,8 @@ reads_of (job.Query arch profiles relation members detail versions) = OneFile
 reads_of (job.QueryFrom arch profiles members detail versions) = Paths
 reads_of (job.Unmet arch profiles members dependents versions) = Paths
 reads_of (job.Healthy arch members strength) = OneFile
-reads_of (job.Installable arch members strength budget) = OneFile
+reads_of (job.Installable arch members strength names budget) = OneFile
+reads_of (job.Witness arch members strength names budget) = OneFile
 reads_of (job.Buildable arch profiles members kind budget) = Paths
 
 -- the kind that is named for the files of a job whose refusals are lines on standard error
@@ -373,7 +313,9 @@ pub data Asked : Type 0 where
   other_kind : Asked
   index_of_packages : Asked
   profiles_of_packages : Asked
+  only_or_witness : Asked
   sources_recommend : Asked
+  names_of_sources : Asked
   index_and_path : Asked
   no_number : Asked
   no_budget : Asked
@@ -597,7 +539,7 @@ abbrev pub query_of_word : List Row → Text → Asked
 query_of_word rows relation =
     asks (record {
       wanted = queries (word_in (codes "arch") rows)
-          (profiles_asked (first_of (codes "profiles") rows)) relation (members_in rows)
+          (pieces_asked (first_of (codes "profiles") rows)) relation (members_in rows)
           (detail_asked (flag_asked (first_of (codes "why") rows)))
           (versions_asked (flag_asked (first_of (codes "spelled") rows)));
       first = first_of (codes "path") rows;
@@ -617,7 +559,7 @@ query_of_file rows path =
     then standard_input_twice
     else asks (record {
       wanted = queries_from (word_in (codes "arch") rows)
-          (profiles_asked (first_of (codes "profiles") rows)) (members_in rows)
+          (pieces_asked (first_of (codes "profiles") rows)) (members_in rows)
           (detail_asked (flag_asked (first_of (codes "why") rows)))
           (versions_asked (flag_asked (first_of (codes "spelled") rows)));
       first = Some path;
@@ -641,7 +583,7 @@ unmet_of_files rows dependents =
     then standard_input_twice
     else asks (record {
       wanted = finds_unmet (word_in (codes "arch") rows)
-          (profiles_asked (first_of (codes "profiles") rows)) (members_in rows) dependents
+          (pieces_asked (first_of (codes "profiles") rows)) (members_in rows) dependents
           (versions_asked (flag_asked (first_of (codes "spelled") rows)));
       first = Some (word_in (codes "index") rows);
       second = first_of (codes "path") rows;
@@ -692,22 +634,34 @@ healthy_asked rows =
       second = None;
     })
 
--- `installable` of packages, by its architecture, the fields that it tries and its budget
+-- what `installable` of packages wants with this budget: for the names of `--witness` a set, and
+-- without them the lines of packages, of those with the names of `--only` or of all
+abbrev pub packages_wanted : List Row → ℕ → Wanted
+packages_wanted rows budget = option_map_or
+    (λ names. finds_witness (word_in (codes "arch") rows) (members_in rows) (strength_in rows)
+    (comma_pieces names) budget)
+    (first_of (codes "witness") rows)
+    (finds_uninstallable (word_in (codes "arch") rows) (members_in rows) (strength_in rows)
+    (pieces_asked (first_of (codes "only") rows)) budget)
+
+-- `installable` of packages
 abbrev pub packages_to_install : List Row → Asked
 packages_to_install rows = option_map_or
     (λ budget. asks (record {
-      wanted = finds_uninstallable (word_in (codes "arch") rows) (members_in rows)
-          (strength_in rows) budget;
+      wanted = packages_wanted rows budget;
       first = first_of (codes "path") rows;
       second = None;
     }))
     (budget_asked (first_of (codes "budget") rows)) no_budget
 
--- the same: the packages are those of its file, and no field of them has profiles
+-- the same: the packages are those of its file, no field of them has profiles, and a set has no
+-- lines of packages beside it
 abbrev pub installable_of_packages : List Row → Asked
 installable_of_packages rows =
     if is_some (first_of (codes "index") rows) then index_of_packages
     else if is_some (first_of (codes "profiles") rows) then profiles_of_packages
+    else if is_some (first_of (codes "only") rows) && is_some (first_of (codes "witness") rows)
+    then only_or_witness
     else packages_to_install rows
 
 -- `installable` of the source packages of a file, with the packages of an index: not both are
@@ -719,16 +673,19 @@ buildable_of_files rows kind =
     else option_map_or
     (λ budget. asks (record {
       wanted = finds_unbuildable (word_in (codes "arch") rows)
-          (profiles_asked (first_of (codes "profiles") rows)) (members_in rows) kind budget;
+          (pieces_asked (first_of (codes "profiles") rows)) (members_in rows) kind budget;
       first = Some (word_in (codes "index") rows);
       second = first_of (codes "path") rows;
     }))
     (budget_asked (first_of (codes "budget") rows)) no_budget
 
--- the same: source packages have no Recommends, and are in another file than the index
+-- the same: source packages have no Recommends, no names are asked of them, and they are in another
+-- file than the index
 abbrev pub buildable_of_kind : List Row → SourceKind → Asked
 buildable_of_kind rows kind =
     if flag_asked (first_of (codes "recommends") rows) then sources_recommend
+    else if is_some (first_of (codes "only") rows) || is_some (first_of (codes "witness") rows)
+    then names_of_sources
     else if not (is_some (first_of (codes "index") rows))
     || not (is_some (first_of (codes "path") rows)) then index_and_path
     else buildable_of_files rows kind

@@ -6,7 +6,8 @@ use Rattle.clap.specs.Faults.{fault_of}
 use Rattle.clap.specs.Takes.{takes}
 use Rattle.clap.specs.Walk.{Text}
 use Rattle.clap.specs.declared.error.kind.ErrorKind.TheVariants as kind
-use Rattle.debctl_args.specs.Asked.{debctl_app, asked_of, asks, asks_help, canonicalises, checks, checks_all, checks_whole, comma_pieces, compares, finds_changes, finds_unmet, first_or_whole, keys, kind_asked, kind_of_path, no_names, no_number, no_recommends, no_relations, no_status, normalises, number_named, profiles_asked, queries, queries_from, relation_or_file, sorts, compares_files, unknown_command, unknown_kind, unknown_operator, standard_input_twice, operator_named, Asked}
+use Rattle.debctl_args.specs.Asked.{asked_of, asks, asks_help, canonicalises, checks, checks_all, checks_whole, comma_pieces, compares, finds_changes, finds_unmet, first_or_whole, keys, kind_asked, kind_of_path, no_names, no_number, no_recommends, no_relations, no_status, normalises, number_named, pieces_asked, queries, queries_from, relation_or_file, sorts, compares_files, unknown_command, unknown_kind, unknown_operator, standard_input_twice, operator_named, Asked}
+use Rattle.debctl_args.specs.Commands.{debctl_app}
 use Rattle.deb_base.specs.declared.doc.Doc.TheVariants.{Any, Binary, Packages, Source, Sources, Status}
 use Rattle.deb_base.specs.declared.version_text.VersionText.{VersionText}
 use Rattle.deb_base.specs.declared.version_text.VersionText.TheVariants.{Canonical, Spelled}
@@ -312,7 +313,7 @@ one_empty_piece = refl
 empty_piece_between : comma_pieces (codes "a,,x") ≡ codes "a" ∷ [] ∷ codes "x" ∷ []
 empty_piece_between = refl
 
-no_profiles : profiles_asked None ≡ []
+no_profiles : pieces_asked None ≡ []
 no_profiles = refl
 
 -- a query for amd64, with its other arguments

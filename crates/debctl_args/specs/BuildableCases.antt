@@ -5,7 +5,8 @@ use Rattle.clap.proofs.OnLiterals.{clap_on_literals}
 use Rattle.clap.specs.Faults.{fault_of}
 use Rattle.clap.specs.Walk.{Text}
 use Rattle.clap.specs.declared.error.kind.ErrorKind.TheVariants as kind
-use Rattle.debctl_args.specs.Asked.{asked_of, asks, debctl_app, finds_unbuildable, finds_uninstallable, index_and_path, index_of_packages, kind_asked, no_budget, other_kind, profiles_of_packages, sources_recommend, standard_input_twice, unknown_kind, Asked}
+use Rattle.debctl_args.specs.Asked.{asked_of, asks, finds_unbuildable, finds_uninstallable, index_and_path, index_of_packages, kind_asked, names_of_sources, no_budget, other_kind, profiles_of_packages, sources_recommend, standard_input_twice, unknown_kind, Asked}
+use Rattle.debctl_args.specs.Commands.{debctl_app}
 use Rattle.debctl_args.specs.declared.jobs.Members.{Members}
 use Rattle.debctl_args.specs.declared.jobs.Members.TheVariants.{All, Installed}
 use Rattle.debctl_args.specs.declared.jobs.SourceKind.{SourceKind}
@@ -56,7 +57,7 @@ profiles_and_budget = refl
 -- the kind of packages may be named
 named_packages : asked_with (codes "--kind=packages" ∷ codes "x" ∷ [])
     ≡ Some (asks (record {
-      wanted = finds_uninstallable (codes "amd64") All Depends 100000;
+      wanted = finds_uninstallable (codes "amd64") All Depends [] 100000;
       first = Some (codes "x");
       second = None;
     }))
@@ -79,12 +80,17 @@ options_of_packages : map asked_with
 unfolding clap_on_literals kind_asked
 options_of_packages = refl
 
--- sources take no Recommends, and have to have an index and a path
+-- sources take no Recommends and no names, and have to have an index and a path
 options_of_sources : map (λ words. asked_with (codes "--kind=sources" ∷ words))
     ((codes "--recommends" ∷ codes "--index=x" ∷ codes "y" ∷ []) ∷ (codes "--recommends" ∷ [])
-    ∷ (codes "--index=x" ∷ []) ∷ (codes "y" ∷ []) ∷ [] ∷ [])
-    ≡ Some sources_recommend ∷ Some sources_recommend ∷ Some index_and_path
-    ∷ Some index_and_path ∷ Some index_and_path ∷ []
+    ∷ (codes "--only=a" ∷ codes "--recommends" ∷ codes "--index=x" ∷ codes "y" ∷ [])
+    ∷ (codes "--only=a" ∷ codes "--index=x" ∷ codes "y" ∷ [])
+    ∷ (codes "--witness=a" ∷ codes "--index=x" ∷ codes "y" ∷ [])
+    ∷ (codes "--only=a" ∷ codes "--witness=a" ∷ []) ∷ (codes "--index=x" ∷ [])
+    ∷ (codes "y" ∷ []) ∷ [] ∷ [])
+    ≡ Some sources_recommend ∷ Some sources_recommend ∷ Some sources_recommend
+    ∷ Some names_of_sources ∷ Some names_of_sources ∷ Some names_of_sources
+    ∷ Some index_and_path ∷ Some index_and_path ∷ Some index_and_path ∷ []
 unfolding clap_on_literals kind_asked
 options_of_sources = refl
 

@@ -1,6 +1,6 @@
--- The options and arguments of commands, as what `clap` reads of them, and how a row says which a
--- command has. `Asked.antt` has the rows. (This project's own.)
-use Rattle.std.specs.Prelude.{◌≡◌, ℕ, Bool, true, false, List, [], ◌∷◌, Option, Some, None, codes, map, bytes_eq, refl}
+-- The commands with their options and arguments, as what `clap` reads of them. `Asked.antt` says
+-- what they ask. (This project's own.)
+use Rattle.std.specs.Prelude.{◌≡◌, ℕ, ◌||◌, Bool, true, false, List, [], ◌∷◌, Option, Some, None, codes, map, bytes_eq, refl}
 use Rattle.std.specs.List.{list_any}
 use Rattle.clap.specs.Lexer.{usize_max}
 use Rattle.clap.specs.Simple.{App, Shape, app_of, new_app, new_rule, new_shape, on_top}
@@ -76,6 +76,15 @@ installed_rule =
 -- `--budget N`
 abbrev pub budget_rule : Rule
 budget_rule = record (new_rule (codes "budget")) { long = Some (codes "budget"); value_names = 1 }
+
+-- `--only N,N`
+abbrev pub only_rule : Rule
+only_rule = record (new_rule (codes "only")) { long = Some (codes "only"); value_names = 1 }
+
+-- `--witness N,N`
+abbrev pub witness_rule : Rule
+witness_rule =
+    record (new_rule (codes "witness")) { long = Some (codes "witness"); value_names = 1 }
 
 -- `--index INDEX`
 abbrev pub index_rule : Rule
@@ -200,6 +209,72 @@ program_of rows = program_with (map (λ row. (app_of_row row).top) rows)
 pub record IsShaped (app : App) (command : Command) : Type 0 where
   pub is : app_of command ≡ app
   pub local : (out-Command command).has_globals ≡ false
+
+-- ---- the commands
+
+abbrev pub row : Text → List Rule → CommandRow
+row name rules = record { name = name; rules = rules }
+
+-- The commands: each has a name, and these options and arguments.
+abbrev pub commands : List CommandRow
+commands =
+    -- `check [--kind K] [--all] [--complete] [--least N] [PATH]`
+    row (codes "check") (kind_rule ∷ all_rule ∷ complete_rule ∷ least_rule
+    ∷ optional_rule (codes "path") ∷ [])
+    -- `explain [--kind K] [--all] [PATH]`, `explain --code N`, `explain --relation TEXT` and
+    -- `explain --version-text TEXT`
+    ∷ row (codes "explain") (kind_rule ∷ all_rule ∷ code_rule ∷ relation_rule ∷ version_rule
+    ∷ optional_rule (codes "path") ∷ [])
+    -- `audit [--kind K] [--all] [--complete] [--least N] [--null] PATH ..` and
+    -- `audit [--kind K] [--all] [--complete] [--least N] [--null] --files0-from PATH`
+    ∷ row (codes "audit") (kind_rule ∷ all_rule ∷ complete_rule ∷ least_rule ∷ list_rule
+    ∷ null_rule ∷ paths_rule ∷ [])
+    -- `normalise [--kind K] [PATH]`
+    ∷ row (codes "normalise") (kind_rule ∷ optional_rule (codes "path") ∷ [])
+    -- `same [--kind K] PATH PATH`
+    ∷ row (codes "same") (kind_rule ∷ required_rule (codes "first")
+    ∷ required_rule (codes "second") ∷ [])
+    -- `diff [--kind K] [--values] [--spelled] OLD NEW`
+    ∷ row (codes "diff") (kind_rule ∷ values_rule ∷ spelled_rule ∷ required_rule (codes "old")
+    ∷ required_rule (codes "new") ∷ [])
+    -- `compare V OP V`
+    ∷ row (codes "compare") (required_rule (codes "left") ∷ required_rule (codes "operator")
+    ∷ required_rule (codes "right") ∷ [])
+    -- `canon-version V`
+    ∷ row (codes "canon-version") (required_rule (codes "version") ∷ [])
+    -- `version-key V ..`
+    ∷ row (codes "version-key") (versions_rule ∷ [])
+    -- `sort [--reverse] [PATH]`
+    ∷ row (codes "sort") (reverse_rule ∷ optional_rule (codes "path") ∷ [])
+    -- `query --arch A [--profiles P,P] [--why] [--spelled] [--installed] RELATION [PATH]`, or with
+    -- `--relation-from PATH` and without RELATION
+    ∷ row (codes "query") (arch_rule ∷ profiles_rule ∷ why_rule ∷ spelled_rule ∷ installed_rule
+    ∷ relation_file_rule ∷ optional_rule (codes "relation") ∷ optional_rule (codes "path") ∷ [])
+    -- `unmet --arch A [--profiles P,P] [--kind K] [--recommends] [--spelled] [--installed] INDEX
+    -- [PATH]`
+    ∷ row (codes "unmet") (arch_rule ∷ profiles_rule ∷ kind_rule ∷ recommends_rule
+    ∷ spelled_rule ∷ installed_rule ∷ required_rule (codes "index")
+    ∷ optional_rule (codes "path") ∷ [])
+    -- `healthy --arch A [--recommends] [--installed] [PATH]`
+    ∷ row (codes "healthy") (arch_rule ∷ recommends_rule ∷ installed_rule
+    ∷ optional_rule (codes "path") ∷ [])
+    -- `installable --arch A [--recommends] [--installed] [--budget N] [--only N,N] [PATH]`, the
+    -- same with `--witness N,N` in place of `--only`, and
+    -- `installable --arch A [--profiles P,P] --kind K --index INDEX [--installed] [--budget N]
+    -- PATH`
+    ∷ row (codes "installable") (arch_rule ∷ profiles_rule ∷ kind_rule ∷ index_rule
+    ∷ recommends_rule ∷ installed_rule ∷ budget_rule ∷ only_rule ∷ witness_rule
+    ∷ optional_rule (codes "path") ∷ [])
+    -- `help [COMMAND]`
+    ∷ row (codes "help") (optional_rule (codes "command") ∷ []) ∷ []
+
+-- the program with its commands
+abbrev pub debctl_app : App
+debctl_app = program_of commands
+
+-- the word names a command, or the kinds of files, so that there is help on it
+abbrev pub has_help : Text → Bool
+has_help word = bytes_eq word (codes "kinds") || has_row word commands
 
 -- ---- worked cases
 

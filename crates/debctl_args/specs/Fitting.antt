@@ -9,7 +9,7 @@ use Rattle.deb_base.specs.declared.doc.Doc.{Doc}
 use Rattle.debctl_args.specs.declared.jobs.Task.{Task}
 use Rattle.debctl_args.specs.declared.arguments.UsageFault.{UsageFault}
 use Rattle.debctl_args.specs.declared.arguments.UsageFault.TheVariants.{Usage, Help, Memory}
-use Rattle.debctl_args.specs.Asked.{asks, asks_help, explain_takes_one, first_or_whole, index_and_path, index_of_packages, kind_of_path, no_budget, no_names, no_number, no_recommends, no_relations, no_status, other_kind, paths_or_list, profiles_of_packages, relation_or_file, request_of, sources_recommend, standard_input_twice, unknown_code, unknown_command, unknown_kind, unknown_operator, Asked}
+use Rattle.debctl_args.specs.Asked.{asks, asks_help, explain_takes_one, first_or_whole, index_and_path, index_of_packages, kind_of_path, no_budget, no_names, no_number, no_recommends, no_relations, no_status, names_of_sources, only_or_witness, other_kind, paths_or_list, profiles_of_packages, relation_or_file, request_of, sources_recommend, standard_input_twice, unknown_code, unknown_command, unknown_kind, unknown_operator, Asked}
 
 -- the text names what isn't known, what stands twice, or what doesn't go together
 abbrev pub IsUsage : Asked → Text → Type 0
@@ -34,8 +34,11 @@ IsUsage index_of_packages text =
     text ≡ codes "usage: installable takes --index only for source packages"
 IsUsage profiles_of_packages text =
     text ≡ codes "usage: installable takes --profiles only for source packages"
+IsUsage only_or_witness text = text ≡ codes "usage: installable takes --only or --witness"
 IsUsage sources_recommend text =
     text ≡ codes "usage: installable takes --recommends only for binary packages"
+IsUsage names_of_sources text =
+    text ≡ codes "usage: installable takes --only and --witness only for binary packages"
 IsUsage index_and_path text =
     text ≡ codes "usage: installable takes source packages only with --index and PATH"
 IsUsage no_number text = text ≡ codes "usage: --least takes a number"

@@ -6,7 +6,8 @@ use Rattle.clap.specs.Faults.{fault_of}
 use Rattle.clap.specs.Takes.{takes}
 use Rattle.clap.specs.Walk.{Text}
 use Rattle.clap.specs.declared.error.kind.ErrorKind.TheVariants as kind
-use Rattle.debctl_args.specs.Asked.{asked_of, asks, asks_help, budget_named, debctl_app, finds_uninstallable, kind_asked, no_budget, Asked}
+use Rattle.debctl_args.specs.Asked.{asked_of, asks, asks_help, budget_named, finds_uninstallable, finds_witness, index_of_packages, kind_asked, no_budget, only_or_witness, pieces_asked, profiles_of_packages, Asked}
+use Rattle.debctl_args.specs.Commands.{debctl_app}
 use Rattle.debctl_args.specs.declared.jobs.Members.TheVariants as members
 use Rattle.debctl_args.specs.declared.jobs.Strength.{Strength}
 use Rattle.debctl_args.specs.declared.jobs.Strength.TheVariants.{Depends, Recommends}
@@ -19,7 +20,7 @@ installable_line words = codes "debctl" ∷ codes "installable" ∷ words
 abbrev asks_installable : Strength → ℕ → Option Text → Option Asked
 asks_installable strength budget path =
     Some (asks (record {
-      wanted = finds_uninstallable (codes "amd64") members.All strength budget;
+      wanted = finds_uninstallable (codes "amd64") members.All strength [] budget;
       first = path;
       second = None;
     }))
@@ -44,7 +45,7 @@ installable_with_options = refl
 installable_of_installed_packages : asked_of
     (installable_line (codes "--arch=amd64" ∷ codes "--installed" ∷ codes "x" ∷ []))
     ≡ Some (asks (record {
-      wanted = finds_uninstallable (codes "amd64") members.Installed Depends 100000;
+      wanted = finds_uninstallable (codes "amd64") members.Installed Depends [] 100000;
       first = Some (codes "x");
       second = None;
     }))
@@ -55,7 +56,7 @@ installable_of_installed_packages = refl
 unusual_words : asked_of
     (installable_line (codes "--arch" ∷ [] ∷ codes "--" ∷ codes "--budget=x" ∷ []))
     ≡ Some (asks (record {
-      wanted = finds_uninstallable [] members.All Depends 100000;
+      wanted = finds_uninstallable [] members.All Depends [] 100000;
       first = Some (codes "--budget=x");
       second = None;
     }))
@@ -66,6 +67,70 @@ help_on_installable : asked_of (codes "debctl" ∷ codes "help" ∷ codes "insta
     ≡ Some asks_help
 unfolding clap_on_literals kind_asked
 help_on_installable = refl
+
+-- ---- names
+
+-- the lines of packages with these names, for amd64 and with the budget of no option
+abbrev asks_named : List Text → Option Asked
+asks_named names =
+    Some (asks (record {
+      wanted = finds_uninstallable (codes "amd64") members.All Depends names 100000;
+      first = Some (codes "x");
+      second = None;
+    }))
+
+-- between commas any text is a name, and the empty text is one
+names_of_lines : map
+    (λ words. asked_of (installable_line (codes "--arch=amd64" ∷ codes "x" ∷ words)))
+    ((codes "--only" ∷ codes "aa,b,a a" ∷ []) ∷ (codes "--only=aa" ∷ [])
+    ∷ (codes "--only=,aa," ∷ []) ∷ (codes "--only=" ∷ []) ∷ [])
+    ≡ asks_named (codes "aa" ∷ codes "b" ∷ codes "a a" ∷ []) ∷ asks_named (codes "aa" ∷ [])
+    ∷ asks_named ([] ∷ codes "aa" ∷ [] ∷ []) ∷ asks_named ([] ∷ []) ∷ []
+unfolding clap_on_literals kind_asked
+names_of_lines = refl
+
+names_of_a_set : map (λ words. asked_of (installable_line (codes "--arch=amd64" ∷ words)))
+    ((codes "--witness" ∷ codes "aa,b" ∷ codes "x" ∷ codes "--recommends" ∷ codes "--installed"
+    ∷ []) ∷ (codes "--budget=20" ∷ codes "--witness=" ∷ []) ∷ [])
+    ≡ Some (asks (record {
+      wanted = finds_witness (codes "amd64") members.Installed Recommends
+          (codes "aa" ∷ codes "b" ∷ []) 100000;
+      first = Some (codes "x");
+      second = None;
+    }))
+    ∷ Some (asks (record {
+      wanted = finds_witness (codes "amd64") members.All Depends ([] ∷ []) 20;
+      first = None;
+      second = None;
+    })) ∷ []
+unfolding clap_on_literals kind_asked digits
+names_of_a_set = refl
+
+-- not both, also if they have the same names
+both_options : asked_of (installable_line
+    (codes "--arch=amd64" ∷ codes "--only=a" ∷ codes "--witness=a" ∷ codes "x" ∷ []))
+    ≡ Some only_or_witness
+unfolding clap_on_literals kind_asked
+both_options = refl
+
+-- which mistake is named of two
+first_mistakes : map (λ word. asked_of (installable_line
+    (codes "--arch=amd64" ∷ codes "--only=a" ∷ codes "--witness=a" ∷ word ∷ [])))
+    (codes "--index=x" ∷ codes "--profiles=a" ∷ codes "--budget=0" ∷ [])
+    ≡ Some index_of_packages ∷ Some profiles_of_packages ∷ Some only_or_witness ∷ []
+unfolding clap_on_literals kind_asked digits
+first_mistakes = refl
+
+-- the number is read with names too
+names_and_budget : map (λ word. asked_of (installable_line
+    (codes "--arch=amd64" ∷ codes "--budget=0" ∷ word ∷ [])))
+    (codes "--only=a" ∷ codes "--witness=a" ∷ []) ≡ Some no_budget ∷ Some no_budget ∷ []
+unfolding clap_on_literals kind_asked digits
+names_and_budget = refl
+
+pieces_of_words : map pieces_asked (None ∷ Some [] ∷ Some (codes "aa,b") ∷ [])
+    ≡ [] ∷ ([] ∷ []) ∷ (codes "aa" ∷ codes "b" ∷ []) ∷ []
+pieces_of_words = refl
 
 -- ---- budgets
 
@@ -117,12 +182,13 @@ unknown_options : map
 unfolding clap_on_literals
 unknown_options = refl
 
--- only `installable` has a budget
-budget_of_healthy : fault_of debctl_app
-    (codes "debctl" ∷ codes "healthy" ∷ codes "--arch=amd64" ∷ codes "--budget=1" ∷ [])
-    ≡ kind.UnknownArgument ∷ []
+-- only `installable` has a budget and names
+options_of_healthy : map (λ word. fault_of debctl_app
+    (codes "debctl" ∷ codes "healthy" ∷ codes "--arch=amd64" ∷ word ∷ []))
+    (codes "--budget=1" ∷ codes "--only=a" ∷ codes "--witness=a" ∷ [])
+    ≡ (kind.UnknownArgument ∷ []) ∷ (kind.UnknownArgument ∷ []) ∷ (kind.UnknownArgument ∷ []) ∷ []
 unfolding clap_on_literals
-budget_of_healthy = refl
+options_of_healthy = refl
 
 second_path : fault_of debctl_app
     (installable_line (codes "--arch=amd64" ∷ codes "x" ∷ codes "y" ∷ []))
@@ -132,7 +198,10 @@ second_path = refl
 
 given_twice : map (λ words. fault_of debctl_app (installable_line words))
     ((codes "--arch=amd64" ∷ codes "--budget=1" ∷ codes "--budget=1" ∷ [])
-    ∷ (codes "--arch=amd64" ∷ codes "--installed" ∷ codes "--installed" ∷ []) ∷ [])
-    ≡ (kind.ArgumentConflict ∷ []) ∷ (kind.ArgumentConflict ∷ []) ∷ []
+    ∷ (codes "--arch=amd64" ∷ codes "--installed" ∷ codes "--installed" ∷ [])
+    ∷ (codes "--arch=amd64" ∷ codes "--only=a" ∷ codes "--only=b" ∷ [])
+    ∷ (codes "--arch=amd64" ∷ codes "--witness=a" ∷ codes "--witness=b" ∷ []) ∷ [])
+    ≡ (kind.ArgumentConflict ∷ []) ∷ (kind.ArgumentConflict ∷ [])
+    ∷ (kind.ArgumentConflict ∷ []) ∷ (kind.ArgumentConflict ∷ []) ∷ []
 unfolding clap_on_literals
 given_twice = refl

@@ -4,7 +4,7 @@ use Rattle.std.specs.Prelude.{◌≡◌, ℕ, [], ◌∷◌, map, Option, Some, 
 use Rattle.std.specs.declared.alloc.Global.{Global}
 use Rattle.clap.specs.declared.error.kind.ErrorKind.TheVariants as kind
 use Rattle.deb_base.specs.declared.code.Code.TheVariants as code
-use Rattle.debctl_args.specs.Asked.{audits, canonicalises, checks, checks_all, checks_health, checks_whole, compares, document_of, explain_takes_one, explains, explains_all, explains_relation, explains_version, finds_changes, finds_unbuildable, finds_uninstallable, finds_unmet, first_or_whole, index_and_path, index_of_packages, keys, kind_of_path, listed, no_budget, no_names, no_number, no_recommends, no_relations, no_status, normalises, other_kind, paths, paths_or_list, profiles_of_packages, queries, queries_from, reads_of, relation_or_file, request_of, sorts, sources_recommend, standard_input_twice, explains_rule, compares_files, unknown_code, unknown_command, unknown_kind, unknown_operator, wanted_of, Request, Wanted}
+use Rattle.debctl_args.specs.Asked.{audits, canonicalises, checks, checks_all, checks_health, checks_whole, compares, document_of, explain_takes_one, explains, explains_all, explains_relation, explains_version, finds_changes, finds_unbuildable, finds_uninstallable, finds_unmet, finds_witness, first_or_whole, index_and_path, index_of_packages, keys, kind_of_path, listed, names_of_sources, no_budget, no_names, no_number, no_recommends, no_relations, no_status, normalises, only_or_witness, other_kind, paths, paths_or_list, profiles_of_packages, queries, queries_from, reads_of, relation_or_file, request_of, sorts, sources_recommend, standard_input_twice, explains_rule, compares_files, unknown_code, unknown_command, unknown_kind, unknown_operator, wanted_of, Request, Wanted}
 use Rattle.debctl_args.specs.Fitting.{has_mistake, has_request, is_request_kind, IsUsage, FitsKind}
 use Rattle.debctl_args.specs.declared.jobs.Demands.{Demands}
 use Rattle.debctl_args.specs.declared.jobs.Explain.TheVariants as explain
@@ -62,8 +62,9 @@ jobs_on_words : map wanted_of
     ∷ job.QueryFrom other (vector (other ∷ one ∷ []) refl) members.All Verdicts Spelled
     ∷ job.Unmet one (vector (other ∷ []) refl) members.Installed dependents.Sources Spelled
     ∷ job.Healthy one members.All Recommends ∷ job.Healthy other members.Installed Depends
-    ∷ job.Installable one members.Installed Depends 7
-    ∷ job.Installable other members.All Recommends 1000000000
+    ∷ job.Installable one members.Installed Depends (vector [] refl) 7
+    ∷ job.Installable other members.All Recommends (vector (other ∷ one ∷ []) refl) 1000000000
+    ∷ job.Witness one members.Installed Recommends (vector (one ∷ other ∷ []) refl) 5
     ∷ job.Buildable one (vector (other ∷ one ∷ []) refl) members.All sources.Source 3 ∷ [])
     ≡ compares (codes "amd64") cmps.Less (codes "b-") ∷ canonicalises (codes "b-")
     ∷ keys (codes "amd64" ∷ codes "b-" ∷ [])
@@ -73,8 +74,10 @@ jobs_on_words : map wanted_of
     ∷ finds_unmet (codes "amd64") (codes "b-" ∷ []) members.Installed dependents.Sources Spelled
     ∷ checks_health (codes "amd64") members.All Recommends
     ∷ checks_health (codes "b-") members.Installed Depends
-    ∷ finds_uninstallable (codes "amd64") members.Installed Depends 7
-    ∷ finds_uninstallable (codes "b-") members.All Recommends 1000000000
+    ∷ finds_uninstallable (codes "amd64") members.Installed Depends [] 7
+    ∷ finds_uninstallable (codes "b-") members.All Recommends (codes "b-" ∷ codes "amd64" ∷ [])
+    1000000000
+    ∷ finds_witness (codes "amd64") members.Installed Recommends (codes "amd64" ∷ codes "b-" ∷ []) 5
     ∷ finds_unbuildable (codes "amd64") (codes "b-" ∷ codes "amd64" ∷ []) members.All
     sources.Source 3 ∷ []
 unfolding one other
@@ -92,17 +95,19 @@ jobs =
     ∷ job.Query one (vector [] refl) other members.All Reasons Canonical
     ∷ job.QueryFrom one (vector [] refl) members.All Verdicts Spelled
     ∷ job.Unmet one (vector [] refl) members.All dependents.Sources Spelled
-    ∷ job.Healthy one members.Installed Depends ∷ job.Installable one members.All Recommends 1
+    ∷ job.Healthy one members.Installed Depends
+    ∷ job.Installable one members.All Recommends (vector [] refl) 1
+    ∷ job.Witness one members.All Depends (vector (other ∷ []) refl) 1
     ∷ job.Buildable one (vector [] refl) members.Installed sources.Sources 1 ∷ []
 
 files_of_jobs : map reads_of jobs
     ≡ OneFile ∷ OneFile ∷ OneFile ∷ Paths ∷ OneFile ∷ Paths ∷ Nothing ∷ Nothing ∷ Nothing
-    ∷ OneFile ∷ OneFile ∷ Paths ∷ Paths ∷ OneFile ∷ OneFile ∷ Paths ∷ []
+    ∷ OneFile ∷ OneFile ∷ Paths ∷ Paths ∷ OneFile ∷ OneFile ∷ OneFile ∷ Paths ∷ []
 files_of_jobs = refl
 
 documents_of_jobs : map document_of jobs
     ≡ Some docs.Binary ∷ Some docs.Source ∷ Some docs.Any ∷ Some docs.Sources ∷ None ∷ None
-    ∷ None ∷ None ∷ None ∷ None ∷ None ∷ None ∷ None ∷ None ∷ None ∷ None ∷ []
+    ∷ None ∷ None ∷ None ∷ None ∷ None ∷ None ∷ None ∷ None ∷ None ∷ None ∷ None ∷ []
 documents_of_jobs = refl
 
 -- ---- requests
@@ -202,14 +207,19 @@ texts_of_mistakes : IsUsage unknown_kind (codes "usage: unknown kind")
     (codes "usage: installable takes --index only for source packages")
     × IsUsage profiles_of_packages
     (codes "usage: installable takes --profiles only for source packages")
+    × IsUsage only_or_witness (codes "usage: installable takes --only or --witness")
     × IsUsage sources_recommend
     (codes "usage: installable takes --recommends only for binary packages")
+    × IsUsage names_of_sources
+    (codes "usage: installable takes --only and --witness only for binary packages")
     × IsUsage index_and_path
     (codes "usage: installable takes source packages only with --index and PATH")
     × IsUsage no_number (codes "usage: --least takes a number")
     × IsUsage no_budget (codes "usage: --budget takes a number from 1 to 1000000000")
     × IsUsage first_or_whole (codes "usage: --all takes neither --complete nor --least")
 texts_of_mistakes = (
+  refl,
+  refl,
   refl,
   refl,
   refl,

@@ -2,16 +2,17 @@
 
 ghost use Rattle.std.specs.Prelude.{◌≡◌, [], Some, None, map, true, string_bytes, IfOk, IfErr, option_copied, option_map};
 ghost use Rattle.clap.specs.Words.{fault_of, found_of, has_subcommand, kind_of, rows_of, subcommand_rows_of, takes};
-ghost use Rattle.debctl_args.specs.Asked.{asked_in, asked_of, asks, audit_asked, canon_version_asked, check_asked, checks_to, debctl_app, demands_asked, compare_asked, diff_asked, diff_of_files, explain_asked, file_explained, healthy_asked, help_asked, buildable_of_files, buildable_of_kind, installable_asked, installable_of_packages, packages_to_install, is_demanding, query_asked, query_of_file, query_of_word, relation_asked, request_of, rule_asked, same_asked, sort_asked, text_asked, unmet_asked, unmet_of_files, unmet_of_path, unmet_of_sources, version_asked, version_key_asked, wanted_of, word_in, Request};
+ghost use Rattle.debctl_args.specs.Asked.{asked_in, asked_of, asks, audit_asked, canon_version_asked, check_asked, checks_to, demands_asked, compare_asked, diff_asked, diff_of_files, explain_asked, file_explained, healthy_asked, help_asked, buildable_of_files, buildable_of_kind, installable_asked, installable_of_packages, packages_to_install, packages_wanted, is_demanding, query_asked, query_of_file, query_of_word, relation_asked, request_of, rule_asked, same_asked, sort_asked, text_asked, unmet_asked, unmet_of_files, unmet_of_path, unmet_of_sources, version_asked, version_key_asked, wanted_of, word_in, Request};
+ghost use Rattle.debctl_args.specs.Commands.{debctl_app};
 ghost use Rattle.debctl_args.specs.Fitting.{Answers, AnswersError, AnswersMet, IsHelp, MeansError, FitsKind, UsesText};
 
 use crate::code_argument::code_named;
 use crate::commands::{command_of, debctl_command, kinds_help, row_named};
 use crate::found_arguments::{
-    all_given, budget_in, detail_in, diff_detail_in, end_in, extent_in, flag_in, given,
-    has_input_beside, index_in, is_standard_input_twice, kind_in, least_in, members_in, names_file,
-    owned_texts, packages_in, path_in, profiles_in, strength_in, version_text_in, versions_in,
-    word_in,
+    all_given, budget_in, comma_pieces, detail_in, diff_detail_in, end_in, extent_in, flag_in,
+    given, has_input_beside, index_in, is_standard_input_twice, kind_in, least_in, members_in,
+    names_file, owned_texts, packages_in, path_in, pieces_in, strength_in, version_text_in,
+    versions_in, word_in,
 };
 use crate::jobs::{
     Audit, Call, Demands, Dependents, DiffKind, Explain, Extent, Files, Job, SourceKind, Task,
@@ -58,6 +59,13 @@ const INDEX_OF_PACKAGES: &str = "usage: installable takes --index only for sourc
 
 const PROFILES_OF_PACKAGES: &str = "usage: installable takes --profiles only for source packages";
 
+/// The text for lines of packages and a healthy set at once.
+const ONLY_OR_WITNESS: &str = "usage: installable takes --only or --witness";
+
+/// The text for names of source packages.
+const NAMES_OF_SOURCES: &str =
+    "usage: installable takes --only and --witness only for binary packages";
+
 /// The text for an `installable --recommends` of source packages.
 const SOURCES_RECOMMEND: &str = "usage: installable takes --recommends only for binary packages";
 
@@ -94,9 +102,10 @@ impl From<AllocError> for UsageFault {
 /// names of these. `help [COMMAND]`, `help kinds`, `--help` and `--version` ask for help, and every
 /// other command for a task.
 ///
-/// The profiles of `query`, `unmet` and `installable` are the texts between the commas of P,P;
-/// without the option there are none. A version, an architecture, a profile or a relation may be
-/// any text here: the job checks it. The path `-` is returned as it is; the program reads standard
+/// The profiles of `query`, `unmet` and `installable` are the texts between the commas of P,P, and
+/// the names of `--only` and `--witness` those between the commas of NAME,NAME; without the option
+/// there are none. A name may be any text. So may a version, an architecture, a profile or a
+/// relation here: the job checks it. The path `-` is returned as it is; the program reads standard
 /// input for it. After `--code` N is the number of an error code, from 1 to 23, in decimal, or its
 /// name. After `--least` it is a number below 2^64, in decimal and without zeros before it; after
 /// `--budget` such a number from 1 to 1,000,000,000. Without the option the budget is 100,000.
@@ -118,9 +127,11 @@ impl From<AllocError> for UsageFault {
 ///   kinds `binary`, `sources` and `source` without PATH; `usage: installable takes --kind
 ///   packages, sources or source` for another kind that is known; `usage: installable takes --index
 ///   only for source packages` and `usage: installable takes --profiles only for source packages`
-///   for these options with packages; `usage: installable takes --recommends only for binary
-///   packages` for that one with source packages; `usage: installable takes source packages only
-///   with --index and PATH` if one of both is missing; `usage: --least takes a number` and `usage:
+///   for these options with packages; `usage: installable takes --only or --witness` for both of
+///   these; `usage: installable takes --recommends only for binary packages` and `usage: installable
+///   takes --only and --witness only for binary packages` for these options with source packages;
+///   `usage: installable takes source packages only with --index and PATH` if one of both is
+///   missing; `usage: --least takes a number` and `usage:
 ///   --budget takes a number from 1 to 1000000000` for another N; `usage: --all takes neither
 ///   --complete nor --least` for either with `--all`; otherwise that of `clap`.
 /// - `UsageFault::Help`: the arguments ask for help or for the version.
@@ -440,7 +451,7 @@ fn query_of_word(alloc: Global, found: &ArgMatches<'_>, relation: &str) -> Resul
     ensures { Answers (query_of_word (rows_of (found_of found.now)) relation.now) result }
 {
     let arch = String::from_str(alloc, word_in(found, "arch"))?;
-    let profiles = profiles_in(alloc, found)?;
+    let profiles = pieces_in(alloc, found, "profiles")?;
     let relation = String::from_str(alloc, relation)?;
     Ok(Task::Run(Call {
         job: Job::Query {
@@ -468,7 +479,7 @@ fn query_of_file(alloc: Global, found: &ArgMatches<'_>, path: &str) -> Result<Ta
         return Err(usage(alloc, "usage: standard input twice"));
     }
     let arch = String::from_str(alloc, word_in(found, "arch"))?;
-    let profiles = profiles_in(alloc, found)?;
+    let profiles = pieces_in(alloc, found, "profiles")?;
     let first = String::from_str(alloc, path)?;
     let second = String::from_str(alloc, index)?;
     Ok(Task::Run(Call {
@@ -538,7 +549,7 @@ fn unmet_of_files(
         return Err(usage(alloc, "usage: standard input twice"));
     }
     let arch = String::from_str(alloc, word_in(found, "arch"))?;
-    let profiles = profiles_in(alloc, found)?;
+    let profiles = pieces_in(alloc, found, "profiles")?;
     let first = String::from_str(alloc, index)?;
     let second = path_in(alloc, found)?;
     Ok(Task::Run(Call {
@@ -581,7 +592,7 @@ pub(crate) fn installable_task(alloc: Global, found: &ArgMatches<'_>) -> Result<
     }
 }
 
-/// `installable` of packages, which takes neither an index nor profiles.
+/// `installable` of packages, which takes neither an index nor profiles, and one list of names.
 fn installable_of_packages(alloc: Global, found: &ArgMatches<'_>) -> Result<Task, UsageFault>
     ensures { Answers (installable_of_packages (rows_of (found_of found.now))) result }
 {
@@ -591,29 +602,53 @@ fn installable_of_packages(alloc: Global, found: &ArgMatches<'_>) -> Result<Task
     if given(found, "profiles").is_some() {
         return Err(usage(alloc, PROFILES_OF_PACKAGES));
     }
+    if given(found, "only").is_some() && given(found, "witness").is_some() {
+        return Err(usage(alloc, ONLY_OR_WITNESS));
+    }
     packages_to_install(alloc, found)
 }
 
-/// `installable` of packages, without arguments that are only for source packages.
+/// `installable` of packages, without arguments that don't go together.
 fn packages_to_install(alloc: Global, found: &ArgMatches<'_>) -> Result<Task, UsageFault>
     ensures { Answers (packages_to_install (rows_of (found_of found.now))) result }
 {
     let budget = budget_in(alloc, found)?;
-    let arch = String::from_str(alloc, word_in(found, "arch"))?;
-    let first = path_in(alloc, found)?;
+    let job = job_on_packages(alloc, found, budget)?;
     Ok(Task::Run(Call {
-        job: Job::Installable {
-            arch,
-            members: members_in(found),
-            strength: strength_in(found),
-            budget,
-        },
-        first,
+        job,
+        first: path_in(alloc, found)?,
         second: None,
     }))
 }
 
-/// `installable` of source packages, which have no Recommends and aren't in the index.
+/// The job of `installable` of packages: with `--witness` it finds a set, and otherwise the lines.
+fn job_on_packages(alloc: Global, found: &ArgMatches<'_>, budget: u32) -> Result<Job, AllocError>
+    ensures { IfOk result
+        (λ job. wanted_of job ≡ packages_wanted (rows_of (found_of found.now)) budget) }
+{
+    let arch = String::from_str(alloc, word_in(found, "arch"))?;
+    let members = members_in(found);
+    let strength = strength_in(found);
+    if let Some(names) = given(found, "witness") {
+        return Ok(Job::Witness {
+            arch,
+            members,
+            strength,
+            names: comma_pieces(alloc, names)?,
+            budget,
+        });
+    }
+    Ok(Job::Installable {
+        arch,
+        members,
+        strength,
+        names: pieces_in(alloc, found, "only")?,
+        budget,
+    })
+}
+
+/// `installable` of source packages, which have no Recommends and aren't in the index. It takes no
+/// names.
 fn buildable_of_kind(
     alloc: Global,
     found: &ArgMatches<'_>,
@@ -623,6 +658,9 @@ fn buildable_of_kind(
 {
     if flag_in(found, "recommends") {
         return Err(usage(alloc, SOURCES_RECOMMEND));
+    }
+    if given(found, "only").is_some() || given(found, "witness").is_some() {
+        return Err(usage(alloc, NAMES_OF_SOURCES));
     }
     if given(found, "index").is_none() || given(found, "path").is_none() {
         return Err(usage(alloc, INDEX_AND_PATH));
@@ -644,7 +682,7 @@ fn buildable_of_files(
     }
     let budget = budget_in(alloc, found)?;
     let arch = String::from_str(alloc, word_in(found, "arch"))?;
-    let profiles = profiles_in(alloc, found)?;
+    let profiles = pieces_in(alloc, found, "profiles")?;
     let first = String::from_str(alloc, index)?;
     let second = path_in(alloc, found)?;
     Ok(Task::Run(Call {

@@ -3,8 +3,7 @@
 ghost use Rattle.std.specs.Prelude.{◌≡◌, [], None, Some, IfOk, false, is_some};
 ghost use Rattle.clap.specs.Simple.{new_app};
 ghost use Rattle.clap.specs.Words.{rule_of};
-ghost use Rattle.debctl_args.specs.Asked.{commands, debctl_app};
-ghost use Rattle.debctl_args.specs.Commands.{app_of_row, has_row, program_with, row_in, rule_in, IsShaped};
+ghost use Rattle.debctl_args.specs.Commands.{app_of_row, commands, debctl_app, has_row, program_with, row_in, rule_in, IsShaped};
 
 use crate::options::{Argument, Form};
 use crate::rows::{Row, commands, help_after};

@@ -2,7 +2,7 @@
 
 ghost use Rattle.std.specs.Prelude.{◌≡◌, nat_lt, count_by, map, codes, string_bytes, option_map, IfOk, option_copied};
 ghost use Rattle.clap.specs.Words.{all_of, first_of, found_of, rows_of};
-ghost use Rattle.debctl_args.specs.Asked.{budget_asked, comma_pieces, detail_asked, diff_detail_asked, end_asked, extent_asked, flag_asked, has_input_beside, index_asked, is_standard_input, kind_asked, least_asked, members_in, names_file, packages_in, profiles_asked, strength_in, texts_asked, versions_asked, word_in};
+ghost use Rattle.debctl_args.specs.Asked.{budget_asked, comma_pieces, detail_asked, diff_detail_asked, end_asked, extent_asked, flag_asked, has_input_beside, index_asked, is_standard_input, kind_asked, least_asked, members_in, names_file, packages_in, pieces_asked, strength_in, texts_asked, versions_asked, word_in};
 ghost use Rattle.debctl_args.specs.Fitting.{MeansBudget, MeansKind, MeansLeast};
 
 use crate::arguments::{UsageFault, usage};
@@ -168,20 +168,24 @@ pub(crate) fn names_file(found: &ArgMatches<'_>) -> bool
     given(found, "kind").is_some() || flag_in(found, "all") || given(found, "path").is_some()
 }
 
-/// The profiles that `--profiles` names, or none without it.
-pub(crate) fn profiles_in(alloc: Global, found: &ArgMatches<'_>) -> Result<Vec<String>, AllocError>
+/// The profiles or the names that an option has, or none without it.
+pub(crate) fn pieces_in(
+    alloc: Global,
+    found: &ArgMatches<'_>,
+    id: &str,
+) -> Result<Vec<String>, AllocError>
     ensures { IfOk result
-        (λ profiles. map string_bytes profiles.items
-        ≡ profiles_asked (first_of (codes "profiles") (rows_of (found_of found.now)))) }
+        (λ pieces. map string_bytes pieces.items
+        ≡ pieces_asked (first_of id.now (rows_of (found_of found.now)))) }
 {
-    match given(found, "profiles") {
+    match given(found, id) {
         Some(names) => comma_pieces(alloc, names),
         None => Ok(Vec::new(alloc)),
     }
 }
 
 /// Returns the texts between the commas of a text.
-fn comma_pieces(alloc: Global, text: &str) -> Result<Vec<String>, AllocError>
+pub(crate) fn comma_pieces(alloc: Global, text: &str) -> Result<Vec<String>, AllocError>
     ensures { IfOk result (λ pieces. map string_bytes pieces.items ≡ comma_pieces text.now) }
 {
     let mut pieces = Vec::new(alloc);

@@ -102,12 +102,23 @@ pub enum Job {
         strength: Strength,
     },
     /// `installable`: find the packages of a file that can't be installed, for a target
-    /// architecture. The search for one package takes at most `budget` steps, from 1 to
-    /// 1,000,000,000.
+    /// architecture: of those that have one of the names, or of all if there is no name. The search
+    /// for one package takes at most `budget` steps, from 1 to 1,000,000,000.
     Installable {
         arch: String,
         members: Members,
         strength: Strength,
+        names: Vec<String>,
+        budget: u32,
+    },
+    /// `installable --witness`: find a healthy set of packages of a file that contains one that has
+    /// one of the names, for a target architecture. There is at least one name. The search for one
+    /// package takes at most `budget` steps, from 1 to 1,000,000,000.
+    Witness {
+        arch: String,
+        members: Members,
+        strength: Strength,
+        names: Vec<String>,
         budget: u32,
     },
     /// `installable --kind sources` or `--kind source`: find the source packages of a file that
@@ -142,7 +153,7 @@ impl Job {
         match self {
             Job::Check(_) | Job::CheckAll(_) | Job::Normalise(_) => Reads::OneFile,
             Job::CheckWhole { .. } | Job::Sort { .. } | Job::Query { .. } => Reads::OneFile,
-            Job::Healthy { .. } | Job::Installable { .. } => Reads::OneFile,
+            Job::Healthy { .. } | Job::Installable { .. } | Job::Witness { .. } => Reads::OneFile,
             Job::Same(_) | Job::Diff { .. } => Reads::Paths,
             Job::QueryFrom { .. } | Job::Unmet { .. } | Job::Buildable { .. } => Reads::Paths,
             Job::Compare(..) | Job::CanonVersion(_) | Job::VersionKey(_) => Reads::Nothing,

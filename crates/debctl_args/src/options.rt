@@ -220,6 +220,24 @@ pub(crate) const BUDGET: Argument = Argument {
     help: Some("Search at most N steps for each package; 100000 if the option is missing"),
 };
 
+/// `--only NAME,NAME`
+pub(crate) const ONLY: Argument = Argument {
+    id: "only",
+    short: None,
+    form: Form::Value,
+    shown: "NAME,NAME",
+    help: Some("Print lines only for packages with one of these names"),
+};
+
+/// `--witness NAME,NAME`
+pub(crate) const WITNESS: Argument = Argument {
+    id: "witness",
+    short: None,
+    form: Form::Value,
+    shown: "NAME,NAME",
+    help: Some("Print a healthy set that contains a package with one of these names"),
+};
+
 /// `--index INDEX`
 pub(crate) const INDEX_FILE: Argument = Argument {
     id: "index",

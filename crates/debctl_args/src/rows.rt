@@ -2,9 +2,9 @@
 
 ghost use Rattle.std.specs.Prelude.{◌≡◌, map};
 ghost use Rattle.clap.specs.Words.{found_of, rows_of};
-ghost use Rattle.debctl_args.specs.Asked.{asked_by, commands, document_asked, normalises};
+ghost use Rattle.debctl_args.specs.Asked.{asked_by, document_asked, normalises};
 ghost use Rattle.debctl_args.specs.Fitting.{Answers};
-ghost use Rattle.debctl_args.specs.Commands.{row_in};
+ghost use Rattle.debctl_args.specs.Commands.{commands, row_in};
 
 use crate::arguments::{
     UsageFault, audit_task, canon_version_task, check_task, compare_task, diff_task, explain_task,
@@ -15,9 +15,10 @@ use crate::found_arguments::{given, kind_in, path_in};
 use crate::jobs::{Call, Job, Task};
 use crate::options::{
     ALL, ARCH, Argument, BUDGET, CODE, COMMAND, COMPLETE, DEPENDENTS, DIFF_KIND, FIRST, INDEX,
-    INDEX_FILE, INSTALLABLE_KIND, INSTALLED, KIND, LEAST, LEFT, LIST, NEW, NULL, OLD, OPERATOR,
-    PATH, PATHS, PROFILES, QUERIED, RECOMMENDS, RELATION, RELATION_FILE, RELATION_TEXT, REVERSE,
-    RIGHT, SECOND, SPELLED, UNMET_KIND, VALUES, VERSION, VERSION_TEXT, VERSIONS, WHY,
+    INDEX_FILE, INSTALLABLE_KIND, INSTALLED, KIND, LEAST, LEFT, LIST, NEW, NULL, OLD, ONLY,
+    OPERATOR, PATH, PATHS, PROFILES, QUERIED, RECOMMENDS, RELATION, RELATION_FILE, RELATION_TEXT,
+    REVERSE, RIGHT, SECOND, SPELLED, UNMET_KIND, VALUES, VERSION, VERSION_TEXT, VERSIONS, WHY,
+    WITNESS,
 };
 use clap::ArgMatches;
 use std::alloc::Global;
@@ -120,6 +121,8 @@ static COMMANDS: [Row; 15] = [
             RECOMMENDS,
             INSTALLED,
             BUDGET,
+            ONLY,
+            WITNESS,
             PATH,
         ],
     },
@@ -647,6 +650,14 @@ at most N, and 100 for each package, and as many again to tell `uninstallable` f
 With `--installed` the file is a status file of dpkg, and its packages are the installed
 ones. Their numbers count them alone.
 
+With `--only` a line is printed only for packages with one of the names, which commas
+separate.
+
+With `--witness` it prints a healthy set that contains a package with one of the names:
+a line ` N P V A` for each package of the set, in file order. The set is healthy however
+architecture lists with wildcards are read. It is the set of the first package in the
+file for which the search finds one. If it finds none, it prints the lines of `--only`.
+
 With `--kind sources` or `--kind source` the lines are those of the source packages of
 PATH that can't be built with the packages of INDEX. A is `source`, and N counts the
 source packages. One can be built if a healthy set of packages of INDEX
@@ -659,8 +670,9 @@ Each source package is asked by itself. `--installed` makes INDEX a status file.
 Nothing is printed before all files have been read.
 
 Exit statuses:
-  0  nothing is printed: each package can be installed, or each source package built
-  1  a line is printed
+  0  nothing is printed: each package can be installed, or each source package built;
+     with `--witness` a set is printed
+  1  a line is printed; with `--witness` no set is found
   2  the architecture, a profile or a file is refused: standard error has
      `line 0: 23 BadEnvironment` or `line N: CODE NAME`, and nothing is printed. With
      source packages `first: ` is before that line for INDEX, and `second: ` for PATH
@@ -673,6 +685,15 @@ Example:
   $ debctl installable --arch amd64 index; echo $?
   uninstallable 1 aa 1 all
   1
+  $ debctl installable --arch amd64 --only bb,cc index; echo $?
+  0
+
+Which packages form a healthy set with dd?
+  $ printf '\\nPackage: dd\\nVersion: 1\\nArchitecture: all\\nDepends: cc\\n' >> index
+  $ debctl installable --arch amd64 --witness dd index; echo $?
+   3 cc 2 amd64
+   4 dd 1 all
+  0
 
 Which source packages can't be built?
   $ printf '\\nPackage: build-essential\\nVersion: 1\\nArchitecture: amd64\\n' >> index

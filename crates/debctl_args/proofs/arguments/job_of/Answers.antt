@@ -4,7 +4,8 @@ use Rattle.clap.specs.Faults.{fault_of, is_simple_and_free}
 use Rattle.clap.specs.Kinds.{HasKind}
 use Rattle.clap.specs.Takes.{takes}
 use Rattle.clap.specs.Words.{kind_of, subcommand_rows_of}
-use Rattle.debctl_args.specs.Asked.{asked_of, debctl_app}
+use Rattle.debctl_args.specs.Asked.{asked_of}
+use Rattle.debctl_args.specs.Commands.{debctl_app}
 use Rattle.debctl_args.proofs.Answering.{is_simple_app, is_free_app, is_taken, taken_means, words_are_answered, task_is_asked, asked_is_met, on_any_task, app_unmixed, kind_means, memory_is_reported}
 use Rattle.debctl_args.proofs.arguments.job_of.Goals as goal
 
