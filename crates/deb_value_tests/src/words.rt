@@ -16,7 +16,7 @@ fn words(alloc: Global, line: &str) -> Result<Vec<String>, AllocError> {
 }
 
 /// A command line, and the task or the fault that it has.
-const LINES: [(&str, &str); 48] = [
+const LINES: [(&str, &str); 52] = [
     (
         "check",
         "Ok(Run(Call { job: Check(Packages), first: None, second: None }))",
@@ -135,12 +135,30 @@ const LINES: [(&str, &str); 48] = [
     (
         "installable --arch amd64 x",
         "Ok(Run(Call { job: Installable { arch: \"amd64\", members: All, strength: Depends, \
-        budget: 100000 }, first: Some(\"x\"), second: None }))",
+        names: [], budget: 100000 }, first: Some(\"x\"), second: None }))",
     ),
     (
         "installable --recommends --installed --budget 1000000000 --arch=amd64",
         "Ok(Run(Call { job: Installable { arch: \"amd64\", members: Installed, \
-        strength: Recommends, budget: 1000000000 }, first: None, second: None }))",
+        strength: Recommends, names: [], budget: 1000000000 }, first: None, second: None }))",
+    ),
+    (
+        "installable --arch amd64 --only a,,b x",
+        "Ok(Run(Call { job: Installable { arch: \"amd64\", members: All, strength: Depends, \
+        names: [\"a\", \"\", \"b\"], budget: 100000 }, first: Some(\"x\"), second: None }))",
+    ),
+    (
+        "installable --arch amd64 --installed --witness=b,a --budget 1",
+        "Ok(Run(Call { job: Witness { arch: \"amd64\", members: Installed, strength: Depends, \
+        names: [\"b\", \"a\"], budget: 1 }, first: None, second: None }))",
+    ),
+    (
+        "installable --arch amd64 --only a --witness b x",
+        "Err(Usage(\"usage: installable takes --only or --witness\"))",
+    ),
+    (
+        "installable --arch amd64 --kind source --index i --witness b x",
+        "Err(Usage(\"usage: installable takes --only and --witness only for binary packages\"))",
     ),
     (
         "installable --arch amd64 --budget 1000000001 x",

@@ -19,3 +19,4 @@ pub mod UnmetReports
 pub mod Lacks
 pub mod LongFiles
 pub mod WholeReports
+pub mod WitnessReports

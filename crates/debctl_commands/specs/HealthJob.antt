@@ -21,8 +21,8 @@ is_architecture target = is_environment target []
 
 -- The architecture is refused, or out of memory: the file wasn't read, and nothing was written to
 -- `out`.
-pub record FailsAtTarget {W : Type 0} (target : List ℕ) (first : ReaderOfJob)
-    (out : WriterOfJob W) (answer : Result Summary Fault) : Type 0 where
+pub record FailsAtTarget {W T : Type 0} (target : List ℕ) (first : ReaderOfJob)
+    (out : WriterOfJob W) (answer : Result T Fault) : Type 0 where
   pub fault : Fault
   pub is : answer ≡ Err fault
   pub fault_is : RefusedOrMemory fault

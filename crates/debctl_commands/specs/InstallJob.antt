@@ -32,9 +32,9 @@ pub record AsksPackages {W : Type 0} (asks : AsksInstallable) (first : ReaderOfJ
   pub writes : out.failures out.new ≡ write_failures_after (out.failures out.old) answer
 
 -- What the job promises of these words.
-abbrev pub install_promise : {W : Type 0} → List ℕ → Members → Strength → Promise W
-install_promise target members strength =
+abbrev pub install_promise : {W : Type 0} → List ℕ → Members → Strength → List (List ℕ) → Promise W
+install_promise target members strength names =
     plain lines_report
     (λ first second out answer. FailsAtTarget target first out answer
     ⊎ (IsTrue (is_architecture target) × AsksPackages (asks_installable members
-    (fields_tried strength) (environment_with target [])) first out answer))
+    (fields_tried strength) names (environment_with target [])) first out answer))

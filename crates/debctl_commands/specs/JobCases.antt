@@ -27,6 +27,7 @@ use Rattle.debctl_args.specs.declared.jobs.Strength.TheVariants.{Depends}
 use Rattle.debctl_commands.specs.BuildJob.{AreRefusedSources, can_be_asked, source_words}
 use Rattle.debctl_commands.specs.DiffJob.{IsRefusedOld}
 use Rattle.debctl_commands.specs.HealthJob.{is_architecture}
+use Rattle.debctl_commands.specs.InstallJob.{install_promise}
 use Rattle.debctl_commands.specs.JobDevices.{reader_of, writer_of}
 use Rattle.debctl_commands.specs.Opening.{first_of_job, first_path, second_path}
 use Rattle.debctl_commands.specs.Promises.{Promise}
@@ -40,6 +41,7 @@ use Rattle.deb_install.specs.declared.source_kind.SourceKind.TheVariants as kind
 use Rattle.debctl_args.specs.declared.jobs.Members.TheVariants as members
 use Rattle.debctl_commands.specs.UnmetJob.{AreRefusedBefore, of_words, words}
 use Rattle.debctl_commands.specs.Verdicts.{demand, verdict_line}
+use Rattle.debctl_commands.specs.WitnessJob.{witness_promise}
 use Rattle.debctl_commands.specs.declared.verdict.Verdict.TheVariants.{NoNewline, Whole}
 
 abbrev one : String Global
@@ -69,7 +71,10 @@ abbrev unmet : Dependents → Job
 unmet given = job.Unmet one names members.Installed given Spelled
 
 abbrev installable : ℕ → Job
-installable budget = job.Installable one members.Installed Depends budget
+installable budget = job.Installable one members.Installed Depends names budget
+
+abbrev witness : ℕ → Job
+witness budget = job.Witness one members.Installed Depends names budget
 
 abbrev buildable : ℕ → Job
 buildable budget = job.Buildable one names members.Installed sources.Source budget
@@ -99,9 +104,12 @@ reports_of_jobs : ((promise (job.Check Source)).report tt ≡ by_status 0)
     ≡ by_status 1)
     × ((promise (installable 9)).report (record { paragraphs = 3; is_empty = true })
     ≡ by_status 0)
+    × ((promise (witness 9)).report (record { paragraphs = 3; is_found = true })
+    ≡ by_status 0)
     × ((promise (buildable 9)).report (record { paragraphs = 3; is_empty = false })
     ≡ by_status 1)
 reports_of_jobs = (
+  refl,
   refl,
   refl,
   refl,
@@ -123,8 +131,17 @@ reports_of_jobs = (
 
 -- `installable` promises the same with another budget
 promises_of_budgets : (promise (installable 1) ≡ promise (installable 9))
+    × (promise (witness 1) ≡ promise (witness 9))
     × (promise (buildable 1) ≡ promise (buildable 9))
-promises_of_budgets = (refl, refl)
+promises_of_budgets = (refl, refl, refl)
+
+-- the names are those of its words, in their order
+promises_of_names : (promise (installable 1)
+    ≡ install_promise (codes "amd64") Installed Depends (codes "b-" ∷ codes "amd64" ∷ []))
+    × (promise (witness 1)
+    ≡ witness_promise (codes "amd64") Installed Depends (codes "b-" ∷ codes "amd64" ∷ []))
+unfolding one other
+promises_of_names = (refl, refl)
 
 -- the refusal of a file has a side where both files are of one kind, and other faults have none
 lines_of_jobs : ((promise (job.Check Source)).line Read ≡ codes "fault: read\n")
@@ -176,6 +193,7 @@ unread_by_words : (IfRefusedWords query ℕ
     ≡ (AreRefusedBefore (words (codes "amd64") (codes "b-" ∷ codes "amd64" ∷ []) Installed
     dependents.Source Spelled) None → ℕ))
     × (IfRefusedWords (installable 9) ℕ ≡ (IsFalse (is_architecture (codes "amd64")) → ℕ))
+    × (IfRefusedWords (witness 9) ℕ ≡ (IsFalse (is_architecture (codes "amd64")) → ℕ))
     × (IfRefusedWords (buildable 9) ℕ
     ≡ (IsFalse (can_be_asked (source_words (codes "amd64") (codes "b-" ∷ codes "amd64" ∷ [])
     Installed kinds.Source)) → ℕ))
@@ -183,13 +201,13 @@ unread_by_words : (IfRefusedWords query ℕ
     ≡ (AreRefusedSources (source_words (codes "amd64") (codes "b-" ∷ codes "amd64" ∷ []) Installed
     kinds.Source) None → ℕ))
 unfolding one other
-unread_by_words = (refl, refl, refl, refl, refl, refl, refl, refl)
+unread_by_words = (refl, refl, refl, refl, refl, refl, refl, refl, refl)
 
 -- ---- paths
 
 abbrev on_one : List Job
 on_one = job.Check Source ∷ job.CheckAll Source ∷ job.CheckWhole Source (demand true 2)
-    ∷ job.Normalise Source ∷ job.Sort true ∷ query ∷ installable 9 ∷ []
+    ∷ job.Normalise Source ∷ job.Sort true ∷ query ∷ installable 9 ∷ witness 9 ∷ []
 
 abbrev on_two : List Job
 on_two = job.Same Source ∷ diff ∷ query_from ∷ unmet dependents.Source ∷ buildable 9 ∷ []

@@ -25,4 +25,5 @@ pub mod Unopened
 pub mod Verdicts
 pub mod VersionJobs
 pub mod WholeJob
+pub mod WitnessJob
 pub mod UsageReporting

@@ -27,13 +27,14 @@ use Rattle.debctl_commands.specs.UnmetJob.{AreRefusedBefore, Words, has_environm
 use Rattle.debctl_commands.specs.UnmetJob.{unmet_promise, words}
 use Rattle.debctl_commands.specs.VersionJobs.{Canonicalises, Compares}
 use Rattle.debctl_commands.specs.WholeJob.{ChecksWhole, verdict_report}
+use Rattle.debctl_commands.specs.WitnessJob.{witness_promise}
 use Rattle.debctl_args.specs.declared.jobs.Dependents.{Dependents}
 use Rattle.debctl_args.specs.declared.jobs.Members.{Members}
 use Rattle.debctl_args.specs.declared.jobs.Job.{Job}
 use Rattle.debctl_args.specs.declared.jobs.Job.TheVariants.{Check, CheckAll, CheckWhole, Normalise, Same, Diff}
 use Rattle.debctl_args.specs.declared.jobs.Job.TheVariants.{Compare, CanonVersion, Sort, Query, QueryFrom}
 use Rattle.debctl_args.specs.declared.jobs.Job.TheVariants.{Buildable, Healthy, Installable}
-use Rattle.debctl_args.specs.declared.jobs.Job.TheVariants.{Unmet, VersionKey}
+use Rattle.debctl_args.specs.declared.jobs.Job.TheVariants.{Unmet, VersionKey, Witness}
 use Rattle.debctl_args.specs.declared.jobs.SourceKind.{SourceKind}
 
 -- the question that a query's words are
@@ -100,8 +101,12 @@ promise_of (Unmet arch profiles members dependents versions) =
     unmet_promise (words_of_unmet arch profiles members dependents versions)
 promise_of (Healthy arch members strength) =
     health_promise (string_bytes arch) (index_members members) strength
-promise_of (Installable arch members strength budget) =
+promise_of (Installable arch members strength names budget) =
     install_promise (string_bytes arch) (index_members members) strength
+    (map string_bytes names.items)
+promise_of (Witness arch members strength names budget) =
+    witness_promise (string_bytes arch) (index_members members) strength
+    (map string_bytes names.items)
 promise_of (Buildable arch profiles members kind budget) =
     build_promise (words_of_build arch profiles members kind)
 
@@ -147,10 +152,11 @@ HasDetail (Query arch profiles relation members detail versions) = Unit {0}
 HasDetail (QueryFrom arch profiles members detail versions) = Unit {0}
 HasDetail _ = ⊥
 
--- The job is on all packages of a file.
+-- The job is on the packages of a file.
 abbrev pub IsOnPackages : Job → Type 0
 IsOnPackages (Healthy arch members strength) = Unit {0}
-IsOnPackages (Installable arch members strength budget) = Unit {0}
+IsOnPackages (Installable arch members strength names budget) = Unit {0}
+IsOnPackages (Witness arch members strength names budget) = Unit {0}
 IsOnPackages _ = ⊥
 
 -- Comparing two versions takes no memory.
@@ -178,7 +184,9 @@ IfRefusedWords (Unmet arch profiles members dependents versions) P =
     IsFalse (has_environment (words_of_unmet arch profiles members dependents versions)) → P
 IfRefusedWords (Healthy arch members strength) P =
     IsFalse (is_architecture (string_bytes arch)) → P
-IfRefusedWords (Installable arch members strength budget) P =
+IfRefusedWords (Installable arch members strength names budget) P =
+    IsFalse (is_architecture (string_bytes arch)) → P
+IfRefusedWords (Witness arch members strength names budget) P =
     IsFalse (is_architecture (string_bytes arch)) → P
 IfRefusedWords (Buildable arch profiles members kind budget) P =
     IsFalse (can_be_asked (words_of_build arch profiles members kind)) → P

@@ -24,10 +24,11 @@ use crate::sort_job::run_sort;
 use crate::unmet_job::{UnmetWords, run_unmet};
 use crate::version_jobs::{run_canon_version, run_compare, run_version_key};
 use crate::whole_job::run_check_whole;
+use crate::witness_job::run_witness;
 use deb_base::{Sink, Source, VersionText};
 use deb_install::BuildRequest;
 use deb_solve::Budget;
-use debctl_args::{Dependents, Detail, DiffDetail, DiffKind, Job, Members, SourceKind};
+use debctl_args::{Dependents, Detail, DiffDetail, DiffKind, Job, Members, SourceKind, Strength};
 use std::alloc::Global;
 
 /// Runs a job over readers and writers, reports on `err` why it failed, and returns the status.
@@ -177,7 +178,7 @@ fn run_job<R: Source, S: Source, W: Sink, E: Sink>(
             let words = build_words(arch, profiles, *members, *sources, *budget);
             run_buildable(alloc, &words, first, second, out, err)
         }
-        Job::Healthy { .. } | Job::Installable { .. } => {
+        Job::Healthy { .. } | Job::Installable { .. } | Job::Witness { .. } => {
             run_on_packages(alloc, job, first, out, err)
         }
         Job::Diff { .. } | Job::Query { .. } | Job::QueryFrom { .. } => {
@@ -186,7 +187,7 @@ fn run_job<R: Source, S: Source, W: Sink, E: Sink>(
     }
 }
 
-/// Runs a job on all packages of a file: `healthy` or `installable`.
+/// Runs a job on the packages of a file: `healthy` or `installable`.
 fn run_on_packages<R: Source, W: Sink, E: Sink>(
     alloc: Global,
     job: &Job,
@@ -224,14 +225,21 @@ fn run_on_packages<R: Source, W: Sink, E: Sink>(
             arch,
             members,
             strength,
+            names,
             budget,
         } => {
-            let asked = InstallAsked {
-                members: index_members(*members),
-                strength: *strength,
-                budget: *budget,
-            };
+            let asked = install_asked(*members, *strength, names, *budget);
             run_installable(alloc, arch.as_str(), asked, first, out, err)
+        }
+        Job::Witness {
+            arch,
+            members,
+            strength,
+            names,
+            budget,
+        } => {
+            let asked = install_asked(*members, *strength, names, *budget);
+            run_witness(alloc, arch.as_str(), asked, first, out, err)
         }
         _ => unreachable!(),
     }
@@ -331,6 +339,24 @@ fn query_words<'a>(
         profiles,
         members: index_members(members),
         options: QueryOptions { detail, versions },
+    }
+}
+
+fn install_asked<'a>(
+    members: Members,
+    strength: Strength,
+    names: &'a [String],
+    budget: u32,
+) -> InstallAsked<'a>
+    ensures members { result.members ≡ index_members members }
+    ensures strength { result.strength ≡ strength }
+    ensures names { result.names.now ≡ names.entry.now }
+{
+    InstallAsked {
+        members: index_members(members),
+        strength,
+        names,
+        budget,
     }
 }
 

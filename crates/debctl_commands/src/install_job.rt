@@ -1,10 +1,11 @@
 //! The job on the packages of a file that can't be installed: `installable`.
 
-ghost use Rattle.std.specs.Prelude.{◌≡◌, ◌<◌, string_bytes, IsFalse, Result};
+ghost use Rattle.std.specs.Prelude.{◌≡◌, ◌<◌, map, string_bytes, IsFalse, Result};
 ghost use Rattle.deb_base.specs.Lines.{fault_line};
 ghost use Rattle.deb_base.specs.declared.fault.Fault.{Fault};
 ghost use Rattle.deb_install.specs.Installing.{asks_installable};
 ghost use Rattle.deb_relation.specs.Environments.{environment_of};
+ghost use Rattle.deb_relation.specs.Views.{names_of};
 ghost use Rattle.deb_unmet.specs.declared.asking.Summary.{Summary};
 ghost use Rattle.debctl_commands.specs.HealthJob.{is_architecture, lines_report};
 ghost use Rattle.debctl_commands.specs.InstallJob.{AsksPackages, install_promise};
@@ -15,9 +16,10 @@ ghost use Rattle.debctl_commands.specs.Taking.{TakesFile};
 ghost use Rattle.debctl_commands.specs.UnmetJob.{fields_tried};
 
 use crate::health_job::report_lines;
+use crate::query_job::names_of;
 use crate::reporting::report_fault;
 use crate::unmet_job::{fields_tried, parse_environment};
-use deb_base::{Sink, Source};
+use deb_base::{Fault, Sink, Source};
 use deb_index::Members;
 use deb_install::{InstallRequest, installable};
 use deb_relation::Env;
@@ -27,16 +29,18 @@ use std::alloc::Global;
 
 /// Which packages of its file are asked, what they need, and how long the search may take.
 #[derive(Clone, Copy)]
-pub(crate) struct InstallAsked {
+pub(crate) struct InstallAsked<'a> {
     pub members: Members,
     pub strength: Strength,
+    /// The names of the packages that are asked; all are, if there is none.
+    pub names: &'a [String],
     /// The most steps of the search for one package. All searches together take at most so many,
     /// and 100 for each package.
     pub budget: u32,
 }
 
-/// Writes to `out` a line for each package of a file that can't be installed, and returns the
-/// status.
+/// Writes to `out` a line for each package of a file that is asked and can't be installed, and
+/// returns the status.
 ///
 /// - 0 and 1: the file is accepted. No line was written, or some were, and nothing to `err`.
 /// - 2: the architecture or the file is refused, in this order. `err` has the refusal's line, and
@@ -46,7 +50,7 @@ pub(crate) struct InstallAsked {
 pub(crate) fn run_installable<R: Source, W: Sink, E: Sink>(
     alloc: Global,
     target: &str,
-    asked: InstallAsked,
+    asked: InstallAsked<'_>,
     first: &mut R,
     out: &mut W,
     err: &mut E,
@@ -61,14 +65,37 @@ pub(crate) fn run_installable<R: Source, W: Sink, E: Sink>(
 
     // Whatever the status: there is an answer, and that is reported.
     ensures reports_answer { (second : ReaderOfJob)
-        → Ends (install_promise target.now asked.members asked.strength)
+        → Ends (install_promise target.now asked.members asked.strength
+        (map string_bytes asked.names.now))
         (reader_of (R.left first.old) (R.failures first.old) (R.failures first.new)) second
         (writer_of W.held W.failures out.old out.new)
         (writer_of E.held E.failures err.old err.new) result }
 {
+    let Ok(names) = names_of(alloc, asked.names) else {
+        return report_fault(&Fault::Memory, err);
+    };
     match parse_environment(alloc, target, &[]) {
-        Ok(environment) => run_in_environment(alloc, &environment, asked, first, out, err),
+        Ok(environment) => {
+            let request = request_for(asked, &names);
+            run_in_environment(alloc, &environment, request, first, out, err)
+        }
         Err(fault) => report_fault(&fault, err),
+    }
+}
+
+/// Returns what is asked, with the names in bytes.
+pub(crate) fn request_for<'a>(asked: InstallAsked<'_>, names: &'a [&'a [u8]]) -> InstallRequest<'a>
+    ensures members { result.members ≡ asked.members }
+    ensures strength { result.strength ≡ fields_tried asked.strength }
+    ensures names { result.names.now ≡ names.entry.now }
+{
+    InstallRequest {
+        members: asked.members,
+        strength: fields_tried(asked.strength),
+        names,
+        budget: Budget {
+            one_search: asked.budget,
+        },
     }
 }
 
@@ -76,27 +103,20 @@ pub(crate) fn run_installable<R: Source, W: Sink, E: Sink>(
 fn run_in_environment<R: Source, W: Sink, E: Sink>(
     alloc: Global,
     environment: &Env,
-    asked: InstallAsked,
+    request: InstallRequest<'_>,
     first: &mut R,
     out: &mut W,
     err: &mut E,
 ) -> u8
     ensures ends { (answer : Result Summary Fault)
-        × AsksPackages (asks_installable asked.members (fields_tried asked.strength)
-        (environment_of environment.now))
+        × AsksPackages (asks_installable request.members request.strength
+        (names_of request.names.now) (environment_of environment.now))
         (reader_of (R.left first.old) (R.failures first.old) (R.failures first.new))
         (writer_of W.held W.failures out.old out.new) answer
         × ReportsBy lines_report (λ fault. fault) fault_line E.held E.failures err.old err.new
         answer result }
     ensures reads_at_most { TakesFile (R.left first.old) (R.left first.new) }
 {
-    let request = InstallRequest {
-        members: asked.members,
-        strength: fields_tried(asked.strength),
-        budget: Budget {
-            one_search: asked.budget,
-        },
-    };
     let answer = installable(alloc, environment, request, first, out);
     report_lines(answer, err)
 }

@@ -39,6 +39,7 @@ mod usage_hints;
 mod verdict;
 mod version_jobs;
 mod whole_job;
+mod witness_job;
 mod writer;
 
 pub use all_jobs::run_explain_all;

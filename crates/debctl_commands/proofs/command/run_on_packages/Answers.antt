@@ -20,4 +20,15 @@ returns-in-Installable-clause-first_untouched_if_refused g c =
 
 pub returns-in-Installable-clause-reports_answer : goal.returns-in-Installable-clause-reports_answer
 returns-in-Installable-clause-reports_answer g c second =
-    reported_as c.args.job.now _ c.in-Installable.is _ _ _ _ c.run_installable.result (rw (c.as_str-in-Installable.ensures.value, c.index_members-in-Installable.ensures) at (c.run_installable.ensures.reports_answer second))
+    let asked = c.install_asked-asked.ensures in
+    reported_as c.args.job.now _ c.in-Installable.is _ _ _ _ c.run_installable.result (rw (c.as_str-in-Installable.ensures.value, asked.members, asked.strength, asked.names, c.deref.ensures.value) at (c.run_installable.ensures.reports_answer second))
+
+pub returns-in-Witness-clause-first_untouched_if_refused : goal.returns-in-Witness-clause-first_untouched_if_refused
+returns-in-Witness-clause-first_untouched_if_refused g c =
+    subst (λ (asked : Job). IfRefusedWords asked (c.run_witness.new.first ≡ c.args.first.now)) (sym c.in-Witness.is)
+    (rw c.as_str-in-Witness.ensures.value at c.run_witness.ensures.first_untouched_if_refused)
+
+pub returns-in-Witness-clause-reports_answer : goal.returns-in-Witness-clause-reports_answer
+returns-in-Witness-clause-reports_answer g c second =
+    let asked = c.install_asked-in-Witness-asked.ensures in
+    reported_as c.args.job.now _ c.in-Witness.is _ _ _ _ c.run_witness.result (rw (c.as_str-in-Witness.ensures.value, asked.members, asked.strength, asked.names, c.deref-in-Witness.ensures.value) at (c.run_witness.ensures.reports_answer second))
