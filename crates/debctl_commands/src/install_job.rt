@@ -3,9 +3,8 @@
 ghost use Rattle.std.specs.Prelude.{◌≡◌, ◌<◌, map, string_bytes, IsFalse, Result};
 ghost use Rattle.deb_base.specs.Lines.{fault_line};
 ghost use Rattle.deb_base.specs.declared.fault.Fault.{Fault};
-ghost use Rattle.deb_install.specs.Installing.{asks_installable};
+ghost use Rattle.deb_install.specs.Installing.{asks_by};
 ghost use Rattle.deb_relation.specs.Environments.{environment_of};
-ghost use Rattle.deb_relation.specs.Views.{names_of};
 ghost use Rattle.deb_unmet.specs.declared.asking.Summary.{Summary};
 ghost use Rattle.debctl_commands.specs.HealthJob.{is_architecture, lines_report};
 ghost use Rattle.debctl_commands.specs.InstallJob.{AsksPackages, install_promise};
@@ -77,7 +76,7 @@ pub(crate) fn run_installable<R: Source, W: Sink, E: Sink>(
     match parse_environment(alloc, target, &[]) {
         Ok(environment) => {
             let request = request_for(asked, &names);
-            run_in_environment(alloc, &environment, request, first, out, err)
+            run_in_environment(alloc, &environment, &request, first, out, err)
         }
         Err(fault) => report_fault(&fault, err),
     }
@@ -103,14 +102,13 @@ pub(crate) fn request_for<'a>(asked: InstallAsked<'_>, names: &'a [&'a [u8]]) ->
 fn run_in_environment<R: Source, W: Sink, E: Sink>(
     alloc: Global,
     environment: &Env,
-    request: InstallRequest<'_>,
+    request: &InstallRequest<'_>,
     first: &mut R,
     out: &mut W,
     err: &mut E,
 ) -> u8
     ensures ends { (answer : Result Summary Fault)
-        × AsksPackages (asks_installable request.members request.strength
-        (names_of request.names.now) (environment_of environment.now))
+        × AsksPackages (asks_by request.now (environment_of environment.now))
         (reader_of (R.left first.old) (R.failures first.old) (R.failures first.new))
         (writer_of W.held W.failures out.old out.new) answer
         × ReportsBy lines_report (λ fault. fault) fault_line E.held E.failures err.old err.new
