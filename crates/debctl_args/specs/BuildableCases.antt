@@ -1,5 +1,5 @@
 -- Worked cases of what the words of `installable` ask of source packages.
-use Rattle.std.specs.Prelude.{◌≡◌, ℕ, List, [], map, ◌∷◌, Option, Some, None, codes, refl}
+use Rattle.std.specs.Prelude.{◌≡◌, List, [], map, ◌∷◌, Option, Some, None, codes, refl}
 use Rattle.std.specs.Fmt.{digits}
 use Rattle.clap.proofs.OnLiterals.{clap_on_literals}
 use Rattle.clap.specs.Faults.{fault_of}
