@@ -11,7 +11,7 @@ use Rattle.deb_index.specs.Members.{doc_of}
 use Rattle.deb_index.specs.declared.members.Members.{Members}
 use Rattle.deb_install.specs.Installing.{AsksInstallable, asks_installable}
 use Rattle.deb_install.specs.Witnesses.{StopsWitness, WritesWitness}
-use Rattle.deb_install.specs.declared.witness.Sought.{Sought}
+use Rattle.deb_install.specs.declared.witnesses.Sought.{Sought}
 use Rattle.debctl_args.specs.declared.jobs.Strength.{Strength}
 use Rattle.debctl_commands.specs.HealthJob.{FailsAtTarget, is_architecture}
 use Rattle.debctl_commands.specs.JobDevices.{ReaderOfJob, WriterOfJob}

@@ -4,7 +4,7 @@ ghost use Rattle.std.specs.Prelude.{◌≡◌, ◌<◌, map, string_bytes, IsFal
 ghost use Rattle.deb_base.specs.Lines.{fault_line};
 ghost use Rattle.deb_base.specs.declared.fault.Fault.{Fault};
 ghost use Rattle.deb_install.specs.Installing.{asks_by};
-ghost use Rattle.deb_install.specs.declared.witness.Sought.{Sought};
+ghost use Rattle.deb_install.specs.declared.witnesses.Sought.{Sought};
 ghost use Rattle.deb_relation.specs.Environments.{environment_of};
 ghost use Rattle.debctl_commands.specs.HealthJob.{is_architecture};
 ghost use Rattle.debctl_commands.specs.JobDevices.{ReaderOfJob, reader_of, writer_of};
