@@ -45,11 +45,12 @@ use std::alloc::Global;
 ///
 /// - 0: done, or the answer is yes. `out` has `ok N` and a newline, with `--all` `ok N, 0 refused`
 ///   and a newline, the canonical text of the file, `same` and a newline, nothing, the canonical
-///   version and a newline, the lines of the keys, the sorted lines, or the report, with `--why`
-///   the report with reasons. Nothing was written to `err`.
-/// - 1: the answer of `same` or `compare` is no, a group of a `query` is unmet, or `diff` or
-///   `unmet` has a line. `out` has `different` and a newline for `same`, the report for `query`,
-///   and the lines for `diff` and `unmet`; nothing else was written.
+///   version and a newline, the lines of the keys, the sorted lines, the lines of a set, or the
+///   report, with `--why` the report with reasons. Nothing was written to `err`.
+/// - 1: the answer of `same` or `compare` is no, a group of a `query` is unmet, `installable` with
+///   `--witness` found no set, or `diff`, `unmet`, `healthy` or `installable` has a line. `out` has
+///   `different` and a newline for `same`, nothing for `compare`, the report for `query`, and the
+///   lines for every other job; nothing else was written.
 /// - 2: a file or an argument is refused. `err` has the refusal's line, after `first: ` or
 ///   `second: ` for a file of a job that reads two and isn't a `query`. `out` has nothing, except
 ///   for `normalise` and `unmet` of a second file: the canonical text, or the lines, of the
