@@ -64,8 +64,8 @@ pub(crate) fn run_installable<R: Source, W: Sink, E: Sink>(
 
     // Whatever the status: there is an answer, and that is reported.
     ensures reports_answer { (second : ReaderOfJob)
-        → Ends (install_promise target.now asked.members asked.strength
-        (map string_bytes asked.names.now))
+        → Ends (install_promise target.now asked.entry.members asked.entry.strength
+        (map string_bytes asked.entry.names.now))
         (reader_of (R.left first.old) (R.failures first.old) (R.failures first.new)) second
         (writer_of W.held W.failures out.old out.new)
         (writer_of E.held E.failures err.old err.new) result }
@@ -84,8 +84,8 @@ pub(crate) fn run_installable<R: Source, W: Sink, E: Sink>(
 
 /// Returns what is asked, with the names in bytes.
 pub(crate) fn request_for<'a>(asked: InstallAsked<'_>, names: &'a [&'a [u8]]) -> InstallRequest<'a>
-    ensures members { result.members ≡ asked.members }
-    ensures strength { result.strength ≡ fields_tried asked.strength }
+    ensures members { result.members ≡ asked.entry.members }
+    ensures strength { result.strength ≡ fields_tried asked.entry.strength }
     ensures names { result.names.now ≡ names.entry.now }
 {
     InstallRequest {

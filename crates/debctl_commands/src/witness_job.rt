@@ -50,8 +50,8 @@ pub(crate) fn run_witness<R: Source, W: Sink, E: Sink>(
 
     // Whatever the status: there is an answer, and that is reported.
     ensures reports_answer { (second : ReaderOfJob)
-        → Ends (witness_promise target.now asked.members asked.strength
-        (map string_bytes asked.names.now))
+        → Ends (witness_promise target.now asked.entry.members asked.entry.strength
+        (map string_bytes asked.entry.names.now))
         (reader_of (R.left first.old) (R.failures first.old) (R.failures first.new)) second
         (writer_of W.held W.failures out.old out.new)
         (writer_of E.held E.failures err.old err.new) result }
