@@ -264,7 +264,9 @@ def many_paragraphs():
     old, new = front + last % 1, front + last % 2
     bad = b"\n".join(text % at + b"Size: x\n" for at in numbers)
     status = old.replace(b"Version", b"Status: install ok installed\nVersion")
-    files = {"old": old, "new": new, "bad": bad, "status": status, "versions": b"2\n" * 400}
+    chain = b"\n".join(text % at + b"Depends: p%03d\n" % (at % 400 + 1) for at in numbers)
+    files = {"old": old, "new": new, "bad": bad, "status": status, "chain": chain}
+    files["versions"] = b"2\n" * 400
     refused = [b"line %d: 15 BadNumber\n" % (6 * at - 1) for at in numbers] + [b"ok 0, 400 refused\n"]
     met = b"".join(b" %d p%03d 1 all\n" % (at, at) for at in numbers)
     why = b"".join(
@@ -286,6 +288,7 @@ def many_paragraphs():
         (["healthy", *arch, "new"], b"unmet 400 p400 2 all Depends zz\n", 1),
         (["healthy", *installed, "status"], b"unmet 400 p400 1 all Depends zz\n", 1),
         (["installable", *arch, "new"], b"uninstallable 400 p400 2 all\n", 1),
+        (["installable", *arch, "--witness", "p007", "chain"], met, 0),
         (["unmet", *installed, "status"], b"unmet 400 p400 1 all Depends zz\n", 1),
         (["query", *installed, "vv", "status"], b"met vv\n" + met, 0),
         (["sort", "versions"], files["versions"], 0), (["audit", "old", "new"], audited, 0),

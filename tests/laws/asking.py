@@ -18,6 +18,7 @@ SECONDS = 10
 REASON_LINE = re.compile(rb"^(name|place|reason): (.*)$", re.M)
 GROUP_LINE = re.compile(rb"^(?:met|unmet|ignored) (.+)$", re.M)
 LINE = re.compile(rb"[^\n]*\n")
+MEMBER = re.compile(rb" (\d+) [^\n]*\n")
 STATUS = re.compile(rb"^status:(.*(?:\n[ \t].*)*)", re.M | re.I)
 KINDS = tuple(REQUIRED)
 # What a package is that isn't installable in every reading, and what any is.
@@ -265,7 +266,9 @@ class Asked:
         random, paragraphs = self.case.random, paragraphs_of(normal.out)
         kept = file_of([it for it in paragraphs if is_installed(it)])
         relation = b", ".join(alternative(random) for _ in range(random.randint(1, 4)))
+        names = b",".join(random.sample([*map(name_of, paragraphs), b"aa", b"bb"], 2))
         calls = ["healthy"], ["healthy", "--recommends"], ["installable"], ["unmet"], ["query", relation]
+        calls += ["installable", "--only", names], ["installable", "--witness", names]
         for call, *more in calls:
             words = [call, "--arch", "amd64", *more]
             answer = self.program.run([*words, "--installed"], [self.case.text])
@@ -297,6 +300,7 @@ class Asked:
         if answer.status not in (0, 1) or answer != again:
             yield f"installable: {shown(answer)}; of normal text {shown(again)}"
         yield from self.of_other_lines(self.case.text, arch, words_of(answer.out))
+        yield from self.of_names(self.case.text, arch, paragraphs_of(normal.out), answer.out)
 
     def of_other_lines(self, text, words, found):
         """No package of a healthy set has a word of `installable`. One with a line `unmet` is
@@ -307,6 +311,43 @@ class Asked:
             word, number, *_ = line.split(b" ")
             if found.get(int(number)) not in ({b"uninstallable"} if word == b"unmet" else MAYBE):
                 yield f"installable of {text!r}: {found!r}, but unmet has {line!r}"
+
+    def of_names(self, text, words, paragraphs, out):
+        """With `--only` the lines are those of the packages with these names: all of them for all names,
+        and for some names those of two calls with a part of them each."""
+        random = self.case.random
+        all_names = [*map(name_of, paragraphs)]
+        names = random.sample([*all_names, b"zz", b""], random.randint(1, len(all_names) + 2))
+        cut = random.randint(0, len(names))
+        for some in (all_names, names, names[:cut], names[cut:]):
+            wanted = of_some(some, out)
+            answer = self.installable(text, *words, "--only", b",".join(some))
+            if answer != Answer(wanted, b"", int(bool(wanted))):
+                yield f"installable {words} --only {some!r} of {text!r}: {shown(answer)}, and not {wanted!r}"
+        yield from self.of_witness(text, words, paragraphs, out, names)
+
+    def of_witness(self, text, words, paragraphs, out, names):
+        """`--witness` finds a set exactly if a package with one of the names has no line: a healthy one
+        that contains the first of them. If it finds none, its lines are those of `--only`."""
+        answer = self.installable(text, *words, "--witness", b",".join(names))
+        found = words_of(out)
+        able = [at for at, it in enumerate(paragraphs, 1) if name_of(it) in names and at not in found]
+        told = f"installable {words} --witness {names!r} of {text!r}: {shown(answer)}"
+        if able:
+            yield from self.of_set(told, answer, words, paragraphs, able[:1])
+        elif answer != Answer(of_some(names, out), b"", 1):
+            yield f"{told}, and not {of_some(names, out)!r}"
+
+    def of_set(self, told, answer, words, paragraphs, wanted):
+        """The answer is a healthy set, and contains one of the packages with these numbers."""
+        numbers = [int(it) for it in MEMBER.findall(answer.out)]
+        lines = b"".join(member_line(at, it) for at, it in enumerate(paragraphs, 1) if at in numbers)
+        if answer != Answer(lines, b"", 0) or not {*numbers} & {*wanted}:
+            yield f"{told}, and not a set with one of {wanted}"
+        members = b"\n".join(paragraphs[at - 1] + b"\n" for at in numbers if at <= len(paragraphs))
+        healthy = self.program.run(["healthy", *words], [members])
+        if healthy != Answer(b"", b"", 0):
+            yield f"{told}; healthy: {shown(healthy)}"
 
     def of_universe(self):
         """Which packages of a small universe can be installed is what trying each set says, and `healthy`
@@ -324,8 +365,8 @@ class Asked:
         if (healthy.status, healthy.out == b"") != (int(not is_healthy), is_healthy):
             yield f"healthy {made.words} of {made.text!r}: {shown(healthy)}, and not {is_healthy}"
         yield from self.of_other_lines(made.text, made.words, words_of(lines))
-        law = random.choice((self.of_order, self.of_budget, self.of_more, self.of_states))
-        yield from law(made, words)
+        laws = self.of_order, self.of_budget, self.of_more, self.of_states, self.of_members
+        yield from random.choice(laws)(made, words)
 
     def of_order(self, made, words):
         """In another spelling the lines are the same, in another order they come in that."""
@@ -346,6 +387,28 @@ class Asked:
         is_whole = budget == "1000000000"
         if any(it != word and (is_whole or it != b"undecided") for it, word in zip(few, words)):
             yield f"installable --budget {budget} of {made.text!r}: {shown(answer)}, and not {words!r}"
+
+    def of_members(self, made, words):
+        """The laws of names hold. A set that is printed contains the first package that can be in one, and
+        others only if one of the set needs them; with few steps it may be another package."""
+        random = self.case.random
+        paragraphs = [it.paragraph().rstrip(b"\n") for it in made.packages]
+        yield from self.of_names(made.text, made.words, paragraphs, made.lines(words))
+        name = random.choice(made.packages).name
+        asked = [at for at, it in enumerate(made.packages) if it.name == name]
+        budget = random.choice(([], ["--budget", "1"], ["--budget", "2"]))
+        answer = self.installable(made.text, *made.words, *budget, "--witness", name)
+        told = f"installable {made.words} {budget} --witness {name!r} of {made.text!r}: {shown(answer)}"
+        if answer.status == 0:
+            able = [at + 1 for at in asked if not words[at]]
+            yield from self.of_set(told, answer, made.words, paragraphs, able)
+            members = {int(it) - 1 for it in MEMBER.findall(answer.out)}
+            if len(members - made.needed_by(members)) > 1:
+                yield f"{told}; {made.needed_by(members)} are needed"
+            return
+        few, others = words_of(answer.out), [b"undecided"] if budget else []
+        if [*few] != [at + 1 for at in asked] or any(few[at + 1] not in (words[at], *others) for at in asked):
+            yield f"{told}, and not {words!r}"
 
     def of_more(self, made, words):
         """A package more, anywhere, makes no other one uninstallable."""
@@ -502,6 +565,26 @@ class Asked:
 def words_of(out: bytes):
     """The words of `installable`, by the numbers of the packages that have a line."""
     return {int(line.split(b" ")[1]): line.split(b" ")[0] for line in LINE.findall(out)}
+
+
+def of_some(names, out: bytes) -> bytes:
+    """The lines of `installable` that are of packages with these names."""
+    return b"".join(line for line in LINE.findall(out) if line.split(b" ")[2] in names)
+
+
+def fields_of(paragraph: bytes, *names: bytes):
+    """The bodies of these fields of a paragraph that has each on one line."""
+    return [re.search(rb"(?m)^%s: (.*)$" % name, paragraph)[1] for name in names]
+
+
+def name_of(paragraph: bytes) -> bytes:
+    """The name of a package."""
+    return fields_of(paragraph, b"Package")[0]
+
+
+def member_line(number: int, paragraph: bytes) -> bytes:
+    """The line of a package of a set."""
+    return b" %d %s %s %s\n" % (number, *fields_of(paragraph, b"Package", b"Version", b"Architecture"))
 
 
 def paragraphs_of(text: bytes):

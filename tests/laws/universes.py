@@ -242,6 +242,15 @@ class Universe:
                 if group:
                     yield self.those(lambda it: any(it.fits(one, target, self.native) for one in group))
 
+    def needed_by(self, members) -> Set[int]:
+        """The packages that meet a group of one of these, in some reading."""
+        needed = 0
+        for held in readings(self.open_lists()):
+            for at in members:
+                for mask in self.needs(at, self.packages[at], self.needed, held):
+                    needed |= mask
+        return {at for at in range(len(self.packages)) if needed >> at & 1}
+
     def exclusions(self, number: int, package: Package, held) -> int:
         """The packages that can't be in a set with a package because of it."""
         same_name = self.those(lambda it: it.name == package.name and not package.is_beside(it, self.native))
