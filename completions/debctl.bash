@@ -65,7 +65,7 @@ _debctl() {
         [healthy:options]='--arch --recommends --installed --help'
         [healthy:0]=files
         [healthy:--arch]='$(dpkg-architecture -L 2>/dev/null)'
-        [installable:options]='--arch --profiles --kind --index --recommends --installed --budget --help'
+        [installable:options]='--arch --profiles --kind --index --recommends --installed --budget --only --witness --help'
         [installable:0]=files
         [installable:--arch]='$(dpkg-architecture -L 2>/dev/null)'
         [installable:--profiles]=''
@@ -73,6 +73,8 @@ _debctl() {
         [installable:--kind]='packages source sources'
         [installable:--index]=files
         [installable:--budget]=''
+        [installable:--only]=''
+        [installable:--witness]=''
         [help:options]=--help
         [help:0]='check explain audit normalise same diff compare canon-version version-key sort query unmet healthy installable help kinds'
     )
@@ -84,7 +86,7 @@ _debctl() {
         fi
         case ${words[i]} in
             --) ended=yes ;;
-            -k | --kind | --least | --arch | --profiles | --index | --budget) ((i++)) ;;
+            -k | --kind | --least | --arch | --profiles | --index | --budget | --only | --witness) ((i++)) ;;
             # The value is in place of a word, as it is if it is a word of its own.
             --code=* | --relation=* | --version-text=* | --files0-from=* | --relation-from=*) ((given++)) ;;
         esac
