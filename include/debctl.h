@@ -47,15 +47,15 @@ enum deb_status {
     DEB_YES = 0,            /* done, or yes */
     DEB_NO = 1,             /* deb_same, deb_diff: the files differ; deb_query, deb_unmet: a group is
                              * unmet; deb_healthy: the set isn't healthy; deb_installable: a package
-                             * has a line; deb_buildable: a source package has one;
-                             * deb_index_package: there is no such package */
+                             * has a line; deb_buildable: a source package has one; deb_witness:
+                             * no set is found; deb_index_package: there is no such package */
     DEB_REFUSED = 2,        /* a text is refused, or the first of two */
     DEB_SECOND_REFUSED = 3, /* the first text is accepted, and the second is refused */
     DEB_NO_ROOM = 4,        /* the buffer is too small; its length is what it needs */
     DEB_NO_MEMORY = 5,      /* out of memory */
     DEB_NO_KIND = 6,        /* no kind of document has this number, or no detail; deb_diff, deb_unmet,
-                             * deb_healthy, deb_installable, deb_buildable: the call doesn't take
-                             * this kind */
+                             * deb_healthy, deb_installable, deb_witness, deb_buildable: the call
+                             * doesn't take this kind */
     DEB_NO_INDEX = 7        /* the index that is asked holds none, since it was refused */
 };
 
@@ -124,8 +124,8 @@ struct deb_answer {
                      * deb_normalise, deb_explain, deb_explain_all and deb_fields, and for DEB_YES
                      * and DEB_NO of deb_unmet and deb_buildable; of the paragraphs that pass, for
                      * DEB_REFUSED of deb_check_all and deb_explain_all; of the packages, for DEB_YES
-                     * and DEB_NO of deb_healthy and deb_installable, and for DEB_YES of
-                     * deb_index_read */
+                     * and DEB_NO of deb_healthy, deb_installable and deb_witness, and for DEB_YES
+                     * of deb_index_read */
 };
 
 /* The answer of a comparison of two versions. */
@@ -390,6 +390,23 @@ struct deb_answer deb_installable(uint8_t kind, uint8_t recommends, uint32_t bud
                                   const uint8_t *index, size_t index_length,
                                   uint8_t *out, size_t out_size, size_t *length);
 
+/* Writes a set of packages of a file that contains a package with this name and is healthy, as
+ * deb_healthy has it, for a target architecture: that of the first package with the name, in the order
+ * of the file, for which the search finds one. No architecture wildcard decides whether it is healthy.
+ * There is a line for each package of the set, in the order of the file: a space, its number, name,
+ * version and architecture. If the search finds no set, the lines are those of deb_installable, by
+ * these searches: one for each package with the name. They are the lines that the program
+ * `debctl installable --witness` writes. `kind`, `recommends` and `budget` are those of
+ * deb_installable.
+ * DEB_YES: a set is found, DEB_REPORT is the form of its lines; DEB_NO: none is, the form is
+ * DEB_INSTALLABLE_LINES, and there is no line if no package has the name; both with the number of
+ * packages. The other statuses of deb_installable. */
+struct deb_answer deb_witness(uint8_t kind, uint8_t recommends, uint32_t budget,
+                              const uint8_t *target, size_t target_length,
+                              const uint8_t *name, size_t name_length,
+                              const uint8_t *index, size_t index_length,
+                              uint8_t *out, size_t out_size, size_t *length);
+
 /* Writes which source packages of a file can't be built with the packages of an index, for a target
  * architecture and with these build profiles active. One can be built if a healthy set of these
  * packages has build-essential and what its Build-Depends, Build-Depends-Arch and Build-Depends-Indep
@@ -519,12 +536,12 @@ struct deb_span {
 
 /* What wrote a text. */
 enum deb_form {
-    DEB_REPORT = 0,      /* deb_query, deb_index_query, and both with _why */
+    DEB_REPORT = 0,      /* deb_query, deb_index_query, and both with _why; deb_witness, DEB_YES */
     DEB_UNMET_LINES = 1, /* deb_unmet, deb_index_unmet */
     DEB_DIFF_LINES = 2,  /* deb_diff */
     DEB_EXPLANATION = 3, /* deb_explain, deb_explain_all, deb_explain_relation, deb_explain_version */
     DEB_HEALTH_LINES = 4, /* deb_healthy */
-    DEB_INSTALLABLE_LINES = 5 /* deb_installable, deb_buildable */
+    DEB_INSTALLABLE_LINES = 5 /* deb_installable, deb_buildable; deb_witness, DEB_NO */
 };
 
 /* What a line of a text says, and its cells. */

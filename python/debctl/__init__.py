@@ -30,8 +30,8 @@ from ._explanations import (
     AllExplained, Explanation, explain, explain_all, explain_relation, explain_version,
 )
 from ._files import (
-    AllChecked, BuildReport, HealthReport, InstallReport, Report, UnmetReport, buildable, check,
-    check_all, diff, healthy, installable, normalise, query, same, unmet,
+    AllChecked, BuildReport, HealthReport, InstallReport, Report, UnmetReport, WitnessReport,
+    buildable, check, check_all, diff, healthy, installable, normalise, query, same, unmet, witness,
 )
 from ._index import Details, Index, Package
 from ._library import Kind, Text, lib
@@ -56,15 +56,15 @@ __all__ = [
     "AllChecked", "AllExplained", "Alternative", "BuildReport", "Change", "Code", "Details",
     "Explanation", "Group", "HealthReason", "HealthReport", "Index", "InstallReport", "Kind",
     "NotInstallable", "NumberedPackage", "Package", "Paragraph", "Parts", "Reason", "Refused",
-    "Report", "Text", "UnmetGroup", "UnmetReport", "Version", "applies", "buildable", "canonical",
-    "check", "check_all", "compare", "diff", "explain", "explain_all", "explain_relation",
-    "explain_version", "healthy", "installable", "key", "library_version", "normalise",
-    "paragraphs", "query", "relations", "same", "satisfies", "unmet",
+    "Report", "Text", "UnmetGroup", "UnmetReport", "Version", "WitnessReport", "applies",
+    "buildable", "canonical", "check", "check_all", "compare", "diff", "explain", "explain_all",
+    "explain_relation", "explain_version", "healthy", "installable", "key", "library_version",
+    "normalise", "paragraphs", "query", "relations", "same", "satisfies", "unmet", "witness",
 ]
 
 for _public in (
     AllChecked, AllExplained, Alternative, BuildReport, Change, Code, Details, Explanation, Group,
     HealthReason, HealthReport, Index, InstallReport, NotInstallable, NumberedPackage, Package,
-    Paragraph, Parts, Reason, Refused, Report, UnmetGroup, UnmetReport, Version,
+    Paragraph, Parts, Reason, Refused, Report, UnmetGroup, UnmetReport, Version, WitnessReport,
 ):
     _public.__module__ = __name__

@@ -11,8 +11,8 @@ from ._library import (
 )
 from ._refusals import Refused
 from ._rows import (
-    Change, Group, HealthReason, NotInstallable, UnmetGroup, changes_of, groups_of,
-    health_reasons_of, not_installable_of, unmet_groups_of,
+    Change, Group, HealthReason, NotInstallable, NumberedPackage, UnmetGroup, changes_of, groups_of,
+    health_reasons_of, not_installable_of, packages_of, unmet_groups_of,
 )
 
 _PACKAGES = 1
@@ -84,6 +84,28 @@ class InstallReport(NamedTuple):
     def packages(self) -> List[NotInstallable]:
         """The packages that can't be installed, or may not be, in the order of the text."""
         return not_installable_of(self.text)
+
+
+class WitnessReport(NamedTuple):
+    """The report on a search for a healthy set of packages, which is true if one is found, and its
+    text."""
+
+    found: bool
+    text: str
+
+    def __bool__(self) -> bool:
+        return self.found
+
+    @property
+    def packages(self) -> List[NumberedPackage]:
+        """The packages of the set, in the order of the text; none, if no set is found."""
+        return packages_of(self.text) if self.found else []
+
+    @property
+    def not_installable(self) -> List[NotInstallable]:
+        """If no set is found, the packages for which the search finds none, in the order of the
+        text."""
+        return [] if self.found else not_installable_of(self.text)
 
 
 class BuildReport(NamedTuple):
@@ -322,6 +344,50 @@ def installable(
     if answer.status == NO_KIND:
         raise ValueError(f"there are no sets of {kind!r}")
     return InstallReport(answered_file(answer, number, data).status == YES, lines.decode())
+
+
+def witness(
+    name: Text,
+    index: Text,
+    arch: Text,
+    *,
+    kind: Kind = "packages",
+    recommends: bool = False,
+    budget: int = 100_000,
+) -> WitnessReport:
+    """Finds a set of packages of a file that contains a package with this name and is healthy, as
+    `healthy` has it, for this architecture: that of the first package with the name for which the
+    search finds one. No architecture wildcard decides whether it is healthy. The lines are those
+    that the program `debctl installable --witness` writes: those of the set or, if none is found,
+    those that `installable` has for the packages with the name. `kind`, `recommends` and `budget`
+    are those of `installable`.
+
+        >>> import debctl
+        >>> aa = "Package: aa\\nVersion: 1\\nArchitecture: all\\nDepends: bb | cc\\n\\n"
+        >>> bb = "Package: bb\\nVersion: 1\\nArchitecture: all\\nConflicts: aa\\n\\n"
+        >>> cc = "Package: cc\\nVersion: 1\\nArchitecture: all\\n"
+        >>> report = debctl.witness("aa", aa + bb + cc, "amd64")
+        >>> print(bool(report), report.text, end="")
+        True  1 aa 1 all
+         3 cc 1 all
+        >>> [(it.number, it.name) for it in report.packages]
+        [(1, 'aa'), (3, 'cc')]
+        >>> report = debctl.witness("aa", aa + bb, "amd64")
+        >>> [(it.verdict, it.package) for it in report.not_installable]
+        [('uninstallable', 'aa')]
+
+    Raises Refused if the architecture or the file is refused, and ValueError for another kind or
+    budget.
+    """
+    number, (data, length), steps = kind_of(kind), text_of(index), _steps_of(budget)
+    call = functools.partial(
+        lib.deb_witness, number, bool(recommends), steps, *text_of(arch), *text_of(name), data,
+        length,
+    )
+    answer, lines = written(length + 1, call)
+    if answer.status == NO_KIND:
+        raise ValueError(f"there are no sets of {kind!r}")
+    return WitnessReport(answered_file(answer, number, data).status == YES, lines.decode())
 
 
 def buildable(

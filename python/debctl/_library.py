@@ -99,6 +99,7 @@ _FUNCTIONS: List[Tuple[str, Any, List[Any]]] = [
     ("deb_unmet", Answer, _KIND + _KIND + _QUERY + _TEXT + _BUFFER),
     ("deb_healthy", Answer, _KIND + _KIND + _TEXT + _TEXT + _BUFFER),
     ("deb_installable", Answer, _KIND + _KIND + _BUDGET + _TEXT + _TEXT + _BUFFER),
+    ("deb_witness", Answer, _KIND + _KIND + _BUDGET + _TEXT + _TEXT + _TEXT + _BUFFER),
     ("deb_buildable", Answer, _KIND + _BUDGET + _QUERY + _TEXT + _BUFFER),
     ("deb_index_size", ctypes.c_size_t, []),
     ("deb_index_read", None, _MEMORY + _TEXT + _TO_ANSWER),

@@ -44,7 +44,7 @@ def rows_of(form: int, text: str) -> Iterator[Row]:
 
 
 class NumberedPackage(NamedTuple):
-    """A package of an index: its number, its name, its canonical version and its architecture."""
+    """A package of a file: its number, its name, its canonical version and its architecture."""
 
     number: int
     name: str
@@ -161,6 +161,11 @@ def groups_of(text: str) -> List[Group]:
         Group(*verdict, tuple(found), tuple(why))
         for verdict, found, why in zip(verdicts, packages, reasons)
     ]
+
+
+def packages_of(text: str) -> List[NumberedPackage]:
+    """Returns the packages of a set."""
+    return [_package(cells) for _, cells in rows_of(REPORT, text)]
 
 
 def unmet_groups_of(text: str) -> List[UnmetGroup]:

@@ -105,8 +105,8 @@ impl Asked {
     }
 }
 
-/// Which packages of a file are a set, for [`healthy`](crate::healthy) and
-/// [`installable`](crate::installable).
+/// Which packages of a file are a set, for [`healthy`](crate::healthy),
+/// [`installable`](crate::installable) and [`witness`](crate::witness).
 #[derive(Clone, Copy, Debug, PartialEq, Eq, Hash)]
 #[non_exhaustive]
 pub enum Members {

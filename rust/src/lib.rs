@@ -51,9 +51,9 @@ pub use reader::{ReadError, Reader};
 pub use refusals::{Code, Error, Refusal};
 pub use relations::{applies, relations, satisfies, spelled_relations, Alternative};
 pub use reports::{
-    buildable, healthy, installable, query, query_why, unmet, BuildReport, Group, HealthFault,
-    HealthReason, HealthReport, InstallFault, InstallReport, NotInstallable, Reason, Report,
-    UnmetGroup, UnmetReport, Verdict,
+    buildable, healthy, installable, query, query_why, unmet, witness, BuildReport, Group,
+    HealthFault, HealthReason, HealthReport, InstallFault, InstallReport, NotInstallable, Reason,
+    Report, UnmetGroup, UnmetReport, Verdict, WitnessReport,
 };
 pub use versions::{canonical, compare, key, Version};
 

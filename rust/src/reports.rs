@@ -1,6 +1,6 @@
 //! Which packages meet a relation, which relations of a file nothing meets, whether a set of
-//! packages is healthy, which packages can't be installed, and which source packages can't be
-//! built.
+//! packages is healthy, which packages can't be installed and with which ones a package can be, and
+//! which source packages can't be built.
 
 use crate::library::{self, Answer, Text};
 use crate::refusals::answered_of;
@@ -165,6 +165,20 @@ pub struct InstallReport {
     pub text: String,
 }
 
+/// The report on a search for a healthy set that contains a package.
+#[derive(Clone, Debug, PartialEq, Eq, Hash)]
+#[non_exhaustive]
+pub struct WitnessReport {
+    /// Whether a set is found.
+    pub found: bool,
+    /// The packages of the set, in the order of the lines; none, if no set is found.
+    pub packages: Vec<Package>,
+    /// If no set is found, the packages for which the search finds none, in the order of the lines.
+    pub not_installable: Vec<NotInstallable>,
+    /// The lines of the report.
+    pub text: String,
+}
+
 /// The report on which source packages of a file can't be built.
 #[derive(Clone, Debug, PartialEq, Eq, Hash)]
 #[non_exhaustive]
@@ -219,6 +233,12 @@ impl fmt::Display for HealthReport {
 }
 
 impl fmt::Display for InstallReport {
+    fn fmt(&self, out: &mut fmt::Formatter<'_>) -> fmt::Result {
+        out.write_str(&self.text)
+    }
+}
+
+impl fmt::Display for WitnessReport {
     fn fmt(&self, out: &mut fmt::Formatter<'_>) -> fmt::Result {
         out.write_str(&self.text)
     }
@@ -518,6 +538,63 @@ pub fn installable(
     Ok(InstallReport {
         installable: answer.status == library::YES,
         packages: rows(Form::InstallableLines, &text)
+            .map(not_installable)
+            .collect(),
+        text,
+    })
+}
+
+/// Finds a set of packages of a file that contains a package with this name and is healthy, as
+/// [`healthy`] has it, for a target architecture: that of the first package with the name for which
+/// the search finds one. No architecture wildcard decides whether it is healthy. The lines are those
+/// that the program `debctl installable --witness` writes: those of the set or, if none is found,
+/// those that [`installable`] has for the packages with the name. `budget` is that of
+/// [`installable`].
+///
+/// ```
+/// use debctl::{witness, InstallFault, Members};
+///
+/// let aa = "Package: aa\nVersion: 1\nArchitecture: all\nDepends: bb | cc\n\n\
+///     Package: bb\nVersion: 1\nArchitecture: all\nConflicts: aa\n";
+/// let cc = "\nPackage: cc\nVersion: 1\nArchitecture: all\n";
+/// let report = witness(Members::All, false, None, "amd64", "aa", format!("{aa}{cc}"))?;
+/// assert!(report.found);
+/// assert_eq!(report.text, " 1 aa 1 all\n 3 cc 1 all\n");
+/// assert_eq!(report.packages[1].name, "cc");
+/// let report = witness(Members::All, false, None, "amd64", "aa", aa)?;
+/// assert!(!report.found);
+/// assert_eq!(report.not_installable[0].fault, InstallFault::Uninstallable);
+/// # Ok::<(), debctl::Error>(())
+/// ```
+pub fn witness(
+    members: Members,
+    recommends: bool,
+    budget: Option<NonZeroU32>,
+    target: impl AsRef<[u8]>,
+    name: impl AsRef<[u8]>,
+    index: impl AsRef<[u8]>,
+) -> Result<WitnessReport, Error> {
+    let (target, name) = (target.as_ref(), name.as_ref());
+    let file = (members.kind(), index.as_ref());
+    let steps = budget.map_or(0, NonZeroU32::get);
+    let asked = (file.0 as u8, u8::from(recommends), steps);
+    let call = |out: &mut [u8], length: &mut usize| {
+        library::witness(asked, (target, name, file.1), out, length)
+    };
+    let (answer, text) = written(file.1.len(), call);
+    let found = answered_of(answer, file, file)?.status == library::YES;
+    let text = string(text);
+    let (set, others) = if found {
+        (&text[..], "")
+    } else {
+        ("", &text[..])
+    };
+    Ok(WitnessReport {
+        found,
+        packages: rows(Form::Report, set)
+            .map(|row| package(&row, 0))
+            .collect(),
+        not_installable: rows(Form::InstallableLines, others)
             .map(not_installable)
             .collect(),
         text,

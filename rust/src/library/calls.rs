@@ -221,6 +221,30 @@ pub fn installable(
     )
 }
 
+/// `asked` is the kind of the file, whether Recommends is asked, and the budget.
+pub fn witness(
+    asked: (u8, u8, u32),
+    (target, name, index): (&[u8], &[u8], &[u8]),
+    out: &mut [u8],
+    length: &mut usize,
+) -> Answer {
+    written!(
+        deb_witness(
+            asked.0,
+            asked.1,
+            asked.2,
+            target.as_ptr(),
+            target.len(),
+            name.as_ptr(),
+            name.len(),
+            index.as_ptr(),
+            index.len()
+        ),
+        out,
+        length
+    )
+}
+
 /// `asked` is the kind of the file, and the budget.
 pub fn buildable(
     asked: (u8, u32),

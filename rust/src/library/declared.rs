@@ -290,6 +290,20 @@ extern "C" {
         out_size: usize,
         length: *mut usize,
     ) -> Answer;
+    pub fn deb_witness(
+        kind: u8,
+        recommends: u8,
+        budget: u32,
+        target: *const u8,
+        target_length: usize,
+        name: *const u8,
+        name_length: usize,
+        index: *const u8,
+        index_length: usize,
+        out: *mut u8,
+        out_size: usize,
+        length: *mut usize,
+    ) -> Answer;
     pub fn deb_buildable(
         kind: u8,
         budget: u32,
