@@ -8,8 +8,8 @@ mod printed;
 use debctl::{
     buildable, canonical, check, check_all, compare, diff, explain, explain_all, explain_relation,
     explain_version, healthy, installable, key, normalise, paragraphs, query, query_why, relations,
-    same, spelled_relations, unmet, AllChecked, Asked, Compared, Error, Explanation, Index, Kind,
-    Members, ReadError, Reader, Refusal, Report, SourceKind, Version,
+    same, spelled_relations, unmet, witness, AllChecked, Asked, Compared, Error, Explanation,
+    Index, Kind, Members, ReadError, Reader, Refusal, Report, SourceKind, Version,
 };
 use printed::Printed;
 use std::env::args_os;
@@ -190,9 +190,9 @@ fn of_unmet(number: usize, files: &[Vec<u8>]) -> Result<String, Error> {
     } + &differs)
 }
 
-/// What is asked of a set: the target and the file.
+/// What is asked of a set: the target and the file, or the target, the name and the file.
 fn of_set(call: &str, number: usize, files: &[Vec<u8>]) -> Result<String, Error> {
-    let (target, index) = (&files[0], &files[1]);
+    let (target, index) = (&files[0], &files[files.len() - 1]);
     let members = match KINDS[number % 8] {
         Kind::Status => Members::Installed,
         _ => Members::All,
@@ -207,6 +207,14 @@ fn of_set(call: &str, number: usize, files: &[Vec<u8>]) -> Result<String, Error>
         ));
     }
     let budget = NonZeroU32::new((number / 16) as u32);
+    if call == "witness" {
+        let report = witness(members, recommends, budget, target, &files[1], index)?;
+        return Ok(with_rows(
+            &done(report.found, 0),
+            &report.text,
+            &report.printed(),
+        ));
+    }
     let report = installable(members, recommends, budget, target, index)?;
     Ok(with_rows(
         &done(report.installable, 0),
@@ -276,7 +284,7 @@ fn answer(call: &str, number: usize, files: &[Vec<u8>]) -> Result<Vec<u8>, Error
         }
         "query" | "why" => of_query(call, files)?,
         "unmet" => of_unmet(number, files)?,
-        "healthy" | "installable" => of_set(call, number, files)?,
+        "healthy" | "installable" | "witness" => of_set(call, number, files)?,
         "buildable" => of_sources(number, files)?,
         "diff" => of_diff(number, files)?,
         "check" => {

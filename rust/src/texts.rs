@@ -181,6 +181,17 @@ mod tests {
         (0..COUNT).map(source).collect()
     }
 
+    /// Packages of which each needs the next one, and two of one name that need what isn't there.
+    fn needs() -> String {
+        let package = |at| {
+            let needs = format!("Version: {at}\nArchitecture: all\nDepends: p{}", at + 1);
+            let same = format!("Package: aa\nVersion: {at}\nArchitecture: all\nDepends: zz");
+            format!("Package: p{at}\n{needs}\n\n{same}\n\n")
+        };
+        let last = format!("Package: p{COUNT}\nVersion: 1\nArchitecture: all\n");
+        (0..COUNT).map(package).collect::<String>() + &last
+    }
+
     fn answer(asked: usize, old: &str, new: &str, loaded: &Index) -> Result<(), Error> {
         let wrong = old.replace("Version: ", "Version: _");
         let relation: String = (0..COUNT).map(|at| format!("aa{at}|bb(<{at}),")).collect();
@@ -215,6 +226,13 @@ mod tests {
                 old,
                 sources(),
             )?),
+            18 => {
+                let all = Members::All;
+                let report = witness(all, false, None, "amd64", "p0", needs())?;
+                assert_eq!(report.packages.len(), COUNT + 1);
+                let report = witness(all, false, None, "amd64", "aa", needs())?;
+                assert_eq!(report.not_installable.len(), COUNT);
+            }
             _ => drop(relations(relation)?),
         }
         Ok(())
@@ -224,7 +242,7 @@ mod tests {
     fn the_first_room_is_enough() -> Result<(), Error> {
         let (old, new) = (index("1"), index("2"));
         let loaded = Index::read(&old)?;
-        for asked in 0..=18 {
+        for asked in 0..=19 {
             let before = REPEATED.with(Cell::get);
             answer(asked, &old, &new, &loaded)?;
             assert_eq!(REPEATED.with(Cell::get), before, "call {asked}");

@@ -1,10 +1,11 @@
 //! Versions and their keys, relations, unmet relations, sets of packages, which packages can be
-//! installed and which source packages built, and the paragraphs of a file and all its refusals.
+//! installed, with which ones, and which source packages built, and the paragraphs of a file and all
+//! its refusals.
 
 use debctl::{
     buildable, check, check_all, compare, diff, explain, explain_all, healthy, installable, key,
-    paragraphs, query, relations, unmet, Asked, Code, Compared, Error, Index, Kind, Members,
-    Refusal, SourceKind, Version,
+    paragraphs, query, relations, unmet, witness, Asked, Code, Compared, Error, Index, Kind,
+    Members, Refusal, SourceKind, Version,
 };
 use std::collections::HashSet;
 use std::num::NonZeroU32;
@@ -214,6 +215,74 @@ fn packages_that_cannot_be_installed_have_lines() -> Result<(), Error> {
     );
     assert_eq!(
         refused(installable(Members::Installed, false, None, "amd64", index)),
+        (Code::MissingField, 1, Some("Status".to_owned()))
+    );
+    Ok(())
+}
+
+#[test]
+fn a_set_with_a_package_has_lines() -> Result<(), Error> {
+    let package = |name: &str, more: &str| {
+        format!("Package: {name}\nVersion: 01\nArchitecture: all\n{more}\n")
+    };
+    let index = [
+        package("aa", "Depends: bb\nConflicts: cc\n"),
+        package("bb", "Depends: cc\nRecommends: aa\n"),
+        package("cc", ""),
+    ]
+    .concat();
+    let ask =
+        |recommends, name: &[u8]| witness(Members::All, recommends, None, "amd64", name, &index);
+    let report = ask(false, b"bb")?;
+    assert_eq!(report.text, " 2 bb 1 all\n 3 cc 1 all\n");
+    assert_eq!(report.to_string(), report.text);
+    assert!(report.found && ask(true, b"cc")?.found);
+    for (recommends, name, line) in [(false, "aa", "1 aa"), (true, "bb", "2 bb")] {
+        let report = ask(recommends, name.as_bytes())?;
+        assert_eq!(report.text, format!("uninstallable {line} 1 all\n"));
+        assert!(!report.found);
+    }
+    let long = [b'b'; 1 << 20];
+    let others = [
+        &b""[..],
+        b"b",
+        b"bb\0",
+        b"\0",
+        b"b\xff",
+        b"BB",
+        b"bb,cc",
+        &long,
+    ];
+    for name in others {
+        let report = ask(false, name)?;
+        assert!(!report.found && report.text.is_empty());
+    }
+    let status = [
+        package("bb", "Status: deinstall ok config-files\n"),
+        package("aa", "Status: install ok installed\n"),
+    ]
+    .concat();
+    let report = witness(Members::Installed, true, None, b"amd64", "aa", &status)?;
+    assert_eq!(report.text, " 1 aa 1 all\n");
+    assert!(!witness(Members::Installed, true, None, "amd64", "bb", &status)?.found);
+    assert_eq!(
+        refused(witness(Members::All, true, None, "any", "aa", "x")),
+        (Code::BadEnvironment, 0, None)
+    );
+    let wrong = index.replacen("01", "1_", 1);
+    assert_eq!(
+        refused(witness(Members::All, false, None, "amd64", "cc", wrong)),
+        (Code::BadVersion, 2, Some("Version".to_owned()))
+    );
+    assert_eq!(
+        refused(witness(
+            Members::Installed,
+            false,
+            None,
+            "amd64",
+            "aa",
+            index
+        )),
         (Code::MissingField, 1, Some("Status".to_owned()))
     );
     Ok(())

@@ -4,8 +4,8 @@
 use debctl::{
     applies, buildable, canonical, compare, diff, explain, explain_relation, explain_version,
     healthy, installable, paragraphs, query, query_why, relations, satisfies, spelled_relations,
-    unmet, Alternative, Asked, ChangeKind, Code, Compared, Error, Explanation, HealthFault, Index,
-    InstallFault, Kind, Members, SourceKind, Verdict, Version,
+    unmet, witness, Alternative, Asked, ChangeKind, Code, Compared, Error, Explanation,
+    HealthFault, Index, InstallFault, Kind, Members, SourceKind, Verdict, Version,
 };
 use std::collections::HashMap;
 use std::num::NonZeroU32;
@@ -196,6 +196,43 @@ fn a_report_on_installable_packages_has_faults() -> Result<(), Error> {
     }
     let report = installable(Members::All, true, None, "amd64", INDEX)?;
     assert!(report.installable && report.packages.is_empty());
+    Ok(())
+}
+
+#[test]
+fn a_report_on_a_set_has_packages_or_faults() -> Result<(), Error> {
+    let index = "Package: aa\nVersion: 1\nArchitecture: all\nDepends: bb | cc, dd | ee\n\n\
+        Package: bb\nVersion: 1\nArchitecture: all\nConflicts: dd, ee\n\n\
+        Package: cc\nVersion: 1\nArchitecture: all\nConflicts: dd, ee\n\n\
+        Package: dd\nVersion: 1\nArchitecture: all\n\n\
+        Package: ee\nVersion: 1\nArchitecture: all\n\n\
+        Package: ff\nVersion: 01\nArchitecture: i386\nDepends: zz [linux-any]\n\n\
+        Package: gg\nVersion: 1\nArchitecture: all\nDepends: bb, cc\n\n\
+        Package: ff\nVersion: 1-0\nArchitecture: i386\nDepends: zz\n";
+    let loaded = Index::read(index)?;
+    let package = |number| Ok::<_, Error>(loaded.package(number)?.expect("a package"));
+    let report = witness(Members::All, false, None, "amd64", "gg", index)?;
+    assert!(report.found && report.not_installable.is_empty());
+    assert_eq!(report.packages, [package(2)?, package(3)?, package(7)?]);
+    let faults = |budget, name| -> Result<Vec<_>, Error> {
+        let report = witness(Members::All, false, budget, "amd64", name, index)?;
+        assert!(!report.found && report.packages.is_empty());
+        let faults = report.not_installable.into_iter();
+        Ok(faults.map(|it| (it.package, it.fault)).collect())
+    };
+    for (budget, fault) in [
+        (None, InstallFault::Uninstallable),
+        (NonZeroU32::new(1), InstallFault::Undecided),
+        (Some(NonZeroU32::MAX), InstallFault::Uninstallable),
+    ] {
+        assert_eq!(faults(budget, "aa")?, [(package(1)?, fault)]);
+    }
+    let wanted = [
+        (package(6)?, InstallFault::Unsure),
+        (package(8)?, InstallFault::Uninstallable),
+    ];
+    assert_eq!(faults(None, "ff")?, wanted);
+    assert_eq!(faults(None, "zz")?, []);
     Ok(())
 }
 

@@ -240,7 +240,7 @@ static void try_rows(uint8_t form, struct written it, uint8_t status) {
         REQUIRE(rows.length == 0);
     for (size_t i = 0; i < rows.length; i++) {
         const struct deb_row *row = (const struct deb_row *)rows.text + i;
-        REQUIRE(row->kind <= DEB_ROW_STATE && row->cell_count <= 10);
+        REQUIRE(row->kind <= DEB_ROW_UNDECIDED && row->cell_count <= 10);
         for (int cell = 0; cell < 10; cell++)
             if (cell < row->cell_count) {
                 REQUIRE(row->cells[cell].start >= at && row->cells[cell].length <= it.length);
@@ -420,6 +420,28 @@ static void try_set(uint8_t kind, struct deb_text text, struct deb_text target) 
         REQUIRE(lines.answer.code == DEB_BAD_ENVIRONMENT || agrees(lines.answer, checked));
 }
 
+/* A set with a package of an index: it has such a package, and no wildcard decides whether it is healthy. */
+static void try_witness(struct deb_text name, struct deb_text text, struct deb_text target) {
+    struct written set, all;
+    WRITE(set, 4, 1, deb_witness(DEB_PACKAGES, chosen >> 7, chosen % 3, target.bytes, target.length, name.bytes, name.length, text.bytes, text.length, out, room, length));
+    WRITE(all, 5, 1, deb_installable(DEB_PACKAGES, chosen >> 7, 0, target.bytes, target.length, text.bytes, text.length, out, room, length));
+    if (set.answer.status > DEB_NO) {
+        REQUIRE(agrees(set.answer, all.answer));
+        return;
+    }
+    REQUIRE(set.length && set.answer.count == all.answer.count);
+    REQUIRE(set.answer.status == DEB_YES || all.answer.status == DEB_NO || chosen % 3);
+    try_rows(set.answer.status == DEB_YES ? DEB_REPORT : DEB_INSTALLABLE_LINES, set, DEB_YES);
+    size_t lines = 0, with_name = 0;
+    for (const uint8_t *at = set.text, *end = at + set.length; at < end; at = (const uint8_t *)memchr(at, '\n', end - at) + 1) {
+        const uint8_t *word = memchr(at, ' ', end - at);
+        word = (const uint8_t *)memchr(word + 1, ' ', end - word - 1) + 1;
+        lines++;
+        with_name += (size_t)(end - word) > name.length && !memcmp(word, name.bytes, name.length) && word[name.length] == ' ';
+    }
+    REQUIRE(with_name && (set.answer.status == DEB_YES || with_name == lines));
+}
+
 static void try_index(uint8_t kind, struct deb_text relation, struct deb_text text, struct deb_text target) {
     struct deb_answer answer;
     struct written one, two, numbers, package;
@@ -491,6 +513,7 @@ static void try_index(uint8_t kind, struct deb_text relation, struct deb_text te
             found |= at == number;
         }
         REQUIRE(found);
+        try_witness((struct deb_text){package.text, end - package.text}, text, target);
     }
     WRITE(numbers, 4, 8, deb_index_providers(index, relation.bytes, relation.length, (uint64_t *)out, room, length));
     REQUIRE(numbers.answer.status == (is_held ? DEB_YES : DEB_NO_INDEX));

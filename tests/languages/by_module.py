@@ -120,6 +120,12 @@ def answered(call, number, texts, loaded):
             more["budget"] = number // 16
         it = debctl.installable(texts[1], texts[0], **more)
         return b"%d 0 0 0\n" % (not it) + by_rows(it.text, it)
+    if call == "witness":
+        more = {"kind": KINDS[number % 8], "recommends": number // 8 % 2 == 1}
+        if number >= 16:
+            more["budget"] = number // 16
+        it = debctl.witness(texts[1], texts[2], texts[0], **more)
+        return b"%d 0 0 0\n" % (not it) + by_rows(it.text, it)
     if call == "buildable":
         more = {"kind": KINDS[number % 8]}
         if number >= 8:

@@ -217,6 +217,10 @@ static void try_order(void) {
         IS(is(deb_installable(others[at], 0, 1, any, 3, no, 1, NULL, 0, &length), DEB_NO_KIND, 0, 0,
               0) &&
            length == 0);
+        length = 9;
+        IS(is(deb_witness(others[at], 0, 1, any, 3, no, 1, no, 1, NULL, 0, &length), DEB_NO_KIND, 0, 0,
+              0) &&
+           length == 0);
     }
     for (at = 0; at < 8; at++) {
         int is_kind = at == DEB_SOURCES || at == DEB_SOURCE;
@@ -238,6 +242,11 @@ static void try_order(void) {
         IS(is(deb_installable(sets[at], 0, 1, any, 3, no, 1, NULL, 0, &length), DEB_REFUSED,
               DEB_BAD_ENVIRONMENT, 0, 0));
         IS(is(deb_installable(sets[at], 0, 1, any, 2, no, 1, NULL, 0, &length), DEB_REFUSED,
+              DEB_NO_COLON, 1, 0) &&
+           length == 0);
+        IS(is(deb_witness(sets[at], 0, 1, any, 3, no, 1, no, 1, NULL, 0, &length), DEB_REFUSED,
+              DEB_BAD_ENVIRONMENT, 0, 0));
+        IS(is(deb_witness(sets[at], 0, 1, any, 2, NULL, 0, no, 1, NULL, 0, &length), DEB_REFUSED,
               DEB_NO_COLON, 1, 0) &&
            length == 0);
     }

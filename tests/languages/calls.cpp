@@ -122,6 +122,15 @@ static std::string uninstallable(const std::string &text, uint32_t budget = 0) {
     return std::to_string(answer.status) + ' ' + std::string(out.begin(), out.begin() + length);
 }
 
+// A set of packages of a text that contains one with this name.
+static std::string sought(const std::string &text, const std::string &name) {
+    std::vector<uint8_t> out(256);
+    size_t length = 0;
+    deb_answer answer = deb_witness(DEB_PACKAGES, 0, 0, bytes("amd64"), 5, bytes(name), name.size(),
+                                    bytes(text), text.size(), out.data(), out.size(), &length);
+    return std::to_string(answer.status) + ' ' + std::string(out.begin(), out.begin() + length);
+}
+
 // Which source packages of a text can't be built with the packages of another.
 static std::string unbuilt(const std::string &index, const std::string &text) {
     std::vector<uint8_t> out(256);
@@ -163,6 +172,9 @@ int main() {
     failed += unbuilt(text, source) != "1 uninstallable 1 ss 1 source\n" ||
               unbuilt(text + "Provides: build-essential\n", source) != "0 " ||
               unbuilt(text, "x") != "3 " || unbuilt("x", "x") != "2 ";
-    std::printf("cpp: %d passed, %d failed\n", 15 - failed, failed);
+    failed += sought(text, "hello") != "0  1 hello 1.0 amd64\n" || sought(text, "aa") != "1 " ||
+              sought(text + "Depends: aa\n", "hello") != "1 uninstallable 1 hello 1.0 amd64\n" ||
+              sought("x", "") != "2 ";
+    std::printf("cpp: %d passed, %d failed\n", 16 - failed, failed);
     return failed != 0;
 }

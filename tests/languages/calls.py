@@ -84,6 +84,9 @@ TAKE_TEXT = {
     "healthy's arch": lambda text: debctl.healthy(HELLO, text),
     "installable's index": lambda text: debctl.installable(text, "amd64"),
     "installable's arch": lambda text: debctl.installable(HELLO, text),
+    "witness's name": lambda text: debctl.witness(text, HELLO, "amd64"),
+    "witness's index": lambda text: debctl.witness("hello", text, "amd64"),
+    "witness's arch": lambda text: debctl.witness("hello", HELLO, text),
     "buildable's index": lambda text: debctl.buildable(text, "", "amd64"),
     "buildable's file": lambda text: debctl.buildable(HELLO, text, "amd64"),
     "buildable's arch": lambda text: debctl.buildable(HELLO, "", text),
@@ -98,6 +101,7 @@ TAKE_KIND = {
     "same's kind": lambda kind: debctl.same(HELLO, HELLO, kind),
     "healthy's kind": lambda kind: debctl.healthy(HELLO, "amd64", kind=kind),
     "installable's kind": lambda kind: debctl.installable(HELLO, "amd64", kind=kind),
+    "witness's kind": lambda kind: debctl.witness("hello", HELLO, "amd64", kind=kind),
     "buildable's kind": lambda kind: debctl.buildable(HELLO, "", "amd64", kind=kind),
 }
 BYTES_LIKE = [bytes, bytearray, memoryview, lambda text: array.array("B", text)]

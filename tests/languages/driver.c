@@ -18,7 +18,7 @@ struct file {
 
 /* What is asked: the number, three files, and all further files as profiles. The number is that of a
  * kind, and with more that is asked: 8 times a detail or whether Recommends is asked, and 16 times a
- * budget; 8 times the budget of source packages. */
+ * budget; 8 times the budget of source packages. The second file of `witness` is the name. */
 struct question {
     const char *call;
     long long number;
@@ -99,6 +99,10 @@ static struct deb_answer ask(const struct question *q, uint8_t *out, size_t room
         return deb_installable((uint8_t)(q->number % 8), (uint8_t)(q->number / 8 % 2),
                                (uint32_t)(q->number / 16), target->bytes, target->length,
                                first->bytes, first->length, out, room, length);
+    if (calls(q, "witness"))
+        return deb_witness((uint8_t)(q->number % 8), (uint8_t)(q->number / 8 % 2),
+                           (uint32_t)(q->number / 16), target->bytes, target->length, first->bytes,
+                           first->length, second->bytes, second->length, out, room, length);
     if (calls(q, "buildable"))
         return deb_buildable((uint8_t)(q->number % 8), (uint32_t)(q->number / 8), target->bytes,
                              target->length, q->profiles, q->profile_count, first->bytes,
@@ -135,11 +139,14 @@ static size_t rows_of(uint8_t form, const uint8_t *text, size_t length, struct d
 }
 
 /* Whether the text of an answer is what its rows print. */
-static int rows_agree(const struct question *q, const uint8_t *text, size_t length) {
-    uint8_t form = is_query(q)         ? DEB_REPORT
+static int rows_agree(const struct question *q, struct deb_answer answer, const uint8_t *text,
+                      size_t length) {
+    int is_set = calls(q, "witness") && answer.status == DEB_YES;
+    uint8_t form = is_query(q) || is_set ? DEB_REPORT
                    : calls(q, "unmet") ? DEB_UNMET_LINES
                    : calls(q, "healthy") ? DEB_HEALTH_LINES
                    : calls(q, "installable") ? DEB_INSTALLABLE_LINES
+                   : calls(q, "witness") ? DEB_INSTALLABLE_LINES
                    : calls(q, "buildable") ? DEB_INSTALLABLE_LINES
                    : calls(q, "diff")  ? DEB_DIFF_LINES
                                        : DEB_EXPLANATION;
@@ -349,7 +356,7 @@ static void write_answer(const struct question *q) {
            (unsigned long long)answer.count);
     if (out)
         fwrite(out, 1, length, stdout);
-    if (!rows_agree(q, out, length))
+    if (!rows_agree(q, answer, out, length))
         printf("rows differ\n");
     if (!index_agrees(q, answer, out, length))
         printf("index differs\n");

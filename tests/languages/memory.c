@@ -77,7 +77,15 @@ static const char *uninstallable =
     "Package: ee\nVersion: 1\nArchitecture: all\nProvides: mta (= 2), other\n\n"
     "Package: ff\nVersion: 1\nArchitecture: all\nDepends: zz [linux-any]\n";
 
-/* The same, for source packages. */
+/* One choice is right. */
+static const char *sought =
+    "Package: aa\nVersion: 01\nArchitecture: all\nDepends: bb | cc, dd | mta\n\n"
+    "Package: bb\nVersion: 1\nArchitecture: all\nConflicts: dd, mta\n\n"
+    "Package: cc\nVersion: 1\nArchitecture: all\nBreaks: dd (<< 2)\n\n"
+    "Package: dd\nVersion: 1\nArchitecture: all\n\n"
+    "Package: ee\nVersion: 1-0\nArchitecture: all\nProvides: mta (= 2), other\n";
+
+/* The same as before, for source packages. */
 static const char *sources =
     "Package: ss\nVersion: 01\nBuild-Depends: bb | cc, dd | mta, gg <!nocheck>\n\n"
     "Package: tt\nVersion: 2\nBuild-Depends-Indep: ff\nBuild-Conflicts: aa\n"
@@ -237,6 +245,12 @@ static struct deb_answer call(int which) {
         return deb_installable(DEB_STATUS, 1, 0, bytes("amd64"), 5, bytes(installed),
                                strlen(installed), out, sizeof out, &length);
     case 34:
+        return deb_witness(DEB_PACKAGES, 0, 0, bytes("amd64"), 5, bytes("aa"), 2, bytes(sought),
+                           strlen(sought), out, sizeof out, &length);
+    case 35:
+        return deb_witness(DEB_PACKAGES, 1, 0, bytes("amd64"), 5, bytes("aa"), 2,
+                           bytes(uninstallable), strlen(uninstallable), out, sizeof out, &length);
+    case 36:
         return deb_buildable(DEB_SOURCES, 0, bytes("amd64"), 5, &profile, 1, bytes(uninstallable),
                              strlen(uninstallable), bytes(sources), strlen(sources), out, sizeof out,
                              &length);
@@ -259,6 +273,7 @@ int main(void) {
                                   "relation_parts",    "reader_feed", "reader_feed, refused",
                                   "index_new",         "healthy",     "healthy, installed",
                                   "installable",       "installable, installed",
+                                  "witness",           "witness, not found",
                                   "buildable",         "query"};
     enum { CALLS = sizeof names / sizeof *names };
     static const int statuses[CALLS] = {
@@ -267,7 +282,8 @@ int main(void) {
         DEB_YES, DEB_YES, DEB_NO,  DEB_NO,  DEB_REFUSED, DEB_YES,
         DEB_REFUSED, DEB_NO,  DEB_NO,  DEB_YES, DEB_REFUSED, DEB_YES,
         DEB_REFUSED, DEB_YES, DEB_YES, DEB_YES, DEB_REFUSED, DEB_YES,
-        DEB_NO,  DEB_NO,  DEB_NO,  DEB_NO,  DEB_NO,  DEB_YES,
+        DEB_NO,  DEB_NO,  DEB_NO,  DEB_NO,  DEB_YES, DEB_NO,
+        DEB_NO,  DEB_YES,
     };
     struct deb_answer reading;
     int which, passed = 0, failed = 0;

@@ -126,6 +126,33 @@ def not_buildable():
     )
 
 
+def sets():
+    """Whether a set with a package has its packages, and a search that finds none what is known."""
+    text = "\n".join([
+        HELLO + "Depends: aa | bb, mta\n", HELLO.replace("hello", "aa") + "Conflicts: cc, dd\n",
+        HELLO.replace("hello", "bb"), HELLO.replace("hello", "cc") + "Provides: mta\n",
+        HELLO.replace("hello", "dd") + "Breaks: hello\nProvides: mta\n",
+        HELLO.replace("hello", "ee") + "Pre-Depends: zz [linux-any]\n",
+        HELLO.replace("hello", "ee").replace("Version: 1", "Version: 01.0-0") + "Depends: aa, cc\n",
+    ])
+    found, lacking, nothing = (debctl.witness(name, text, "amd64") for name in ("hello", "ee", "zz"))
+    return (
+        bool(found) and not lacking and not nothing and nothing == (False, "")
+        and found.packages == [
+            NumberedPackage(1, "hello", "1", "all"), NumberedPackage(3, "bb", "1", "all"),
+            NumberedPackage(4, "cc", "1", "all"),
+        ]
+        and lacking.not_installable == [
+            NotInstallable("unsure", 6, "ee", "1", "all"),
+            NotInstallable("uninstallable", 7, "ee", "1.0", "all"),
+        ]
+        and found.not_installable == lacking.packages == []
+        and nothing.packages == nothing.not_installable == []
+        and debctl.healthy("\n".join(text.split("\n\n")[it.number - 1] + "\n" for it in found.packages), "amd64").healthy
+        and all(printed(it) == it.text.encode() for it in (found, lacking, nothing))
+    )
+
+
 def not_installable():
     """Whether a report on which packages can't be installed has each with its verdict."""
     choices = "\n".join([
@@ -375,7 +402,7 @@ def texts():
 
 TESTS = {
     "groups": groups(), "reports": reports(), "health": health(), "states": states(),
-    "not installable": not_installable(), "not buildable": not_buildable(), "changes": changes(), "explanations": explanations(), "parts": parts(),
+    "not installable": not_installable(), "sets": sets(), "not buildable": not_buildable(), "changes": changes(), "explanations": explanations(), "parts": parts(),
     "versions and texts": versions_and_texts(), "spelled": spelled(),
     "profiles": profiles(), "one alternative": one_alternative(), "details": details(),
     "pieces": pieces(), "texts": texts(),

@@ -246,6 +246,62 @@ def installable():
     )
 
 
+def witness():
+    """Whether each spelling of the name and of the file has the lines of a set, or of no set, and only the
+    name of a package has one."""
+    text = INDEX + "\nPackage: mm\nVersion: 1:0\nArchitecture: all\nRecommends: zz\n"
+    removed = "Status: deinstall ok config-files\nPackage: bb\nVersion: 1\nArchitecture: all\n\n"
+    last = "Status: install ok installed\nPackage: aa\nVersion: 01\nArchitecture: all\nRecommends: bb\n"
+    mm, aa, status = " {} mm 1:0 all\n", "uninstallable 1 aa 1 amd64\n", removed + last
+    number = text.count("Package:")
+    others = [
+        "", "m", "mmm", "MM", "mm ", "mm\0", "\0", "\xe9", "mm,aa", b"mm\xff", b"\xff", b"\0" * 99,
+        "m" * (1 << 20), memoryview(b"mm" * (1 << 19)),
+    ]
+    return (
+        all(
+            debctl.witness(name, it, "amd64") == debctl.witness(name, it, b"amd64", budget=1)
+            == debctl.witness(name, it, memoryview(b"amd64"), kind="packages") == (True, mm.format(number))
+            for it in spellings(text) for name in spellings("mm")
+        )
+        and all(debctl.witness("aa", it, "amd64") == (False, aa) for it in spellings(text))
+        and debctl.witness("mm", text, "amd64", recommends=True)
+        == (False, f"uninstallable {number} mm 1:0 all\n")
+        and all(debctl.witness(it, text, "amd64") == (False, "") for it in others)
+        and debctl.witness("aa", status, "amd64", kind="status") == (True, " 1 aa 1 all\n")
+        and debctl.witness("aa", status, "amd64", kind="status", recommends=True)
+        == (False, "uninstallable 1 aa 1 all\n")
+        and debctl.witness("bb", status, "amd64") == (True, " 1 bb 1 all\n")
+        and debctl.witness("bb", status, "amd64", kind="status") == (False, "")
+        and debctl.witness("aa", "", "amd64") == debctl.witness("aa", "", "amd64", kind="status")
+        == (False, "")
+    )
+
+
+def refused_witness():
+    """Whether a file, a target, a kind and a budget that are wrong have their exceptions."""
+    ask = functools.partial(error, debctl.witness, "aa")
+    found = [
+        ask(CONTROL.replace("01", "1-"), "amd64"), ask(INDEX, "amd64", kind="status"), ask("x", "any"),
+    ]
+    others, budgets = ["binary", "source", "sources", "any"], [0, -1, 1 << 32, 1 << 64]
+    return (
+        [(it.name, it.line, it.second, it.field) for it in found] == [
+            ("BadVersion", 2, False, "Version"), ("MissingField", 1, False, "Status"),
+            ("BadEnvironment", 0, False, None),
+        ]
+        and [str(ask("x", "any", kind=it)) for it in others]
+        == [f"there are no sets of {it!r}" for it in others]
+        and isinstance(ask("x", "any", kind="installed"), ValueError)
+        and [str(ask("x", "any", budget=it)) for it in budgets] == [f"no budget: {it}" for it in budgets]
+        and all(isinstance(ask("x", "any", budget=it), TypeError) for it in (None, "1", 1.0))
+        and isinstance(ask(SET, "amd64", "packages"), TypeError)
+        and isinstance(error(debctl.witness, ["aa"], SET, "amd64"), TypeError)
+        and isinstance(error(debctl.witness, "\ud800", SET, "amd64"), UnicodeEncodeError)
+        and debctl.witness("aa", "", "amd64", budget=(1 << 32) - 1) == (False, "")
+    )
+
+
 def buildable():
     """Whether each spelling of the files, of the target and of the profiles has the lines of the sources."""
     index = "Package: build-essential\nVersion: 1\nArchitecture: all\n"
@@ -362,6 +418,8 @@ TESTS = {
     "healthy, no target": [error(debctl.healthy, "x", it).line for it in ("any", "all", "")] == [0] * 3,
     "installable": installable(),
     "installable, refused": refused_installable(),
+    "witness": witness(),
+    "witness, refused": refused_witness(),
     "buildable": buildable(),
     "buildable, refused": refused_buildable(),
     "paragraphs": read(FILE)

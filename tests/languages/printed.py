@@ -2,6 +2,7 @@
 
 from debctl import (
     AllExplained, BuildReport, Explanation, HealthReport, InstallReport, Report, UnmetReport,
+    WitnessReport,
 )
 
 
@@ -94,6 +95,9 @@ def printed(it):
         lines = [of_health(reason) for reason in it.reasons]
     elif isinstance(it, (BuildReport, InstallReport)):
         lines = [of_not_installable(package) for package in it.packages]
+    elif isinstance(it, WitnessReport):
+        lines = [f" {of_package(package)}" for package in it.packages]
+        lines += [of_not_installable(package) for package in it.not_installable]
     elif isinstance(it, Explanation):
         lines = of_explanation(it)
     elif isinstance(it, AllExplained):

@@ -11,7 +11,7 @@ LONGEST_RELATION = 16_777_216  # in a file that the program reads; the libraries
 FLAGS = ["--recommends", "--installed", "--all", "--why", "--values"]
 VALUES = [
     "--kind", "--arch", "--profiles", "--relation", "--version-text", "--relation-from", "--budget",
-    "--index",
+    "--index", "--witness",
 ]
 
 
@@ -88,7 +88,8 @@ def healthy_question(options, others, given):
 
 def installable_question(options, others, given):
     """A question which packages can be installed: its number is that of a question whether they are
-    healthy, and 16 for each step of the budget, if there is one; its texts are the target and the file."""
+    healthy, and 16 for each step of the budget, if there is one; its texts are the target and the file.
+    If a set with a package is asked for, the name is before the file."""
     budget = options.pop("--budget", "0")
     if not budget.isdecimal() or int(budget) > 1_000_000_000:
         raise Unknown
@@ -97,8 +98,14 @@ def installable_question(options, others, given):
         return buildable_question(kind, int(budget), options, others, given)
     if kind != "packages":
         raise Unknown
+    name = options.pop("--witness", None)
     _, number, texts = healthy_question(options, others, given)
-    return "installable", number + 16 * int(budget), texts
+    number += 16 * int(budget)
+    if name is None:
+        return "installable", number, texts
+    if "," in name:
+        raise Unknown
+    return "witness", number, [texts[0], bytes_of(name), texts[1]]
 
 
 def buildable_question(kind, budget, options, others, given):

@@ -41,6 +41,12 @@ WRONG = index("1_")
 NEEDS = ",".join(f"a{at}|b{at}(<1)" for at in range(COUNT))
 SOURCES = f"Package: ss\nVersion: 1\nBuild-Depends:{NEEDS}\n"
 UNBUILT = "".join(f"Package: s{at}\nVersion: 1\n\n" for at in range(COUNT))
+CHAIN = "\n".join(
+    f"Package: p{at}\nVersion: 1\nArchitecture: all\nDepends: p{at + 1}\n" for at in range(COUNT)
+) + f"\nPackage: p{COUNT}\nVersion: 1\nArchitecture: all\n"
+VERSIONS = "\n".join(
+    f"Package: aa\nVersion: {at}\nArchitecture: all\nDepends: zz\n" for at in range(COUNT)
+)
 NAMES = ", ".join(f"p{at}" for at in range(200))
 REAL = 50 * ((Path(__file__).parents[2] / "examples/Packages").read_text() + "\n")
 LONG = "a: " + "x" * 1000000 + "\n"
@@ -70,6 +76,10 @@ TESTS = {
     "installable": (lambda: debctl.installable(INDEX, "amd64").packages, 2),
     "installable, of a status file": (
         lambda: debctl.installable(STATUS, "amd64", kind="status", recommends=True).packages, 2,
+    ),
+    "witness": (lambda: debctl.witness("p0", CHAIN, "amd64").packages[COUNT], 2),
+    "witness, none is found": (
+        lambda: debctl.witness("aa", VERSIONS, "amd64").not_installable[COUNT - 1], 2,
     ),
     "buildable": (lambda: debctl.buildable(INDEX, UNBUILT, "amd64").packages, 2),
     "Index": (lambda: debctl.Index(INDEX), 2),  # and frees it

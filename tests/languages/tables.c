@@ -327,6 +327,91 @@ static void try_installable(void) {
         try_set(ask_installable, &all[at]);
 }
 
+/* ---- healthy sets with a package */
+
+static const char *wanted; /* the name */
+
+static struct deb_answer ask_witness(const struct of_set *q, uint8_t *out, size_t room,
+                                     size_t *length) {
+    size_t target = strlen(q->target), name = strlen(wanted), size = strlen(q->index);
+    return deb_witness((uint8_t)q->kind, (uint8_t)q->recommends, 0, target ? bytes(q->target) : NULL,
+                       target, name ? bytes(wanted) : NULL, name, size ? bytes(q->index) : NULL, size,
+                       out, room, length);
+}
+
+/* Three versions of one package; the first needs zz, and the last two aren't in one set. */
+static const char of_one_name[] =
+    "Package: aa\nVersion: 1\nArchitecture: all\nDepends: zz\n\n"
+    "Package: aa\nVersion: 02\nArchitecture: all\nConflicts: bb\n\n"
+    "Package: aa\nVersion: 3\nArchitecture: all\n\n"
+    "Package: bb\nVersion: 1\nArchitecture: all\nDepends: zz | aa\n";
+
+static void try_witness(void) {
+    static const struct {
+        const char *name;
+        struct of_set of;
+    } all[] = {
+        {"bb", {1, 0, "amd64", chain, DEB_YES, 0, 0, 5, " 2 bb 1 all\n 3 cc 1 amd64\n"}},
+        {"cc", {1, 1, "amd64", chain, DEB_YES, 0, 0, 5, " 3 cc 1 amd64\n"}},
+        {"aa", {1, 0, "amd64", chain, DEB_NO, 0, 0, 5, "uninstallable 1 aa 1 all\n"}},
+        {"bb", {1, 255, "amd64", chain, DEB_NO, 0, 0, 5, "uninstallable 2 bb 1 all\n"}},
+        {"ee", {1, 0, "amd64", chain, DEB_NO, 0, 0, 5, "unsure 5 ee 1:0 amd64\n"}},
+        {"b", {1, 0, "amd64", chain, DEB_NO, 0, 0, 5, ""}},
+        {"bbb", {1, 0, "amd64", chain, DEB_NO, 0, 0, 5, ""}},
+        {"bb,cc", {1, 0, "amd64", chain, DEB_NO, 0, 0, 5, ""}},
+        {"", {1, 0, "amd64", chain, DEB_NO, 0, 0, 5, ""}},
+        {"aa", {1, 0, "amd64", "", DEB_NO, 0, 0, 0, ""}},
+        {"aa", {1, 0, "amd64", of_one_name, DEB_YES, 0, 0, 4, " 2 aa 2 all\n"}},
+        {"bb", {1, 0, "amd64", of_one_name, DEB_YES, 0, 0, 4, " 3 aa 3 all\n 4 bb 1 all\n"}},
+        {"zz", {1, 0, "amd64", of_one_name, DEB_NO, 0, 0, 4, ""}},
+        {"bb", {1, 0, "amd64", status_file, DEB_YES, 0, 0, 3, " 2 bb 1 all\n"}},
+        {"cc", {1, 0, "amd64", status_file, DEB_NO, 0, 0, 3, "uninstallable 3 cc 2 all\n"}},
+        {"cc", {5, 0, "amd64", status_file, DEB_NO, 0, 0, 1, "uninstallable 1 cc 2 all\n"}},
+        {"bb", {5, 0, "amd64", status_file, DEB_NO, 0, 0, 1, ""}},
+        {"aa", {5, 1, "amd64", "", DEB_NO, 0, 0, 0, ""}},
+        {"aa", {1, 0, "any", "x", DEB_REFUSED, DEB_BAD_ENVIRONMENT, 0, 0, NULL}},
+        {"", {1, 0, "", set, DEB_REFUSED, DEB_BAD_ENVIRONMENT, 0, 0, NULL}},
+        {"aa", {1, 1, "amd64", "\nx", DEB_REFUSED, DEB_NO_COLON, 2, 0, NULL}},
+        {"aa", {5, 0, "any", "x", DEB_REFUSED, DEB_BAD_ENVIRONMENT, 0, 0, NULL}},
+        {"aa", {5, 0, "amd64", set, DEB_REFUSED, DEB_MISSING_FIELD, 1, 0, NULL}},
+        {"aa", {0, 0, "amd64", set, DEB_NO_KIND, 0, 0, 0, NULL}},
+        {"aa", {2, 1, "any", "x", DEB_NO_KIND, 0, 0, 0, NULL}},
+        {"", {3, 0, "amd64", "", DEB_NO_KIND, 0, 0, 0, NULL}},
+        {"aa", {4, 255, "amd64", status_file, DEB_NO_KIND, 0, 0, 0, NULL}},
+        {"aa", {6, 0, "", "", DEB_NO_KIND, 0, 0, 0, NULL}},
+        {"aa", {255, 1, "amd64", set, DEB_NO_KIND, 0, 0, 0, NULL}},
+    };
+    size_t at;
+    for (at = 0; at < sizeof all / sizeof *all; at++) {
+        wanted = all[at].name;
+        try_set(ask_witness, &all[at].of);
+    }
+}
+
+/* A name may have any bytes and any length, but only the whole name is that of a package. */
+static void try_names(void) {
+    enum { LONG = 1 << 20 };
+    static const char *others[] = {"aa\n", "a\xff", "\xc3\xa9", " aa", "a\0", "aa,", "AA", "\0\0"};
+    static const size_t lengths[] = {3, 2, 2, 3, 2, 3, 2, 2};
+    const char *index = "Package: aa\nVersion: 1\nArchitecture: all\n";
+    uint8_t *name = malloc(LONG), out[16];
+    size_t at, length;
+    memset(name, 'a', LONG);
+    for (at = 0; at <= LONG; at += at < 4 ? 1 : at == 4 ? LONG - 4 : LONG) {
+        length = 99;
+        IS(is(deb_witness(DEB_PACKAGES, 0, 0, bytes("amd64"), 5, name, at, bytes(index), strlen(index),
+                          out, sizeof out, &length),
+              at == 2 ? DEB_YES : DEB_NO, 0, 0, 1) &&
+           length == (at == 2 ? 12 : 0));
+    }
+    for (at = 0; at < sizeof others / sizeof *others; at++)
+        IS(is(deb_witness(DEB_PACKAGES, 0, 0, bytes("amd64"), 5, bytes(others[at]), lengths[at],
+                          bytes(index), strlen(index), out, sizeof out, &length),
+              DEB_NO, 0, 0, 1) &&
+           length == 0);
+    free(name);
+}
+
 /* ---- source packages */
 
 static const char toolchain[] =
@@ -434,6 +519,15 @@ static int has_lines_within(uint32_t budget, const char *index, const char *line
            memcmp(out, lines, length) == 0;
 }
 
+static int seeks_within(uint32_t budget, const char *index, int status, const char *lines) {
+    uint8_t out[256];
+    size_t length = 0;
+    struct deb_answer answer =
+        deb_witness(DEB_PACKAGES, 0, budget, bytes("amd64"), 5, bytes("aa"), 2, bytes(index),
+                    strlen(index), out, sizeof out, &length);
+    return answer.status == status && length == strlen(lines) && memcmp(out, lines, length) == 0;
+}
+
 /* One step doesn't find out that no choice is right. Of versions of one package, which exclude each
  * other, each takes a step, and all together may take a hundred for each. */
 static void try_budgets(void) {
@@ -448,6 +542,10 @@ static void try_budgets(void) {
     IS(has_lines_within(0, versions, ""));
     IS(has_lines_within(1, versions, ""));
     IS(has_lines_within(4294967295, versions, ""));
+    IS(seeks_within(0, choices, DEB_NO, "uninstallable 1 aa 1 all\n"));
+    IS(seeks_within(1, choices, DEB_NO, "undecided 1 aa 1 all\n"));
+    IS(seeks_within(4294967295, choices, DEB_NO, "uninstallable 1 aa 1 all\n"));
+    IS(seeks_within(1, versions, DEB_YES, " 1 aa 1 all\n"));
 }
 
 /* ---- fields */
@@ -629,6 +727,8 @@ int main(void) {
     try_unmet();
     try_healthy();
     try_installable();
+    try_witness();
+    try_names();
     try_buildable();
     try_budgets();
     try_fields();

@@ -92,6 +92,10 @@ static void *run(void *wrong) {
         *(int *)wrong += deb_installable(DEB_PACKAGES, 0, 0, bytes("amd64"), 5, text, size, out,
                                          sizeof out, &length)
                              .status != DEB_YES;
+        *(int *)wrong += deb_witness(DEB_PACKAGES, 0, 0, bytes("amd64"), 5, bytes("hello"), 5, text,
+                                     size, out, sizeof out, &length)
+                                 .status != DEB_YES ||
+                         length != 19 || memcmp(out, " 1 hello 1.0 amd64\n", 19) != 0;
         *(int *)wrong += deb_buildable(DEB_SOURCES, 0, bytes("amd64"), 5, NULL, 0, text, size,
                                        bytes(source), strlen(source), out, sizeof out, &length)
                                  .status != DEB_NO ||

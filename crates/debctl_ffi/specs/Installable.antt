@@ -19,9 +19,10 @@ pub record HasAnswerLines (asks : AsksInstallable) (file : List ℕ) (summary : 
   pub lines : bytes ≡ answer_lines answers.answer answers.packages
   pub is_empty : summary.is_empty ≡ is_nothing bytes
 
--- The target is good, and these are the lines of the file for it.
-pub record IsInstallable (strength : Strength) (by : Asker) (members : Members) (summary : Summary)
-    (bytes : List ℕ) : Type 0 where
+-- The target is good, and these are the lines of the file for it: those of the packages with these
+-- names, or of all packages if there is no name.
+pub record IsInstallable (strength : Strength) (names : List (List ℕ)) (by : Asker)
+    (members : Members) (summary : Summary) (bytes : List ℕ) : Type 0 where
   pub environment : IsTrue (is_environment by.target by.profiles)
-  pub has : HasAnswerLines (asks_installable members strength (environment_in by)) by.index summary
-      bytes
+  pub has : HasAnswerLines (asks_installable members strength names (environment_in by)) by.index
+      summary bytes

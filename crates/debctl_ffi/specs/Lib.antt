@@ -11,6 +11,7 @@ pub mod Unmet
 pub mod Askers
 pub mod Health
 pub mod Installable
+pub mod Witnesses
 pub mod Buildable
 pub mod Builders
 pub mod Fields

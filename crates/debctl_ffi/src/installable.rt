@@ -6,6 +6,7 @@ ghost use Rattle.deb_control.specs.Documents.{refusal_of};
 ghost use Rattle.deb_index.specs.Members.{doc_of};
 ghost use Rattle.deb_install.specs.Installing.{asks_installable};
 ghost use Rattle.deb_relation.specs.Environments.{environment_of};
+ghost use Rattle.deb_relation.specs.Views.{names_of};
 ghost use Rattle.debctl_ffi.specs.Answers.{HasStatus};
 ghost use Rattle.debctl_ffi.specs.Buffers.{buffer};
 ghost use Rattle.debctl_ffi.specs.Health.{AsksNoSet, ListsSet, RefusesSet, SetFails, strength_of};
@@ -53,7 +54,7 @@ pub extern "C" fn deb_installable(
     len: &mut usize,
 ) -> Answer
     ensures answers { let by = asker target.now [] index.now in
-        Replies (ListsSet kind (IsInstallable (strength_of (is_set recommends)) by))
+        Replies (ListsSet kind (IsInstallable (strength_of (is_set recommends)) [] by))
         (SetFails kind by) (buffer out.old out.new len.new) result }
     ensures unknown_kind { AsksNoSet kind → result.status ≡ 6 }
     ensures status { HasStatus result.status (0 ∷ 1 ∷ 2 ∷ 4 ∷ 5 ∷ 6 ∷ []) }
@@ -65,6 +66,7 @@ pub extern "C" fn deb_installable(
     let request = InstallRequest {
         members,
         strength: strength_of(recommends != 0),
+        names: &[],
         budget: budget_of(budget),
     };
     match lines_for(alloc, request, target, index) {
@@ -90,13 +92,13 @@ pub(crate) fn budget_of(steps: u32) -> Budget {
 /// else of the file. Or out of memory.
 fn lines_for(
     alloc: Global,
-    request: InstallRequest,
+    request: InstallRequest<'_>,
     target: &[u8],
     index: &[u8],
 ) -> Result<(Summary, Vec<u8>), Fault>
     ensures ok { IfOk result
-        (λ answer. IsInstallable request.strength (asker target.now [] index.now) request.members
-        answer.0 answer.1.items) }
+        (λ answer. IsInstallable request.strength (names_of request.names.now)
+        (asker target.now [] index.now) request.members answer.0 answer.1.items) }
     ensures fault { IfErr result
         (λ fault. RefusedOrMemory fault
         (RefusesSet request.members (asker target.now [] index.now))) }
@@ -110,12 +112,13 @@ fn lines_for(
 fn lines_in(
     alloc: Global,
     environment: &Env,
-    request: InstallRequest,
+    request: InstallRequest<'_>,
     index: &[u8],
 ) -> Result<(Summary, Vec<u8>), Fault>
     ensures ok { IfOk result
         (λ answer. HasAnswerLines (asks_installable request.members request.strength
-        (environment_of environment.now)) index.now answer.0 answer.1.items) }
+        (names_of request.names.now) (environment_of environment.now)) index.now answer.0
+        answer.1.items) }
     ensures fault { IfErr result
         (λ fault. RefusedOrMemory fault
         (λ refusal. refusal_of (doc_of request.members) index.now ≡ Some refusal)) }

@@ -53,3 +53,4 @@ mod text_explanation;
 mod unmet;
 mod version_parts;
 mod versions;
+mod witness;

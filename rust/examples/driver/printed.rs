@@ -3,7 +3,7 @@
 use debctl::{
     AllExplained, Alternative, BuildReport, Change, ChangeKind, Explanation, HealthFault,
     HealthReport, InstallFault, InstallReport, NotInstallable, Package, Report, UnmetReport,
-    Verdict,
+    Verdict, WitnessReport,
 };
 
 /// What has a text.
@@ -121,6 +121,13 @@ fn faults(packages: &[NotInstallable]) -> String {
 impl Printed for InstallReport {
     fn printed(&self) -> String {
         faults(&self.packages)
+    }
+}
+
+impl Printed for WitnessReport {
+    fn printed(&self) -> String {
+        let set = self.packages.iter().map(|it| format!(" {}\n", package(it)));
+        set.collect::<String>() + &faults(&self.not_installable)
     }
 }
 
