@@ -86,11 +86,11 @@ fn lines_for(
     index: &[u8],
 ) -> Result<(Sought, Vec<u8>), Fault>
     ensures ok { IfOk result
-        (λ answer. IsSought request.strength (names_of request.names.now)
-        (asker target.now [] index.now) request.members answer.0 answer.1.items) }
+        (λ answer. IsSought request.entry.strength (names_of request.entry.names.now)
+        (asker target.now [] index.now) request.entry.members answer.0 answer.1.items) }
     ensures fault { IfErr result
         (λ fault. RefusedOrMemory fault
-        (RefusesSet request.members (asker target.now [] index.now))) }
+        (RefusesSet request.entry.members (asker target.now [] index.now))) }
 {
     let environment = make_environment(alloc, target, &[])?;
     lines_in(alloc, &environment, request, index)
@@ -105,12 +105,12 @@ fn lines_in(
     index: &[u8],
 ) -> Result<(Sought, Vec<u8>), Fault>
     ensures ok { IfOk result
-        (λ answer. HasSought (asks_installable request.members request.strength
-        (names_of request.names.now) (environment_of environment.now)) index.now answer.0
+        (λ answer. HasSought (asks_installable request.entry.members request.entry.strength
+        (names_of request.entry.names.now) (environment_of environment.now)) index.now answer.0
         answer.1.items) }
     ensures fault { IfErr result
         (λ fault. RefusedOrMemory fault
-        (λ refusal. refusal_of (doc_of request.members) index.now ≡ Some refusal)) }
+        (λ refusal. refusal_of (doc_of request.entry.members) index.now ≡ Some refusal)) }
 {
     let mut sink = VecSink::new(alloc);
     let mut source = SliceSource::new(index);
