@@ -7,9 +7,3 @@ pub written_whole : (old new : Option (List ℕ)) (bytes items : List ℕ) → o
     → Appends old new bytes → items ≡ bytes
 written_whole old new bytes items empty held appends =
     subst (λ after. Appends (Some []) after bytes) held (subst (λ before. Appends before new bytes) empty appends)
-
--- What a call says of a sink that was empty is said of what it holds then.
-pub held_whole : (Says : Option (List ℕ) → Option (List ℕ) → Type 0) (old new : Option (List ℕ)) (items : List ℕ)
-    → old ≡ Some [] → new ≡ Some items → Says old new → Says (Some []) (Some items)
-held_whole Says old new items empty held says =
-    subst (λ after. Says (Some []) after) held (subst (λ before. Says before new) empty says)

@@ -16,7 +16,7 @@ pub record HasAnswerLines (asks : AsksInstallable) (file : List ℕ) (summary : 
     (bytes : List ℕ) : Type 0 where
   pub answers : FileAnswers asks file
   pub count : length answers.packages ≡ summary.paragraphs
-  pub lines : bytes ≡ answer_lines answers.answer answers.packages
+  pub lines : bytes ≡ answer_lines asks.names answers.answer answers.packages
   pub is_empty : summary.is_empty ≡ is_nothing bytes
 
 -- The target is good, and these are the lines of the file for it: those of the packages with these

@@ -1,27 +1,30 @@
 -- What is answered to a program in C that seeks a healthy set with a package. Debian Policy 7.2 to
 -- 7.5; the order of refusals and the form of the lines are this project's own.
-use Rattle.std.specs.Prelude.{◌≡◌, ◌⊎◌, ℕ, IsTrue, Bool, true, false, List, [], Some}
+use Rattle.std.specs.Prelude.{◌≡◌, ◌⊎◌, ℕ, IsTrue, Bool, true, false, List, length}
 use Rattle.deb_relation.specs.Targets.{is_environment}
 use Rattle.deb_index.specs.declared.members.Members.{Members}
 use Rattle.deb_unmet.specs.declared.asked.Strength.{Strength}
 use Rattle.deb_install.specs.Installing.{AsksInstallable, asks_installable}
-use Rattle.deb_install.specs.Witnesses.{WritesWitness}
-use Rattle.deb_install.specs.declared.witness.Sought.{Sought}
+use Rattle.deb_install.specs.Witnesses.{FileSought}
+use Rattle.deb_install.specs.declared.witnesses.Sought.{Sought}
 use Rattle.debctl_ffi.specs.Answers.{counting}
 use Rattle.debctl_ffi.specs.Health.{OfMembers}
 use Rattle.debctl_ffi.specs.Unmet.{Asker, environment_in}
 use Rattle.debctl_ffi.specs.declared.answer.Answer.{Answer}
 
--- These are the lines of a search in the file: a sink that was empty holds exactly these after it.
-abbrev pub HasSought : AsksInstallable → List ℕ → Sought → List ℕ → Type 0
-HasSought asks file sought bytes = WritesWitness asks file sought (Some []) (Some bytes)
+-- The file is accepted, and these are the lines of what was found among its packages, which are so
+-- many: a set, or none.
+pub record HasFoundLines (asks : AsksInstallable) (file : List ℕ) (sought : Sought)
+    (bytes : List ℕ) : Type 0 where
+  pub found : FileSought asks file sought.is_found bytes
+  pub count : length found.packages ≡ sought.paragraphs
 
 -- The target is good, and these are the lines of a search in the file for it, among the packages
 -- with these names.
 pub record IsSought (strength : Strength) (names : List (List ℕ)) (by : Asker) (members : Members)
     (sought : Sought) (bytes : List ℕ) : Type 0 where
   pub environment : IsTrue (is_environment by.target by.profiles)
-  pub has : HasSought (asks_installable members strength names (environment_in by)) by.index
+  pub has : HasFoundLines (asks_installable members strength names (environment_in by)) by.index
       sought bytes
 
 -- These are the lines of a search that finds a set, or none; the answer has the number of the

@@ -4,7 +4,7 @@ ghost use Rattle.std.specs.Prelude.{◌≡◌, ◌∷◌, [], IfErr, IfOk, Some}
 ghost use Rattle.deb_base.specs.Faults.{RefusedOrMemory};
 ghost use Rattle.deb_control.specs.Documents.{refusal_of};
 ghost use Rattle.deb_index.specs.Members.{doc_of};
-ghost use Rattle.deb_install.specs.Installing.{asks_installable};
+ghost use Rattle.deb_install.specs.Installing.{asks_by};
 ghost use Rattle.deb_relation.specs.Environments.{environment_of};
 ghost use Rattle.deb_relation.specs.Views.{names_of};
 ghost use Rattle.debctl_ffi.specs.Answers.{HasStatus};
@@ -69,7 +69,7 @@ pub extern "C" fn deb_installable(
         names: &[],
         budget: budget_of(budget),
     };
-    match lines_for(alloc, request, target, index) {
+    match lines_for(alloc, &request, target, index) {
         Ok((summary, lines)) => {
             if summary.is_empty {
                 reply(yes(summary.paragraphs), &lines, out, len)
@@ -92,16 +92,16 @@ pub(crate) fn budget_of(steps: u32) -> Budget {
 /// else of the file. Or out of memory.
 fn lines_for(
     alloc: Global,
-    request: InstallRequest<'_>,
+    request: &InstallRequest<'_>,
     target: &[u8],
     index: &[u8],
 ) -> Result<(Summary, Vec<u8>), Fault>
     ensures ok { IfOk result
-        (λ answer. IsInstallable request.entry.strength (names_of request.entry.names.now)
-        (asker target.now [] index.now) request.entry.members answer.0 answer.1.items) }
+        (λ answer. IsInstallable request.now.strength (names_of request.now.names.now)
+        (asker target.now [] index.now) request.now.members answer.0 answer.1.items) }
     ensures fault { IfErr result
         (λ fault. RefusedOrMemory fault
-        (RefusesSet request.entry.members (asker target.now [] index.now))) }
+        (RefusesSet request.now.members (asker target.now [] index.now))) }
 {
     let environment = make_environment(alloc, target, &[])?;
     lines_in(alloc, &environment, request, index)
@@ -112,16 +112,15 @@ fn lines_for(
 fn lines_in(
     alloc: Global,
     environment: &Env,
-    request: InstallRequest<'_>,
+    request: &InstallRequest<'_>,
     index: &[u8],
 ) -> Result<(Summary, Vec<u8>), Fault>
     ensures ok { IfOk result
-        (λ answer. HasAnswerLines (asks_installable request.entry.members request.entry.strength
-        (names_of request.entry.names.now) (environment_of environment.now)) index.now answer.0
-        answer.1.items) }
+        (λ answer. HasAnswerLines (asks_by request.now (environment_of environment.now))
+        index.now answer.0 answer.1.items) }
     ensures fault { IfErr result
         (λ fault. RefusedOrMemory fault
-        (λ refusal. refusal_of (doc_of request.entry.members) index.now ≡ Some refusal)) }
+        (λ refusal. refusal_of (doc_of request.now.members) index.now ≡ Some refusal)) }
 {
     let mut sink = VecSink::new(alloc);
     let mut source = SliceSource::new(index);

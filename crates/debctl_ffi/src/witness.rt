@@ -4,7 +4,7 @@ ghost use Rattle.std.specs.Prelude.{◌≡◌, ◌∷◌, [], IfErr, IfOk, Some}
 ghost use Rattle.deb_base.specs.Faults.{RefusedOrMemory};
 ghost use Rattle.deb_control.specs.Documents.{refusal_of};
 ghost use Rattle.deb_index.specs.Members.{doc_of};
-ghost use Rattle.deb_install.specs.Installing.{asks_installable};
+ghost use Rattle.deb_install.specs.Installing.{asks_by};
 ghost use Rattle.deb_relation.specs.Environments.{environment_of};
 ghost use Rattle.deb_relation.specs.Views.{names_of};
 ghost use Rattle.debctl_ffi.specs.Answers.{HasStatus};
@@ -12,7 +12,7 @@ ghost use Rattle.debctl_ffi.specs.Buffers.{buffer};
 ghost use Rattle.debctl_ffi.specs.Health.{AsksNoSet, RefusesSet, SetFails, strength_of};
 ghost use Rattle.debctl_ffi.specs.Replies.{Replies};
 ghost use Rattle.debctl_ffi.specs.Unmet.{asker, is_set};
-ghost use Rattle.debctl_ffi.specs.Witnesses.{HasSought, IsSought, Seeks};
+ghost use Rattle.debctl_ffi.specs.Witnesses.{HasFoundLines, IsSought, Seeks};
 
 use crate::answer::{Answer, no_kind, no_memory, refused, some, yes};
 use crate::asker::make_environment;
@@ -64,7 +64,7 @@ pub extern "C" fn deb_witness(
         names: &[name],
         budget: budget_of(budget),
     };
-    match lines_for(alloc, request, target, index) {
+    match lines_for(alloc, &request, target, index) {
         Ok((sought, lines)) => {
             if sought.is_found {
                 reply(yes(sought.paragraphs), &lines, out, len)
@@ -81,16 +81,16 @@ pub extern "C" fn deb_witness(
 /// file. Or out of memory.
 fn lines_for(
     alloc: Global,
-    request: InstallRequest<'_>,
+    request: &InstallRequest<'_>,
     target: &[u8],
     index: &[u8],
 ) -> Result<(Sought, Vec<u8>), Fault>
     ensures ok { IfOk result
-        (λ answer. IsSought request.entry.strength (names_of request.entry.names.now)
-        (asker target.now [] index.now) request.entry.members answer.0 answer.1.items) }
+        (λ answer. IsSought request.now.strength (names_of request.now.names.now)
+        (asker target.now [] index.now) request.now.members answer.0 answer.1.items) }
     ensures fault { IfErr result
         (λ fault. RefusedOrMemory fault
-        (RefusesSet request.entry.members (asker target.now [] index.now))) }
+        (RefusesSet request.now.members (asker target.now [] index.now))) }
 {
     let environment = make_environment(alloc, target, &[])?;
     lines_in(alloc, &environment, request, index)
@@ -101,16 +101,15 @@ fn lines_for(
 fn lines_in(
     alloc: Global,
     environment: &Env,
-    request: InstallRequest<'_>,
+    request: &InstallRequest<'_>,
     index: &[u8],
 ) -> Result<(Sought, Vec<u8>), Fault>
     ensures ok { IfOk result
-        (λ answer. HasSought (asks_installable request.entry.members request.entry.strength
-        (names_of request.entry.names.now) (environment_of environment.now)) index.now answer.0
-        answer.1.items) }
+        (λ answer. HasFoundLines (asks_by request.now (environment_of environment.now))
+        index.now answer.0 answer.1.items) }
     ensures fault { IfErr result
         (λ fault. RefusedOrMemory fault
-        (λ refusal. refusal_of (doc_of request.entry.members) index.now ≡ Some refusal)) }
+        (λ refusal. refusal_of (doc_of request.now.members) index.now ≡ Some refusal)) }
 {
     let mut sink = VecSink::new(alloc);
     let mut source = SliceSource::new(index);

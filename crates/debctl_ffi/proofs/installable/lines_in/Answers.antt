@@ -20,5 +20,5 @@ returns-in-Ok-clause-ok c =
 
 pub returns-in-Err-Refused-clause-fault : goal.returns-in-Err-Refused-clause-fault
 returns-in-Err-Refused-clause-fault c =
-    subst (λ fault. IfRefused {T = Summary} (Err fault) (λ refusal. refusal_of (doc_of c.args.request.entry.members) c.args.index.now ≡ Some refusal))
+    subst (λ fault. IfRefused {T = Summary} (Err fault) (λ refusal. refusal_of (doc_of c.args.request.now.members) c.args.index.now ≡ Some refusal))
     c.in-Err-Refused.field-0-is (c.in-Err-Refused.ensures.refused c.args.index.now c.new-source.ensures.left)
