@@ -26,12 +26,13 @@ use std::alloc::Global;
 
 /// Writes a healthy set of packages of a file that contains a package with this name, for a target
 /// architecture, a line for each package of the set, to the start of `out`, and returns the length
-/// of these lines (Debian Policy 7.2 to 7.5). It is a set of the first package with the name, in
-/// the order of the file, for which the search finds one. If it finds none, the lines are those of
-/// `deb_installable` for the packages with the name, by these searches. `kind`, `recommends` and
-/// `budget` are those of `deb_installable`. Status 0: a set is found. 1: none is. With the number
-/// of the packages. 4: `out` is too small; `len` is the length that it needs. 5: out of memory. 6:
-/// `kind` is another number.
+/// of these lines (Debian Policy 7.2 to 7.5). The set is healthy in every reading of architecture
+/// lists. It is one of the first package with the name, in the order of the file, for which the
+/// search finds a set. If it finds none, the lines are those of `deb_installable` for the packages
+/// with the name, by these searches. `kind`, `recommends` and `budget` are those of
+/// `deb_installable`. Status 0: a set is found. 1: none is. With the number of the packages. 4:
+/// `out` is too small; `len` is the length that it needs. 5: out of memory. 6: `kind` is another
+/// number.
 ///
 /// Status 2, refused: the target, with the code 23 and the line 0; else the file, with its first
 /// refusal. Except for status 0 and 1, `out` is unchanged.
