@@ -30,5 +30,5 @@ returns-in-Witness-clause-first_untouched_if_refused g c =
 
 pub returns-in-Witness-clause-reports_answer : goal.returns-in-Witness-clause-reports_answer
 returns-in-Witness-clause-reports_answer g c second =
-    let asked = c.install_asked-in-Witness-asked.ensures in
+    let asked = c.install_asked-asked-in-Witness.ensures in
     reported_as c.args.job.now _ c.in-Witness.is _ _ _ _ c.run_witness.result (rw (c.as_str-in-Witness.ensures.value, asked.members, asked.strength, asked.names, c.deref-in-Witness.ensures.value) at (c.run_witness.ensures.reports_answer second))
