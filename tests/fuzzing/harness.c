@@ -513,7 +513,8 @@ static void try_index(uint8_t kind, struct deb_text relation, struct deb_text te
             found |= at == number;
         }
         REQUIRE(found);
-        try_witness((struct deb_text){package.text, end - package.text}, text, target);
+        if (number == 1 + chosen % 7)
+            try_witness((struct deb_text){package.text, end - package.text}, text, target);
     }
     WRITE(numbers, 4, 8, deb_index_providers(index, relation.bytes, relation.length, (uint64_t *)out, room, length));
     REQUIRE(numbers.answer.status == (is_held ? DEB_YES : DEB_NO_INDEX));
