@@ -17,8 +17,13 @@
 #![tactic(auto)]
 
 mod budget;
+mod facts;
+mod finder;
 mod growth;
 mod health;
+mod parts;
+mod reach;
+mod reasoning;
 mod refuter;
 mod rows;
 mod search;
@@ -28,7 +33,9 @@ mod verdict;
 mod witnesses;
 
 pub use budget::Budget;
+pub use facts::Fact;
 pub use health::is_healthy;
+pub use reasoning::reasons;
 pub use rows::Rows;
 pub use universe::Universe;
 pub use verdict::{Verdict, solve};
