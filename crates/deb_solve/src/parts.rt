@@ -220,8 +220,8 @@ fn needs_of(
     let mut needs = Rows::new(alloc);
     let mut about = Vec::new(alloc);
     let mut row = Vec::new(alloc);
-    for (package, id) in locals.ids.iter().enumerate() {
-        links.collect(narrow(package), &mut about)?;
+    for (number, id) in locals.ids.iter().enumerate() {
+        links.collect(narrow(number), &mut about)?;
         add_needs(facts, &about, *id, &mut row)?;
         needs.push_row(&row)?;
     }
@@ -266,8 +266,8 @@ fn excludes_of(
     let mut excludes = Rows::new(alloc);
     let mut about = Vec::new(alloc);
     let mut row = Vec::new(alloc);
-    for (package, id) in locals.ids.iter().enumerate() {
-        links.collect(narrow(package), &mut about)?;
+    for (number, id) in locals.ids.iter().enumerate() {
+        links.collect(narrow(number), &mut about)?;
         add_exclusions(universe, locals, facts, &about, *id, &mut row)?;
         excludes.push_row(&row)?;
     }
