@@ -4,7 +4,7 @@ use Rattle.std.specs.List.{All, list_all, list_any}
 use Rattle.std.proofs.lemmas.Bool.{and_from, and_parts, false≢true, lt-ltb, or_cases, or_from, or_left, or_right}
 use Rattle.std.proofs.lemmas.List.{take_more}
 use Rattle.std.proofs.lemmas.List.Folds.{list_any-append, list_any_more}
-use Rattle.std.proofs.lemmas.Option.{slice_get_within}
+use Rattle.std.proofs.lemmas.Option.{get_or_from_slice_get, slice_get_within}
 use Rattle.deb_solve.specs.Health.{IsHealthy, fits, is_met, row}
 use Rattle.deb_solve.specs.Parts.{AddsCandidate, Covers, IsExclusion, IsNeed, IsPart, Pairwise, candidates, renumbered}
 use Rattle.deb_solve.specs.Reasons.{AreReasons, IsListed, Respects, excluded, is_fact, needed, respects}
@@ -12,6 +12,10 @@ use Rattle.deb_solve.specs.Refuting.{IsOut}
 use Rattle.deb_solve.specs.declared.facts.Fact.{Fact}
 use Rattle.deb_solve.specs.declared.facts.Fact.TheVariants.{Needs, Excludes}
 use Rattle.deb_solve.specs.declared.universe.Universe.{Universe}
+
+-- the first element of a list
+first_is : {A : Type 0} (x : A) (xs : List A) (y : A) → slice_get (x ∷ xs) 0 ≡ Some y → x ≡ y
+first_is x xs y at = get_or_from_slice_get (x ∷ xs) 0 y x at
 
 -- ---- lists that are related element by element
 
@@ -33,7 +37,8 @@ Pairwise-at : {A : Type 0} (R : A → List ℕ → Type 0) (xs : List A) (rows :
     → Pairwise R xs rows → slice_get xs i ≡ Some x → R x (row rows i)
 Pairwise-at R [] rows i x all at = absurd (omega (arith, slice_get_within [] i x at))
 Pairwise-at R (y ∷ xs) [] i x all at = absurd all
-Pairwise-at R (y ∷ xs) (ys ∷ rows) zero x all at = let same : y ≡ x = cc in subst (λ z. R z ys) same all.0
+Pairwise-at R (y ∷ xs) (ys ∷ rows) zero x all at =
+    subst (λ z. R z ys) (first_is y xs x at) all.0
 Pairwise-at R (y ∷ xs) (ys ∷ rows) (suc i) x all at = Pairwise-at R xs rows i x all.1 at
 
 -- one more row
@@ -48,7 +53,7 @@ Pairwise-more R xs rows i x numbers within at all is =
 -- the set of new numbers contains that of a package if the set contains the package
 renumbered_at : (ids : List ℕ) (set : ℕ → Bool) (i id : ℕ) → slice_get ids i ≡ Some id → renumbered ids set i ≡ set id
 renumbered_at [] set i id at = absurd (omega (arith, slice_get_within [] i id at))
-renumbered_at (x ∷ ids) set zero id at = let same : x ≡ id = cc in ap set same
+renumbered_at (x ∷ ids) set zero id at = ap set (first_is x ids id at)
 renumbered_at (x ∷ ids) set (suc i) id at = renumbered_at ids set i id at
 
 record HasId (ids : List ℕ) (set : ℕ → Bool) (i : ℕ) : Type 0 where
@@ -95,7 +100,8 @@ Covers-more u ids cs old new i c within at covers adds set listed is =
 
 holds_at : (test : Fact → Bool) (facts : List Fact) (i : ℕ) (fact : Fact) → list_all test facts ≡ true → slice_get facts i ≡ Some fact → test fact ≡ true
 holds_at test [] i fact all at = absurd (omega (arith, slice_get_within [] i fact at))
-holds_at test (f ∷ facts) zero fact all at = let same : f ≡ fact = cc in ap test (sym same) ∙ (and_parts _ _ all).0
+holds_at test (f ∷ facts) zero fact all at =
+    ap test (sym (first_is f facts fact at)) ∙ (and_parts _ _ all).0
 holds_at test (f ∷ facts) (suc i) fact all at = holds_at test facts i fact (and_parts _ _ all).1 at
 
 if_inside : (a b : Bool) → (not a || b) ≡ true → a ≡ true → b ≡ true
@@ -111,9 +117,9 @@ not_both false b both is = absurd (false≢true is)
 met_one : (u v : Universe) (p : ℕ) (facts : List Fact) (ids : List ℕ) (set : ℕ → Bool) → IsPart u p facts ids v → Respects u facts set
     → (id g : ℕ) → set id ≡ true → IsNeed facts id g → is_met v (renumbered ids set) g ≡ true
 met_one u v p facts ids set part respecting id g inside need =
-    let fact = Needs id need.at in
+    let fact : Fact = Needs id need.at in
     Pairwise-at (λ f. Covers u ids (candidates u f)) facts v.groups g fact part.groups need.is set respecting.is_listed
-    (if_inside _ _ (holds_at (respects u set) facts g fact respecting.each need.is) inside)
+    (if_inside (set id) (is_met u set (needed u id need.at)) (holds_at (respects u set) facts g fact respecting.each need.is) inside)
 
 met_all : (u v : Universe) (p : ℕ) (facts : List Fact) (ids : List ℕ) (set : ℕ → Bool) → IsPart u p facts ids v → Respects u facts set
     → (id : ℕ) → set id ≡ true → (groups : List ℕ) → All (IsNeed facts id) groups → list_all (is_met v (renumbered ids set)) groups ≡ true
@@ -127,7 +133,7 @@ excluded_one : (u : Universe) (facts : List Fact) (ids : List ℕ) (set : ℕ �
     → (id other : ℕ) → set id ≡ true → IsExclusion u facts ids id other → renumbered ids set other ≡ false
 excluded_one u facts ids set respecting id other inside is =
     renumbered_at ids set other (excluded u id is.at) is.other
-    ∙ not_both _ _ (holds_at (respects u set) facts is.fact (Excludes id is.at) respecting.each is.is) inside
+    ∙ not_both (set id) (set (excluded u id is.at)) (holds_at (respects u set) facts is.fact (Excludes id is.at) respecting.each is.is) inside
 
 excluded_all : (u : Universe) (facts : List Fact) (ids : List ℕ) (set : ℕ → Bool) → Respects u facts set
     → (id : ℕ) → set id ≡ true → (others : List ℕ) → All (IsExclusion u facts ids id) others → list_any (renumbered ids set) others ≡ false
