@@ -42,11 +42,11 @@ Pairwise-at R (y ∷ xs) (ys ∷ rows) zero x all at =
 Pairwise-at R (y ∷ xs) (ys ∷ rows) (suc i) x all at = Pairwise-at R xs rows i x all.1 at
 
 -- one more row
-pub Pairwise-more : {A : Type 0} (R : A → List ℕ → Type 0) (xs : List A) (rows : List (List ℕ)) (i : ℕ) (x : A) (numbers : List ℕ)
-    → i < length xs → x ≡ get_or xs i x → Pairwise R (take i xs) rows → R x numbers → Pairwise R (take (i + 1) xs) (rows ++ numbers ∷ [])
-Pairwise-more R xs rows i x numbers within at all is =
-    subst (λ zs. Pairwise R zs (rows ++ numbers ∷ [])) (sym (take_more xs i x within))
-    (Pairwise-append R (take i xs) rows (get_or xs i x) numbers all (subst (λ z. R z numbers) at is))
+pub Pairwise-more : {A : Type 0} (R : A → List ℕ → Type 0) (xs : List A) (old new : List (List ℕ)) (i : ℕ) (d : A) (numbers : List ℕ)
+    → i < length xs → new ≡ old ++ numbers ∷ [] → Pairwise R (take i xs) old → R (get_or xs i d) numbers → Pairwise R (take (i + 1) xs) new
+Pairwise-more R xs old new i d numbers within pushed all is =
+    subst (λ zs. Pairwise R zs new) (sym (take_more xs i d within))
+    (subst (λ rows. Pairwise R (take i xs ++ get_or xs i d ∷ []) rows) (sym pushed) (Pairwise-append R (take i xs) old (get_or xs i d) numbers all is))
 
 -- ---- new numbers
 
@@ -125,8 +125,8 @@ met_all : (u v : Universe) (p : ℕ) (facts : List Fact) (ids : List ℕ) (set :
     → (id : ℕ) → set id ≡ true → (groups : List ℕ) → All (IsNeed facts id) groups → list_all (is_met v (renumbered ids set)) groups ≡ true
 met_all u v p facts ids set part respecting id inside [] needs = refl
 met_all u v p facts ids set part respecting id inside (g ∷ groups) needs =
-    and_from _ _ (met_one u v p facts ids set part respecting id g inside needs.0)
-    (met_all u v p facts ids set part respecting id inside groups needs.1)
+    and_from _ _ (met_one u v p facts ids set part respecting id g inside (needs 0 0 (omega arith)))
+    (met_all u v p facts ids set part respecting id inside groups (λ k d below. needs (suc k) d (omega (arith, below))))
 
 -- what a package excludes by the facts isn't in the set
 excluded_one : (u : Universe) (facts : List Fact) (ids : List ℕ) (set : ℕ → Bool) → Respects u facts set
@@ -139,8 +139,8 @@ excluded_all : (u : Universe) (facts : List Fact) (ids : List ℕ) (set : ℕ �
     → (id : ℕ) → set id ≡ true → (others : List ℕ) → All (IsExclusion u facts ids id) others → list_any (renumbered ids set) others ≡ false
 excluded_all u facts ids set respecting id inside [] all = refl
 excluded_all u facts ids set respecting id inside (other ∷ others) all =
-    or_from _ _ (excluded_one u facts ids set respecting id other inside all.0)
-    (excluded_all u facts ids set respecting id inside others all.1)
+    or_from _ _ (excluded_one u facts ids set respecting id other inside (all 0 0 (omega arith)))
+    (excluded_all u facts ids set respecting id inside others (λ k d below. all (suc k) d (omega (arith, below))))
 
 -- The renumbered set of one that respects the facts is healthy in the universe of the facts.
 healthy : (u v : Universe) (p : ℕ) (facts : List Fact) (ids : List ℕ) (set : ℕ → Bool) → IsPart u p facts ids v → Respects u facts set → IsHealthy v (renumbered ids set)
