@@ -175,17 +175,24 @@ fn a_set_has_the_installed_packages_of_a_status_file() -> Result<(), Error> {
     Ok(())
 }
 
-#[test]
-fn packages_that_cannot_be_installed_have_lines() -> Result<(), Error> {
-    let package = |name: &str, more: &str| {
-        format!("Package: {name}\nVersion: 01\nArchitecture: all\n{more}\n")
-    };
-    let index = [
+/// A package for `all`.
+fn package(name: &str, more: &str) -> String {
+    format!("Package: {name}\nVersion: 01\nArchitecture: all\n{more}\n")
+}
+
+/// aa excludes what bb needs, which aa needs.
+fn three() -> String {
+    [
         package("aa", "Depends: bb\nConflicts: cc\n"),
         package("bb", "Depends: cc\nRecommends: aa\n"),
         package("cc", ""),
     ]
-    .concat();
+    .concat()
+}
+
+#[test]
+fn packages_that_cannot_be_installed_have_lines() -> Result<(), Error> {
+    let index = three();
     let aa = "uninstallable 1 aa 1 all\n";
     let report = installable(Members::All, false, None, "amd64", &index)?;
     assert_eq!((report.installable, report.text.as_str()), (false, aa));
@@ -222,15 +229,7 @@ fn packages_that_cannot_be_installed_have_lines() -> Result<(), Error> {
 
 #[test]
 fn a_set_with_a_package_has_lines() -> Result<(), Error> {
-    let package = |name: &str, more: &str| {
-        format!("Package: {name}\nVersion: 01\nArchitecture: all\n{more}\n")
-    };
-    let index = [
-        package("aa", "Depends: bb\nConflicts: cc\n"),
-        package("bb", "Depends: cc\nRecommends: aa\n"),
-        package("cc", ""),
-    ]
-    .concat();
+    let index = three();
     let ask =
         |recommends, name: &[u8]| witness(Members::All, recommends, None, "amd64", name, &index);
     let report = ask(false, b"bb")?;

@@ -164,15 +164,17 @@ fn a_report_on_a_status_file_has_states() -> Result<(), Error> {
     Ok(())
 }
 
+/// aa needs two packages that exclude each other, and a wildcard decides what ff needs.
+const CHOICES: &str = "Package: aa\nVersion: 1\nArchitecture: all\nDepends: bb | cc, dd | ee\n\n\
+    Package: bb\nVersion: 1\nArchitecture: all\nConflicts: dd, ee\n\n\
+    Package: cc\nVersion: 1\nArchitecture: all\nConflicts: dd, ee\n\n\
+    Package: dd\nVersion: 1\nArchitecture: all\n\n\
+    Package: ee\nVersion: 1\nArchitecture: all\n\n\
+    Package: ff\nVersion: 01\nArchitecture: i386\nDepends: zz [linux-any]\n\n";
+
 #[test]
 fn a_report_on_installable_packages_has_faults() -> Result<(), Error> {
-    let index = "Package: aa\nVersion: 1\nArchitecture: all\nDepends: bb | cc, dd | ee\n\n\
-        Package: bb\nVersion: 1\nArchitecture: all\nConflicts: dd, ee\n\n\
-        Package: cc\nVersion: 1\nArchitecture: all\nConflicts: dd, ee\n\n\
-        Package: dd\nVersion: 1\nArchitecture: all\n\n\
-        Package: ee\nVersion: 1\nArchitecture: all\n\n\
-        Package: ff\nVersion: 01\nArchitecture: i386\nDepends: zz [linux-any]\n\n\
-        Package: gg\nVersion: 1\nArchitecture: all\nDepends: zz\n";
+    let index = &format!("{CHOICES}Package: gg\nVersion: 1\nArchitecture: all\nDepends: zz\n");
     let loaded = Index::read(index)?;
     let package = |number| Ok::<_, Error>(loaded.package(number)?.expect("a package"));
     for (budget, first) in [
@@ -201,14 +203,10 @@ fn a_report_on_installable_packages_has_faults() -> Result<(), Error> {
 
 #[test]
 fn a_report_on_a_set_has_packages_or_faults() -> Result<(), Error> {
-    let index = "Package: aa\nVersion: 1\nArchitecture: all\nDepends: bb | cc, dd | ee\n\n\
-        Package: bb\nVersion: 1\nArchitecture: all\nConflicts: dd, ee\n\n\
-        Package: cc\nVersion: 1\nArchitecture: all\nConflicts: dd, ee\n\n\
-        Package: dd\nVersion: 1\nArchitecture: all\n\n\
-        Package: ee\nVersion: 1\nArchitecture: all\n\n\
-        Package: ff\nVersion: 01\nArchitecture: i386\nDepends: zz [linux-any]\n\n\
-        Package: gg\nVersion: 1\nArchitecture: all\nDepends: bb, cc\n\n\
-        Package: ff\nVersion: 1-0\nArchitecture: i386\nDepends: zz\n";
+    let index = &format!(
+        "{CHOICES}Package: gg\nVersion: 1\nArchitecture: all\nDepends: bb, cc\n\n\
+        Package: ff\nVersion: 1-0\nArchitecture: i386\nDepends: zz\n"
+    );
     let loaded = Index::read(index)?;
     let package = |number| Ok::<_, Error>(loaded.package(number)?.expect("a package"));
     let report = witness(Members::All, false, None, "amd64", "gg", index)?;

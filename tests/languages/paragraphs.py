@@ -278,9 +278,9 @@ def witness():
     )
 
 
-def refused_witness():
-    """Whether a file, a target, a kind and a budget that are wrong have their exceptions."""
-    ask = functools.partial(error, debctl.witness, "aa")
+def refused_search(call, *first):
+    """Whether a call that searches for a set has the exceptions of a wrong file, target, kind and budget."""
+    ask = functools.partial(error, call, *first)
     found = [
         ask(CONTROL.replace("01", "1-"), "amd64"), ask(INDEX, "amd64", kind="status"), ask("x", "any"),
     ]
@@ -296,6 +296,13 @@ def refused_witness():
         and [str(ask("x", "any", budget=it)) for it in budgets] == [f"no budget: {it}" for it in budgets]
         and all(isinstance(ask("x", "any", budget=it), TypeError) for it in (None, "1", 1.0))
         and isinstance(ask(SET, "amd64", "packages"), TypeError)
+    )
+
+
+def refused_witness():
+    """Whether a file, a target, a kind and a budget that are wrong have their exceptions."""
+    return (
+        refused_search(debctl.witness, "aa")
         and isinstance(error(debctl.witness, ["aa"], SET, "amd64"), TypeError)
         and isinstance(error(debctl.witness, "\ud800", SET, "amd64"), UnicodeEncodeError)
         and debctl.witness("aa", "", "amd64", budget=(1 << 32) - 1) == (False, "")
@@ -352,22 +359,8 @@ def refused_buildable():
 
 def refused_installable():
     """Whether a file, a target, a kind and a budget that are wrong have their exceptions."""
-    ask = functools.partial(error, debctl.installable)
-    found = [
-        ask(CONTROL.replace("01", "1-"), "amd64"), ask(INDEX, "amd64", kind="status"), ask("x", "any"),
-    ]
-    others, budgets = ["binary", "source", "sources", "any"], [0, -1, 1 << 32, 1 << 64]
     return (
-        [(it.name, it.line, it.second, it.field) for it in found] == [
-            ("BadVersion", 2, False, "Version"), ("MissingField", 1, False, "Status"),
-            ("BadEnvironment", 0, False, None),
-        ]
-        and [str(ask("x", "any", kind=it)) for it in others]
-        == [f"there are no sets of {it!r}" for it in others]
-        and isinstance(ask("x", "any", kind="installed"), ValueError)
-        and [str(ask("x", "any", budget=it)) for it in budgets] == [f"no budget: {it}" for it in budgets]
-        and all(isinstance(ask("x", "any", budget=it), TypeError) for it in (None, "1", 1.0))
-        and isinstance(ask(SET, "amd64", "packages"), TypeError)
+        refused_search(debctl.installable)
         and debctl.installable("", "amd64", budget=(1 << 32) - 1).installable
     )
 
