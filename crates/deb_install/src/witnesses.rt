@@ -118,7 +118,8 @@ fn write_sought<W: Sink>(
     ensures ok { (text : List ℕ) → ListsMembers request.now.members text (packages_of index.now)
         → KeepsMembers request.now.members (HoldsGiven request.now.members kept.now) text
         → IfOk result (λ sought. WritesWitness
-        (asks_by request.now (environment_of environment.now)) text sought (W.held writer.old) (W.held writer.new)) }
+        (asks_by request.now (environment_of environment.now)) text sought
+        (W.held writer.old) (W.held writer.new)) }
     ensures stopped { (text : List ℕ)
         → ListsMembers request.now.members text (packages_of index.now)
         → KeepsMembers request.now.members (HoldsGiven request.now.members kept.now) text

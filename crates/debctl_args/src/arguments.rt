@@ -128,12 +128,12 @@ impl From<AllocError> for UsageFault {
 ///   packages, sources or source` for another kind that is known; `usage: installable takes --index
 ///   only for source packages` and `usage: installable takes --profiles only for source packages`
 ///   for these options with packages; `usage: installable takes --only or --witness` for both of
-///   these; `usage: installable takes --recommends only for binary packages` and `usage: installable
-///   takes --only and --witness only for binary packages` for these options with source packages;
-///   `usage: installable takes source packages only with --index and PATH` if one of both is
-///   missing; `usage: --least takes a number` and `usage:
-///   --budget takes a number from 1 to 1000000000` for another N; `usage: --all takes neither
-///   --complete nor --least` for either with `--all`; otherwise that of `clap`.
+///   these; `usage: installable takes --recommends only for binary packages` and `usage:
+///   installable takes --only and --witness only for binary packages` for these options with source
+///   packages; `usage: installable takes source packages only with --index and PATH` if one of both
+///   is missing; `usage: --least takes a number` and `usage: --budget takes a number from 1 to
+///   1000000000` for another N; `usage: --all takes neither --complete nor --least` for either with
+///   `--all`; otherwise that of `clap`.
 /// - `UsageFault::Help`: the arguments ask for help or for the version.
 /// - `UsageFault::Memory`: a growth of memory was refused.
 pub fn job_of(alloc: Global, words: &[String]) -> Result<Task, UsageFault>

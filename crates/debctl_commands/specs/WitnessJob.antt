@@ -1,5 +1,5 @@
--- What the job of `installable --witness` answers and reports. Its lines are those of `deb_install`;
--- the order of refusals is this project's own.
+-- What the job of `installable --witness` answers and reports. Its lines are those of
+-- `deb_install`; the order of refusals is this project's own.
 use Rattle.std.specs.Prelude.{◌≡◌, ◌⊎◌, ℕ, true, false, List, [], Some, Result, IfErr, IfOk, IsTrue, refl}
 use Rattle.deb_base.specs.Devices.{read_failures_after, write_failures_after}
 use Rattle.deb_base.specs.declared.fault.Fault.{Fault}
