@@ -1,7 +1,6 @@
 -- Numbers that ask something don't ask nothing.
 use Rattle.std.proofs.Common.{◌≡◌, ◌≤◌, ◌<◌, ℕ, Bool, inl, inr, subst, arith}
 use Rattle.std.specs.Prelude.{IsTrue}
-use Rattle.deb_index.specs.Members.{doc_of as doc_of_set}
 use Rattle.deb_index.specs.declared.members.Members.{Members}
 use Rattle.deb_index.specs.declared.members.Members.TheVariants.{All, Installed}
 use Rattle.deb_unmet.specs.Asked.{doc_of}

@@ -29,7 +29,7 @@ pub record IsSought (strength : Strength) (names : List (List ℕ)) (by : Asker)
 
 -- These are the lines of a search that finds a set, or none; the answer has the number of the
 -- packages.
-pub record IsToldOfSearch (strength : Strength) (names : List (List ℕ)) (by : Asker) (found : Bool)
+pub record IsOfSearch (strength : Strength) (names : List (List ℕ)) (by : Asker) (found : Bool)
     (told : Answer) (bytes : List ℕ) (members : Members) : Type 0 where
   pub sought : Sought
   pub of : IsSought strength names by members sought bytes
@@ -40,6 +40,6 @@ pub record IsToldOfSearch (strength : Strength) (names : List (List ℕ)) (by : 
 abbrev pub Seeks : ℕ → Strength → List (List ℕ) → Asker → Answer → List ℕ → Type 0
 Seeks kind strength names by told bytes =
     ((told ≡ counting 0 told.count)
-    × OfMembers kind (IsToldOfSearch strength names by true told bytes))
+    × OfMembers kind (IsOfSearch strength names by true told bytes))
     ⊎ ((told ≡ counting 1 told.count)
-    × OfMembers kind (IsToldOfSearch strength names by false told bytes))
+    × OfMembers kind (IsOfSearch strength names by false told bytes))
