@@ -12,13 +12,19 @@
 //! ```
 //!
 //! - An `Installable` package is in a healthy set, and an `Uninstallable` one in none.
+//! - [`Reasoner`] finds a few facts of the universe that rule a package out.
 //! - The search isn't trusted: a healthy set is checked ([`is_healthy`]), and so is each step of a
 //!   derivation.
 #![tactic(auto)]
 
 mod budget;
+mod facts;
+mod finder;
 mod growth;
 mod health;
+mod parts;
+mod reach;
+mod reasoning;
 mod refuter;
 mod rows;
 mod search;
@@ -28,7 +34,9 @@ mod verdict;
 mod witnesses;
 
 pub use budget::Budget;
+pub use facts::Fact;
 pub use health::is_healthy;
+pub use reasoning::Reasoner;
 pub use rows::Rows;
 pub use universe::Universe;
 pub use verdict::{Verdict, solve};

@@ -3,7 +3,7 @@
 //!
 //! `pruning` finds the packages that need what nothing can meet; `state` keeps which packages are
 //! in the set and why, `propagation` finds what follows from that, and `analysis` learns from a
-//! conflict.
+//! conflict. `uses` notes which needs and exclusions that takes.
 
 ghost use Rattle.std.specs.Prelude.{◌≡◌};
 
@@ -11,12 +11,14 @@ mod analysis;
 mod propagation;
 mod pruning;
 mod state;
+mod uses;
 mod watches;
 
 use crate::health::row_of;
 use crate::refuter::{Draft, Reason, Refuter};
 use crate::tables::{Tables, narrow};
 use std::alloc::{AllocError, Global};
+pub(crate) use uses::Uses;
 
 /// A step counts once more for each time that it looks at so many numbers.
 const NUMBERS: usize = 1000;
@@ -91,6 +93,7 @@ pub(crate) struct Search<'t> {
     met_before: Vec<usize>,
     /// For the lists that are derived.
     draft: Draft,
+    pub(crate) uses: Uses,
     /// How many steps all searches took.
     pub(crate) steps: u32,
     /// How many numbers they looked at that no step is counted for yet.
@@ -120,6 +123,7 @@ impl<'t> Search<'t> {
             first_watch: Vec::new(alloc),
             met_before: Vec::new(alloc),
             draft: Draft::new(alloc, known.universe.needs.len())?,
+            uses: Uses::none(alloc),
             steps: 0,
             looked: 0,
         };

@@ -51,6 +51,7 @@ impl Search<'_> {
             let Some(pivot) = self.pivot_of(&list) else {
                 break;
             };
+            self.note_pivot(alloc, known, pivot)?;
             let Some(next) = known.resolve(alloc, &list, pivot, &self.reason, &mut self.draft)?
             else {
                 return Ok(None);
@@ -71,7 +72,10 @@ impl Search<'_> {
             (λ list. IsNogood known.now.universe.now list.items)) }
     {
         match conflict {
-            Conflict::Both { by, at } => known.list_of(alloc, by, Reason::Excluded { by, at }),
+            Conflict::Both { by, at } => {
+                self.uses.add_exclusion(by, at);
+                known.list_of(alloc, by, Reason::Excluded { by, at })
+            }
             Conflict::List(number) => known.list_of(alloc, 0, Reason::Derived(number)),
             Conflict::Unmet(group) => self.list_of_unmet(alloc, known, group),
         }
@@ -101,6 +105,8 @@ impl Search<'_> {
             at,
             candidate,
         };
+        self.note_reason(alloc, known, candidate)?;
+        self.note_pivot(alloc, known, pivot)?;
         known.resolve(alloc, &list, pivot, &self.reason, &mut self.draft)
     }
 

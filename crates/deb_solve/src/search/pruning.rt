@@ -60,6 +60,7 @@ impl Search<'_> {
         ensures { known.new.universe.now ≡ known.old.universe.now }
     {
         if !known.is_out(package) && known.prune(package, at) {
+            self.uses.add_pruned(package, at);
             self.drop_candidate(package, queue)?;
         }
         Ok(())
