@@ -5,7 +5,7 @@ use Rattle.std.specs.Char.{is_ascii_digit}
 use Rattle.std.proofs.lemmas.Bool.{cases_Bool, and_parts, or_parts, or_from, and_right, and_left, false≢true, eqb-true, not-true, false_from_ne_true}
 use Rattle.std.proofs.lemmas.List.{drop_at}
 use Rattle.deb_rows.specs.Cells.{begins_with_number, begins_with_space, cell_of, ends_with_colon, fits, is_cell, is_unstopped, number_goes_on, stops}
-use Rattle.deb_rows.specs.Kinds.{Piece, any_text, form_of, front_of, package_and, package_last, pieces_of}
+use Rattle.deb_rows.specs.Kinds.{Piece, any_text, form_of, front_of, group_and_candidates, package_and, package_before, package_last, pieces_of}
 use Rattle.deb_rows.specs.Rows.{are_cells, cells_text}
 use Rattle.deb_rows.specs.declared.cell.Class.{Class}
 use Rattle.deb_rows.specs.declared.cell.Class.TheVariants.{Number, Word, Key, Alternative, Reason, Group}
@@ -14,7 +14,7 @@ use Rattle.deb_rows.specs.declared.form.Form.TheVariants as form
 use Rattle.deb_rows.specs.declared.kind.RowKind.{RowKind}
 use Rattle.deb_rows.specs.declared.kind.RowKind.TheVariants as kind
 use Rattle.deb_rows.proofs.Ends.{Closes, cell_of-closed}
-use Rattle.deb_rows.proofs.KindFacts.{alternative_colon, group_by, group_line, key_colon, number_comma, number_line, number_space, word_space}
+use Rattle.deb_rows.proofs.KindFacts.{alternative_colon, group_by, group_line, key_colon, number_comma, number_line, number_space, word_excludes, word_left_out, word_needs, word_space}
 
 -- ---- the kind of the line that a text begins with
 
@@ -75,8 +75,20 @@ health_kind text =
     cond (get_or text 0 0 == 99) kind.Conflict
     (cond (get_or text 0 0 == 100) kind.Duplicate (cond (get_or text 0 0 == 115) kind.State (cond (get_or text 2 0 == 109) kind.UnmetNeed (unsure_kind (drop 7 text)))))
 
+-- of what follows the package, and of its line after the first space
+abbrev pub needs_kind : List ℕ → RowKind
+needs_kind tail =
+    cond (get_or tail 1 0 == 110) kind.Need
+    (cond (get_or tail 1 0 == 101) kind.Exclusion kind.LeftOut)
+
+abbrev pub fact_kind : List ℕ → RowKind
+fact_kind text = needs_kind (after_cell Word (skip Word (skip Word (skip Number text))))
+
 abbrev pub installable_kind : List ℕ → RowKind
-installable_kind text = cond (get_or text 2 0 == 105) kind.Uninstallable (cond (get_or text 2 0 == 115) kind.Unsure kind.Undecided)
+installable_kind text =
+    cond (get_or text 0 0 == 32) (fact_kind (drop 1 text))
+    (cond (get_or text 2 0 == 105) kind.Uninstallable
+    (cond (get_or text 2 0 == 115) kind.Unsure kind.Undecided))
 
 abbrev pub text_kind : Form → List ℕ → RowKind
 text_kind form.Report text = report_kind text
@@ -370,6 +382,60 @@ unsure_conflict_kind cells more e =
     ∙ ap (λ t. cond (get_or t 0 0 == 10) kind.UnsureNeed kind.UnsureConflict)
     (past_cell Group g (codes " by " ++ (line ++ more)) (group_by (word ∷ word ∷ last_word ∷ []) group.rest more group.are) group.is)
 
+-- ---- why a package can't be installed
+
+-- what is left after the architecture of a package
+record Behind (after : List ℕ) (pieces : List Piece) (text more : List ℕ) : Type 0 where
+  rest : List (List ℕ)
+  same : after_cell Word (skip Word (skip Word (skip Number text)))
+      ≡ after ++ (cells_text pieces rest ++ more)
+
+behind_package : (after : List ℕ) (pieces : List Piece) (cells : List (List ℕ)) (more : List ℕ)
+    → ((more : List ℕ) → Closes Word (after ++ more))
+    → are_cells (package_before after pieces) cells ≡ true
+    → Behind after pieces (cells_text (package_before after pieces) cells ++ more) more
+behind_package after pieces cells more closes e =
+    let last : Piece = (Word, after) in
+    let p3 = last ∷ pieces in
+    let p2 = word ∷ p3 in
+    let p1 = word ∷ p2 in
+    let one = split number p1 cells e in
+    let two = split word p2 one.rest one.are in
+    let three = split word p3 two.rest two.are in
+    let four = split last pieces three.rest three.are in
+    let line = cells_text pieces four.rest in
+    record {
+      rest = four.rest;
+      same =
+          ap (λ t. after_cell Word (skip Word (skip Word t))) (skip_number p1 cells more e)
+          ∙ ap (λ t. after_cell Word (skip Word t)) (skip_word p2 one.rest more one.are)
+          ∙ ap (after_cell Word) (skip_word p3 two.rest more two.are)
+          ∙ ap (λ l. after_cell Word (cells_text p3 l ++ more)) four.same
+          ∙ ap (after_cell Word)
+          (append_assoc four.first (after ++ line) more
+          ∙ ap (λ l. four.first ++ l) (append_assoc after line more))
+          ∙ past_cell Word four.first (after ++ (line ++ more)) (closes (line ++ more)) four.is;
+    }
+
+need_kind : (cells : List (List ℕ)) (more : List ℕ)
+    → are_cells (pieces_of kind.Need) cells ≡ true
+    → fact_kind (cells_text (pieces_of kind.Need) cells ++ more) ≡ kind.Need
+need_kind cells more e =
+    ap needs_kind
+    (behind_package (codes " needs ") group_and_candidates cells more word_needs e).same
+
+exclusion_kind : (cells : List (List ℕ)) (more : List ℕ)
+    → are_cells (pieces_of kind.Exclusion) cells ≡ true
+    → fact_kind (cells_text (pieces_of kind.Exclusion) cells ++ more) ≡ kind.Exclusion
+exclusion_kind cells more e =
+    ap needs_kind (behind_package (codes " excludes ") package_last cells more word_excludes e).same
+
+left_out_kind : (cells : List (List ℕ)) (more : List ℕ)
+    → are_cells (pieces_of kind.LeftOut) cells ≡ true
+    → fact_kind (cells_text (pieces_of kind.LeftOut) cells ++ more) ≡ kind.LeftOut
+left_out_kind cells more e =
+    ap needs_kind (behind_package (codes " is left out\n") [] cells more word_left_out e).same
+
 -- ---- every kind
 
 pub line_kind : (of : RowKind) (cells : List (List ℕ)) (more : List ℕ) → are_cells (pieces_of of) cells ≡ true
@@ -403,3 +469,6 @@ line_kind kind.State cells more e = refl
 line_kind kind.Uninstallable cells more e = refl
 line_kind kind.Unsure cells more e = refl
 line_kind kind.Undecided cells more e = refl
+line_kind kind.Need cells more e = need_kind cells more e
+line_kind kind.Exclusion cells more e = exclusion_kind cells more e
+line_kind kind.LeftOut cells more e = left_out_kind cells more e

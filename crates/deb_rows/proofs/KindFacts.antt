@@ -4,7 +4,7 @@ use Rattle.std.specs.Prelude.{◌==◌, ◌&&◌, ◌||◌, codes}
 use Rattle.std.specs.Char.{is_ascii_digit}
 use Rattle.std.proofs.lemmas.Bool.{cases_Bool, and_parts, false≢true}
 use Rattle.deb_rows.specs.Cells.{begins_with_by, cell_of, is_cell, is_unstopped, stops}
-use Rattle.deb_rows.specs.Kinds.{Piece, any_text, field_and_excluded, field_and_group, form_of, kinds_of, package_and, package_last, package_twice, pieces_of, word_and_text}
+use Rattle.deb_rows.specs.Kinds.{Piece, any_text, field_and_excluded, field_and_group, form_of, group_and_candidates, kinds_of, package_and, package_before, package_last, package_twice, pieces_of, word_and_text}
 use Rattle.deb_rows.specs.Rows.{are_cells, cells_text}
 use Rattle.deb_rows.specs.declared.cell.Class.{Class}
 use Rattle.deb_rows.specs.declared.cell.Class.TheVariants.{Number, Word, Key, Alternative, Reason, Line, Group}
@@ -32,6 +32,15 @@ word_space more = record { empty = refl; same = λ b bs. refl }
 
 word_line : (more : List ℕ) → Closes Word (codes "\n" ++ more)
 word_line more = record { empty = refl; same = λ b bs. refl }
+
+pub word_needs : (more : List ℕ) → Closes Word (codes " needs " ++ more)
+word_needs more = record { empty = refl; same = λ b bs. refl }
+
+pub word_excludes : (more : List ℕ) → Closes Word (codes " excludes " ++ more)
+word_excludes more = record { empty = refl; same = λ b bs. refl }
+
+pub word_left_out : (more : List ℕ) → Closes Word (codes " is left out\n" ++ more)
+word_left_out more = record { empty = refl; same = λ b bs. refl }
 
 word_with : (more : List ℕ) → Closes Word (codes " with " ++ more)
 word_with more = record { empty = refl; same = λ b bs. refl }
@@ -144,6 +153,18 @@ twice_closes =
     (word_first (with ∷ rest)
     (always Word (codes " with ") rest word_with, number_first last (word_first ((Word, codes "\n") ∷ []) last_closes))))
 
+before_closes : (after : List ℕ) (pieces : List Piece)
+    → ((more : List ℕ) → Closes Word (after ++ more)) → Close pieces
+    → Close (package_before after pieces)
+before_closes after pieces closes close =
+    let last : Piece = (Word, after) in
+    number_first ((Word, codes " ") ∷ (Word, codes " ") ∷ last ∷ pieces)
+    (word_first ((Word, codes " ") ∷ last ∷ pieces)
+    (word_first (last ∷ pieces) (always Word after pieces closes, close)))
+
+candidates_close : Close group_and_candidates
+candidates_close = (always Alternative (codes ": ") any_text alternative_colon, text_closes)
+
 pub cells_close : (kind : RowKind) → Close (pieces_of kind)
 cells_close kind.Met = text_closes
 cells_close kind.Unmet = text_closes
@@ -176,6 +197,11 @@ cells_close kind.State = package_and_closes any_text text_closes
 cells_close kind.Uninstallable = package_closes
 cells_close kind.Unsure = package_closes
 cells_close kind.Undecided = package_closes
+cells_close kind.Need =
+    before_closes (codes " needs ") group_and_candidates word_needs candidates_close
+cells_close kind.Exclusion =
+    before_closes (codes " excludes ") package_last word_excludes package_closes
+cells_close kind.LeftOut = before_closes (codes " is left out\n") [] word_left_out tt
 
 -- a kind is one of these
 abbrev pub IsAmong : RowKind → List RowKind → Type 0
@@ -212,6 +238,9 @@ is_among kind.State = inr (inr (inr (inr (inr (inl refl)))))
 is_among kind.Uninstallable = inl refl
 is_among kind.Unsure = inr (inl refl)
 is_among kind.Undecided = inr (inr (inl refl))
+is_among kind.Need = inr (inr (inr (inl refl)))
+is_among kind.Exclusion = inr (inr (inr (inr (inl refl))))
+is_among kind.LeftOut = inr (inr (inr (inr (inr (inl refl)))))
 
 -- these kinds are of a form
 abbrev pub AreOf : Form → List RowKind → Type 0
@@ -224,4 +253,4 @@ are_of_form form.UnmetLines = (refl, (refl, tt))
 are_of_form form.DiffLines = (refl, (refl, (refl, (refl, (refl, (refl, (refl, tt)))))))
 are_of_form form.Explanation = (refl, (refl, (refl, (refl, (refl, tt)))))
 are_of_form form.HealthLines = (refl, (refl, (refl, (refl, (refl, (refl, tt))))))
-are_of_form form.InstallableLines = (refl, (refl, (refl, tt)))
+are_of_form form.InstallableLines = (refl, (refl, (refl, (refl, (refl, (refl, tt))))))

@@ -78,6 +78,9 @@ few_pieces kind.State = omega arith
 few_pieces kind.Uninstallable = omega arith
 few_pieces kind.Unsure = omega arith
 few_pieces kind.Undecided = omega arith
+few_pieces kind.Need = omega arith
+few_pieces kind.Exclusion = omega arith
+few_pieces kind.LeftOut = omega arith
 
 entry_names : (form : Form) (text : List ℕ) (row : RowText) (start : ℕ) (more : List ℕ) → IsRow form row → drop start text ≡ row_line row ++ more
     → cells_in text (row_at start row) ≡ row.cells

@@ -103,6 +103,9 @@ line_bytes kind.State cells e = refl
 line_bytes kind.Uninstallable cells e = refl
 line_bytes kind.Unsure cells e = refl
 line_bytes kind.Undecided cells e = refl
+line_bytes kind.Need cells e = refl
+line_bytes kind.Exclusion cells e = refl
+line_bytes kind.LeftOut cells e = refl
 
 some_bytes : (text : List ℕ) → has_bytes text ≡ true → 1 ≤ length text
 some_bytes [] e = absurd (false≢true e)

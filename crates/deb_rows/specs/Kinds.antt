@@ -48,6 +48,9 @@ front_of kind.State = codes "state "
 front_of kind.Uninstallable = codes "uninstallable "
 front_of kind.Unsure = codes "unsure "
 front_of kind.Undecided = codes "undecided "
+front_of kind.Need = codes " "
+front_of kind.Exclusion = codes " "
+front_of kind.LeftOut = codes " "
 
 -- a number, name, version and architecture, each with a space after it, and more
 abbrev pub package_and : List Piece → List Piece
@@ -78,6 +81,15 @@ abbrev pub package_twice : List Piece
 package_twice =
     (Number, codes " ") ∷ (Word, codes " ") ∷ (Word, codes " ") ∷ (Word, codes " with ")
     ∷ (Number, codes " ") ∷ (Word, codes " ") ∷ (Word, codes "\n") ∷ []
+
+-- a number, name, version and architecture, with this text after the last, and more
+abbrev pub package_before : List ℕ → List Piece → List Piece
+package_before after more =
+    (Number, codes " ") ∷ (Word, codes " ") ∷ (Word, codes " ") ∷ (Word, after) ∷ more
+
+-- a group, and the packages that meet it
+abbrev pub group_and_candidates : List Piece
+group_and_candidates = (Alternative, codes ": ") ∷ any_text
 
 -- the cells of a line
 abbrev pub pieces_of : RowKind → List Piece
@@ -110,6 +122,9 @@ pieces_of kind.State = package_and any_text
 pieces_of kind.Uninstallable = package_last
 pieces_of kind.Unsure = package_last
 pieces_of kind.Undecided = package_last
+pieces_of kind.Need = package_before (codes " needs ") group_and_candidates
+pieces_of kind.Exclusion = package_before (codes " excludes ") package_last
+pieces_of kind.LeftOut = package_before (codes " is left out\n") []
 
 -- the number of a kind in a table
 abbrev pub number_of : RowKind → ℕ
@@ -142,6 +157,9 @@ number_of kind.State = 25
 number_of kind.Uninstallable = 26
 number_of kind.Unsure = 27
 number_of kind.Undecided = 28
+number_of kind.Need = 29
+number_of kind.Exclusion = 30
+number_of kind.LeftOut = 31
 
 -- the form of the texts that have a kind
 abbrev pub form_of : RowKind → Form
@@ -174,6 +192,9 @@ form_of kind.State = form.HealthLines
 form_of kind.Uninstallable = form.InstallableLines
 form_of kind.Unsure = form.InstallableLines
 form_of kind.Undecided = form.InstallableLines
+form_of kind.Need = form.InstallableLines
+form_of kind.Exclusion = form.InstallableLines
+form_of kind.LeftOut = form.InstallableLines
 
 -- the kinds of a form
 abbrev pub kinds_of : Form → List RowKind
@@ -187,7 +208,9 @@ kinds_of form.Explanation = kind.Key ∷ kind.End ∷ kind.Count ∷ kind.Summar
 kinds_of form.HealthLines =
     kind.UnmetNeed ∷ kind.UnsureNeed ∷ kind.Conflict ∷ kind.UnsureConflict ∷ kind.Duplicate
     ∷ kind.State ∷ []
-kinds_of form.InstallableLines = kind.Uninstallable ∷ kind.Unsure ∷ kind.Undecided ∷ []
+kinds_of form.InstallableLines =
+    kind.Uninstallable ∷ kind.Unsure ∷ kind.Undecided ∷ kind.Need ∷ kind.Exclusion
+    ∷ kind.LeftOut ∷ []
 
 -- Worked cases.
 
@@ -213,10 +236,20 @@ pieces_of_sets : (pieces_of kind.UnmetNeed ≡ (Number, codes " ") ∷ (Word, co
     × (pieces_of kind.State ≡ pieces_of kind.Changed)
 pieces_of_sets = (refl, refl, refl, refl, refl, refl)
 
-pieces_of_verdicts : map pieces_of (kinds_of form.InstallableLines)
+pieces_of_verdicts : map pieces_of (kind.Uninstallable ∷ kind.Unsure ∷ kind.Undecided ∷ [])
     ≡ replicate 3 ((Number, codes " ") ∷ (Word, codes " ") ∷ (Word, codes " ")
     ∷ (Word, codes "\n") ∷ [])
 pieces_of_verdicts = refl
+
+pieces_of_reasons : (pieces_of kind.Need ≡ (Number, codes " ") ∷ (Word, codes " ")
+    ∷ (Word, codes " ") ∷ (Word, codes " needs ") ∷ (Alternative, codes ": ")
+    ∷ (Line, codes "\n") ∷ [])
+    × (pieces_of kind.Exclusion ≡ (Number, codes " ") ∷ (Word, codes " ") ∷ (Word, codes " ")
+    ∷ (Word, codes " excludes ") ∷ (Number, codes " ") ∷ (Word, codes " ") ∷ (Word, codes " ")
+    ∷ (Word, codes "\n") ∷ [])
+    × (pieces_of kind.LeftOut ≡ (Number, codes " ") ∷ (Word, codes " ") ∷ (Word, codes " ")
+    ∷ (Word, codes " is left out\n") ∷ [])
+pieces_of_reasons = (refl, refl, refl)
 
 -- the kinds have the numbers of `deb_row_kind` in `include/debctl.h`
 numbers : map (map number_of)
@@ -225,7 +258,7 @@ numbers : map (map number_of)
     ∷ [])
     ≡ (0 ∷ 1 ∷ 2 ∷ 3 ∷ 4 ∷ 5 ∷ []) ∷ (6 ∷ 7 ∷ []) ∷ (8 ∷ 9 ∷ 10 ∷ 11 ∷ 12 ∷ 13 ∷ 19 ∷ [])
     ∷ (14 ∷ 15 ∷ 16 ∷ 17 ∷ 18 ∷ []) ∷ (20 ∷ 21 ∷ 22 ∷ 23 ∷ 24 ∷ 25 ∷ [])
-    ∷ (26 ∷ 27 ∷ 28 ∷ []) ∷ []
+    ∷ (26 ∷ 27 ∷ 28 ∷ 29 ∷ 30 ∷ 31 ∷ []) ∷ []
 numbers = refl
 
 forms : map (map form_of)
@@ -234,5 +267,5 @@ forms : map (map form_of)
     ∷ [])
     ≡ replicate 6 form.Report ∷ replicate 2 form.UnmetLines ∷ replicate 7 form.DiffLines
     ∷ replicate 5 form.Explanation ∷ replicate 6 form.HealthLines
-    ∷ replicate 3 form.InstallableLines ∷ []
+    ∷ replicate 6 form.InstallableLines ∷ []
 forms = refl

@@ -189,6 +189,20 @@ verdicts : (row_line (row kind.Uninstallable
     ≡ codes "undecided 6 cc 1.0 i386\n")
 verdicts = (refl, refl, refl)
 
+reasons_of_verdicts : (row_line (row kind.Need
+    (codes "4" ∷ codes "aa" ∷ codes "1:2-1" ∷ codes "amd64" ∷ codes "b (>= 1:2) | cc"
+    ∷ codes "59 600" ∷ []))
+    ≡ codes " 4 aa 1:2-1 amd64 needs b (>= 1:2) | cc: 59 600\n")
+    × (row_line (row kind.Need
+    (codes "4" ∷ codes "aa" ∷ codes "1" ∷ codes "all" ∷ codes "dpkg (Essential)" ∷ codes "none"
+    ∷ [])) ≡ codes " 4 aa 1 all needs dpkg (Essential): none\n")
+    × (row_line (row kind.Exclusion
+    (codes "5" ∷ codes "bb" ∷ codes "1" ∷ codes "all" ∷ codes "59" ∷ codes "cc" ∷ codes "2"
+    ∷ codes "i386" ∷ [])) ≡ codes " 5 bb 1 all excludes 59 cc 2 i386\n")
+    × (row_line (row kind.LeftOut (codes "6" ∷ codes "cc" ∷ codes "1.0" ∷ codes "all" ∷ []))
+    ≡ codes " 6 cc 1.0 all is left out\n")
+reasons_of_verdicts = (refl, refl, refl, refl)
+
 lines : rows_text (row kind.Met (codes "a" ∷ []) ∷ row kind.Unmet (codes "b" ∷ []) ∷ [])
     ≡ codes "met a\nunmet b\n"
 lines = refl

@@ -18,7 +18,7 @@ pub enum Form {
     Explanation,
     /// Why a set of packages isn't healthy.
     HealthLines,
-    /// Which packages can't be installed.
+    /// Which packages can't be installed, with or without reasons.
     InstallableLines,
 }
 
@@ -60,6 +60,13 @@ pub(crate) fn kinds_of(form: Form) -> &'static [RowKind]
             RowKind::Duplicate,
             RowKind::State,
         ],
-        Form::InstallableLines => &[RowKind::Uninstallable, RowKind::Unsure, RowKind::Undecided],
+        Form::InstallableLines => &[
+            RowKind::Uninstallable,
+            RowKind::Unsure,
+            RowKind::Undecided,
+            RowKind::Need,
+            RowKind::Exclusion,
+            RowKind::LeftOut,
+        ],
     }
 }

@@ -71,6 +71,14 @@ pub enum RowKind {
     Unsure = 27,
     /// A package of which the search didn't find that out, likewise.
     Undecided = 28,
+    /// What a package needs: number, package, version, architecture, group, candidates. These are
+    /// the numbers of the packages that meet the group, or `none`. The group is `NAME (Essential)`
+    /// if every package needs one of this name.
+    Need = 29,
+    /// A package excludes another one: number, package, version, architecture of both.
+    Exclusion = 30,
+    /// A package is left out of every set: number, package, version, architecture.
+    LeftOut = 31,
 }
 
 /// The text before the first cell of a line of this kind.
@@ -81,7 +89,12 @@ pub(crate) fn front_of(kind: RowKind) -> &'static [u8]
         RowKind::Met => b"met ",
         RowKind::Unmet | RowKind::UnmetGroup | RowKind::UnmetNeed => b"unmet ",
         RowKind::Ignored => b"ignored ",
-        RowKind::Package | RowKind::Reason | RowKind::PackageReason => b" ",
+        RowKind::Package
+        | RowKind::Reason
+        | RowKind::PackageReason
+        | RowKind::Need
+        | RowKind::Exclusion
+        | RowKind::LeftOut => b" ",
         RowKind::UnsureGroup | RowKind::UnsureNeed | RowKind::UnsureConflict | RowKind::Unsure =>
             b"unsure ",
         RowKind::Conflict => b"conflict ",
@@ -177,6 +190,33 @@ const PACKAGE_TWICE: Pieces = &[
     (Class::Word, b"\n"),
 ];
 
+const PACKAGE_NEEDS: Pieces = &[
+    (Class::Number, b" "),
+    (Class::Word, b" "),
+    (Class::Word, b" "),
+    (Class::Word, b" needs "),
+    (Class::Alternative, b": "),
+    (Class::Line, b"\n"),
+];
+
+const PACKAGE_EXCLUDES: Pieces = &[
+    (Class::Number, b" "),
+    (Class::Word, b" "),
+    (Class::Word, b" "),
+    (Class::Word, b" excludes "),
+    (Class::Number, b" "),
+    (Class::Word, b" "),
+    (Class::Word, b" "),
+    (Class::Word, b"\n"),
+];
+
+const PACKAGE_LEFT_OUT: Pieces = &[
+    (Class::Number, b" "),
+    (Class::Word, b" "),
+    (Class::Word, b" "),
+    (Class::Word, b" is left out\n"),
+];
+
 /// The cells of a line of this kind.
 pub(crate) fn pieces_of(kind: RowKind) -> Pieces
     ensures pieces { map piece_in result.now ≡ pieces_of kind }
@@ -201,6 +241,9 @@ pub(crate) fn pieces_of(kind: RowKind) -> Pieces
         RowKind::UnmetNeed | RowKind::UnsureNeed => PACKAGE_FIELD_AND_GROUP,
         RowKind::Conflict | RowKind::UnsureConflict => PACKAGE_FIELD_AND_EXCLUDED,
         RowKind::Duplicate => PACKAGE_TWICE,
+        RowKind::Need => PACKAGE_NEEDS,
+        RowKind::Exclusion => PACKAGE_EXCLUDES,
+        RowKind::LeftOut => PACKAGE_LEFT_OUT,
         RowKind::Key => &[(Class::Key, b": "), (Class::Line, b"\n")],
         RowKind::Count => &[(Class::Number, b"\n")],
         RowKind::Summary => &[(Class::Number, b", "), (Class::Number, b" refused\n")],
