@@ -1,10 +1,17 @@
 -- A package that is added outside a set changes nothing for the set.
-use Rattle.std.proofs.Common.{◌≡◌, ℕ, suc, ◌+◌, ◌-◌, ◌<◌, ◌≤◌, ltb, Bool, true, false, cond, ◌&&◌, List, [], ◌∷◌, ◌++◌, length, refl, sym, ap, ◌∙◌, arith}
+use Rattle.std.proofs.Common.{◌≡◌, ℕ, suc, ◌+◌, ◌-◌, ◌<◌, ◌≤◌, ltb, Bool, true, false, cond, ◌&&◌, List, [], ◌∷◌, ◌++◌, length, map, codes, refl, sym, ap, ◌∙◌, arith}
 use Rattle.std.proofs.lemmas.Bool.{le-ltb, lt-ltb, ltb-false, ltb-true}
-use Rattle.std.proofs.lemmas.List.{length-append}
+use Rattle.std.specs.List.{filter}
+use Rattle.std.proofs.lemmas.List.{length-append, map-append}
+use Rattle.std.proofs.lemmas.List.Elements.{filter-append}
+use Rattle.deb_field.specs.Values.{ValueMeaning}
+use Rattle.deb_control.specs.Documents.{Meaning}
+use Rattle.deb_control.specs.FieldWords.{word_under}
+use Rattle.deb_control.specs.ValueFiles.{ValueEntries}
 use Rattle.deb_install.specs.Installable.{is_healthy_in}
 use Rattle.deb_install.specs.Laws.{AddingKeepsInstallable, moved}
 use Rattle.deb_install.specs.Members.{members_from, members_of}
+use Rattle.deb_install.specs.Terms.{Terms, essential_names, has_each, has_none, is_allowed, is_essential}
 use Rattle.deb_install.proofs.Sets.{members-same, members-shifted}
 
 members-append : {X : Type 0} (set : ℕ → Bool) (n : ℕ) (xs ys : List X) → members_from set n (xs ++ ys) ≡ members_from set n xs ++ members_from set (n + length xs) ys
@@ -76,8 +83,28 @@ module _ (before : ℕ) (set : ℕ → Bool) (number : ℕ) where
       go true = (omega arith, omega (arith, within.1, more))
       go false = (within.0, omega (arith, within.1, more))
 
+-- the essential names once a package is added that is none
+names-append : (t : Terms) (target : List ℕ) (xs ys : Meaning) → essential_names t target (xs ++ ys) ≡ essential_names t target xs ++ essential_names t target ys
+names-append t target xs ys = go t.essential
+  where
+    name : ValueEntries ValueMeaning → List ℕ
+    name = word_under (codes "Package")
+
+    test : ValueEntries ValueMeaning → Bool
+    test = is_essential t.without target
+
+    go : (v : Bool) → cond v (map name (filter test (xs ++ ys))) [] ≡ cond v (map name (filter test xs)) [] ++ cond v (map name (filter test ys)) []
+    go true = ap (map name) (filter-append test xs ys) ∙ map-append name (filter test xs) (filter test ys)
+    go false = refl
+
+names-added : (t : Terms) (target : List ℕ) (earlier later : Meaning) (values : ValueEntries ValueMeaning) → essential_names t target (values ∷ []) ≡ [] → essential_names t target (earlier ++ values ∷ later) ≡ essential_names t target (earlier ++ later)
+names-added t target earlier later values nothing =
+    names-append t target earlier (values ∷ later)
+    ∙ ap (λ names. essential_names t target earlier ++ names) (names-append t target (values ∷ []) later ∙ ap (λ names. names ++ essential_names t target later) nothing)
+    ∙ sym (names-append t target earlier later)
+
 pub adding : AddingKeepsInstallable
-adding readings strength environment before after earlier later p values number long installable =
+adding readings t environment before after earlier later p values number long nothing installable =
     let b = length before in
     let set = installable.set in
     let same = members-added b set before after p refl in
@@ -89,5 +116,9 @@ adding readings strength environment before after earlier later p values number 
       set = without_added b set;
       contains = moved-contained b set number installable.contains;
       listed = moved-listed b set number (length (before ++ after)) (length (before ++ p ∷ after)) installable.listed grown;
-      healthy = (λ i. is_healthy_in readings strength environment (same i) (alike i)) ∙ installable.healthy;
+      healthy =
+          (λ i. is_allowed t environment.native (earlier ++ values ∷ later) (same i) && is_healthy_in readings t.strength environment (same i) (alike i))
+          ∙ ap (λ names. (has_none t.without (members_of set (before ++ after)) && has_each names (members_of set (before ++ after))) && is_healthy_in readings t.strength environment (members_of set (before ++ after)) (members_of set (earlier ++ later)))
+          (names-added t environment.native earlier later values nothing)
+          ∙ installable.healthy;
     }

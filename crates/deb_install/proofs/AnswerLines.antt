@@ -13,14 +13,14 @@ use Rattle.deb_index.proofs.Numbered.{from-one}
 use Rattle.deb_relation.specs.Applying.{Environment}
 use Rattle.deb_solve.specs.declared.verdict.Verdict.{Verdict}
 use Rattle.deb_solve.specs.declared.verdict.Verdict.TheVariants as solved
-use Rattle.deb_unmet.specs.declared.asked.Strength.{Strength}
+use Rattle.deb_install.specs.Terms.{Terms}
 use Rattle.deb_install.specs.Answers.{AreAnswers, AreVerdictsIn, Says, answer_at, answer_by, lines_from}
 use Rattle.deb_install.specs.declared.readings.Readings.TheVariants.{Every, One}
 
-abbrev any : Listed
+abbrev pub any : Listed
 any = listed [] [] []
 
-place : (packages : List Listed) (i : ℕ) → i < length packages → package_at (i + 1) packages ≡ Some (get_or packages i any)
+pub place : (packages : List Listed) (i : ℕ) → i < length packages → package_at (i + 1) packages ≡ Some (get_or packages i any)
 place packages i within =
     ap (λ b. if b then None else slice_get packages ((i + 1) - 1)) (from-one (i + 1) (omega arith))
     ∙ ap (slice_get packages) (omega arith)
@@ -49,8 +49,8 @@ known-at [] n v known is = absurd (known is)
 known-at (w ∷ verdicts) zero v known is = ap Some is
 known-at (w ∷ verdicts) (suc n) v known is = known-at verdicts n v known is
 
-module _ (strength : Strength) (environment : Environment) (packages : List Listed) (meaning : Meaning) (every one : List Verdict) (in_every : AreVerdictsIn Every strength environment packages meaning every) (in_one : AreVerdictsIn One strength environment packages meaning one) where
-  say : (number : ℕ) → 1 ≤ number → number ≤ length packages → (v w : Verdict) → slice_index_or every number solved.Undecided ≡ v → slice_index_or one number solved.Undecided ≡ w → Says (answer_by v w) strength environment packages meaning number
+module _ (t : Terms) (environment : Environment) (packages : List Listed) (meaning : Meaning) (every one : List Verdict) (in_every : AreVerdictsIn Every t environment packages meaning every) (in_one : AreVerdictsIn One t environment packages meaning one) where
+  say : (number : ℕ) → 1 ≤ number → number ≤ length packages → (v w : Verdict) → slice_index_or every number solved.Undecided ≡ v → slice_index_or one number solved.Undecided ≡ w → Says (answer_by v w) t environment packages meaning number
   say number some most solved.Installable w is is_one = in_every.yes number some most (known-at every number solved.Installable (λ e. cc) is)
   say number some most solved.Undecided w is is_one = tt
   say number some most solved.Uninstallable solved.Installable is is_one =
@@ -58,5 +58,5 @@ module _ (strength : Strength) (environment : Environment) (packages : List List
   say number some most solved.Uninstallable solved.Uninstallable is is_one = in_one.no number some most (known-at one number solved.Uninstallable (λ e. cc) is_one)
   say number some most solved.Uninstallable solved.Undecided is is_one = tt
 
-  pub answers-true : AreAnswers strength environment packages meaning (answer_at every one)
+  pub answers-true : AreAnswers t environment packages meaning (answer_at every one)
   answers-true number some most = say number some most (slice_index_or every number solved.Undecided) (slice_index_or one number solved.Undecided) refl refl

@@ -87,7 +87,7 @@ map-one : {X : Type 0} (f : X → List ℕ) (v : Bool) (x : X) (kept : List X) (
 map-one f true x kept rest is = ap (λ l. f x ∷ l) is
 map-one f false x kept rest is = is
 
-map-kept : {X : Type 0} (f : X → List ℕ) (test : X → Bool) (xs : List X) → map f (filter test xs) ≡ flat_map (λ x. cond (test x) (f x ∷ []) []) xs
+pub map-kept : {X : Type 0} (f : X → List ℕ) (test : X → Bool) (xs : List X) → map f (filter test xs) ≡ flat_map (λ x. cond (test x) (f x ∷ []) []) xs
 map-kept f test [] = refl
 map-kept f test (x ∷ xs) = map-one f (test x) x (filter test xs) (flat_map (λ x. cond (test x) (f x ∷ []) []) xs) (map-kept f test xs)
 

@@ -14,7 +14,7 @@ use Rattle.deb_unmet.specs.declared.asking.Summary.{Summary}
 use Rattle.deb_install.specs.BuildFiles.{AsksBuildable, BeginsBuildable, BuildAnswers, StopsBuildable, WritesBuildable}
 use Rattle.deb_install.specs.KeptSources.{HoldsSources}
 use Rattle.deb_install.specs.ReadPackages.{HoldsFile}
-use Rattle.deb_install.specs.SourceAnswers.{HasSourceAnswers}
+use Rattle.deb_install.specs.SourceExplaining.{HasSourceAnswers}
 use Rattle.deb_install.specs.declared.kept_source.KeptSource.{KeptSource}
 use Rattle.deb_install.specs.declared.packages.Packages.{Packages}
 use Rattle.deb_install.proofs.FileAnswers.{HeldFile, held-file}
@@ -22,7 +22,7 @@ use Rattle.deb_install.proofs.FileAnswers.{HeldFile, held-file}
 pub file-held : (asks : AsksBuildable) (packages : Packages) → HoldsFile asks.members asks.index packages → HeldFile asks.members asks.index (packages_of packages.index) packages.kept.items
 file-held asks packages holds = held-file asks.members asks.index (packages_of packages.index) packages.kept.items holds.lists holds.keeps
 
-module _ (asks : AsksBuildable) (text : List ℕ) (packages : Packages) (kept : List KeptSource) (holds : HoldsFile asks.members asks.index packages) (sources : HoldsSources asks.kind text kept) (lines : List ℕ) (has : HasSourceAnswers asks.kind asks.environment (packages_of packages.index) (filter (has_values asks.members) (file-held asks packages holds).meaning) sources.meaning lines) where
+module _ (asks : AsksBuildable) (text : List ℕ) (packages : Packages) (kept : List KeptSource) (holds : HoldsFile asks.members asks.index packages) (sources : HoldsSources asks.kind text kept) (lines : List ℕ) (has : HasSourceAnswers asks.reasons asks.kind asks.terms asks.environment (packages_of packages.index) (filter (has_values asks.members) (file-held asks packages holds).meaning) sources.meaning lines) where
   abbrev answers : BuildAnswers asks text
   answers = record {
     packages = packages_of packages.index;
@@ -33,6 +33,8 @@ module _ (asks : AsksBuildable) (text : List ℕ) (packages : Packages) (kept : 
     accepted = sources.accepted;
     answer = has.answer;
     are_true = has.are_true;
+    reasons = has.reasons;
+    are_reasons = has.are_reasons;
   }
 
   pub writes-buildable : (summary : Summary) (old new : Option (List ℕ)) → length sources.meaning ≡ summary.paragraphs → Appends old new lines → summary.is_empty ≡ is_nothing lines → WritesBuildable asks text summary old new

@@ -1,7 +1,7 @@
 -- What passes in every reading passes in one.
 use Rattle.std.proofs.Common.{◌≡◌, ℕ, Bool, true, false, cond, not, ◌&&◌, is_none, List, [], ◌∷◌, None, Some, codes, refl, ap}
 use Rattle.std.specs.List.{list_all, list_any}
-use Rattle.std.proofs.lemmas.Bool.{and_from, false≢true, or_left, or_right, true_from_ne_false}
+use Rattle.std.proofs.lemmas.Bool.{and_from, and_parts, false≢true, or_left, or_right, true_from_ne_false}
 use Rattle.deb_relation.specs.Applying.{Environment}
 use Rattle.deb_relation.specs.Meaning.{Alternative, Group}
 use Rattle.deb_field.specs.Values.{ValueMeaning}
@@ -24,6 +24,7 @@ use Rattle.deb_health.proofs.Growing.{all-grows, and-grows, any-grows, not-grows
 use Rattle.deb_install.specs.Installable.{can_be_abundant, can_be_peaceful, is_healthy_in}
 use Rattle.deb_install.specs.Laws.{EveryReadingIsOne}
 use Rattle.deb_install.specs.Members.{members_of}
+use Rattle.deb_install.specs.Terms.{is_allowed}
 use Rattle.deb_install.specs.declared.readings.Readings.TheVariants.{Every, One}
 use Rattle.deb_install.proofs.GroupRows.{other-head}
 
@@ -104,9 +105,14 @@ module _ (strength : Strength) (environment : Environment) (packages : List List
       (λ e. e)
 
 pub every_one : EveryReadingIsOne
-every_one strength environment packages meaning number installable = record {
-  set = installable.set;
-  contains = installable.contains;
-  listed = installable.listed;
-  healthy = healthy-one strength environment (members_of installable.set packages) (members_of installable.set meaning) installable.healthy;
-}
+every_one t environment packages meaning number installable =
+    let members = members_of installable.set packages in
+    let values = members_of installable.set meaning in
+    let both = and_parts (is_allowed t environment.native meaning members) (is_healthy_in Every t.strength environment members values) installable.healthy in
+    record {
+      set = installable.set;
+      contains = installable.contains;
+      listed = installable.listed;
+      healthy = and_from (is_allowed t environment.native meaning members) (is_healthy_in One t.strength environment members values) both.0
+          (healthy-one t.strength environment members values both.1);
+    }

@@ -14,7 +14,6 @@ use Rattle.deb_field.specs.Values.{ValueMeaning, value_text, SpellsValue}
 use Rattle.deb_control.specs.Documents.{Meaning, Accepted, rules_of}
 use Rattle.deb_control.specs.Pairs.{Pairwise}
 use Rattle.deb_control.proofs.Accepting.{accepted_means_one_thing}
-use Rattle.deb_health.specs.declared.kept.Kept.{Kept}
 use Rattle.deb_index.specs.Installed.{is_member}
 use Rattle.deb_index.specs.Listed.{Listed}
 use Rattle.deb_index.specs.Listing.{Lists}
@@ -25,9 +24,14 @@ use Rattle.deb_index.proofs.Filters.{filter-all}
 use Rattle.deb_unmet.specs.Files.{is_nothing}
 use Rattle.deb_unmet.specs.declared.asking.Summary.{Summary}
 use Rattle.deb_unmet.proofs.OwnFiles.{all_kept}
-use Rattle.deb_install.specs.Answers.{HasAnswers}
-use Rattle.deb_install.specs.Installing.{AsksInstallable, BeginsAnswers, FileAnswers, StopsAnswers, WritesAnswers}
+use Rattle.deb_install.specs.Answers.{AreVerdictsIn, answer_at}
+use Rattle.deb_install.specs.Explaining.{HasLines}
+use Rattle.deb_install.specs.Installing.{AsksInstallable, BeginsAnswers, FileAnswers, HasAnswers, StopsAnswers, WritesAnswers}
 use Rattle.deb_install.specs.Keeping.{HoldsGiven, HoldsValues}
+use Rattle.deb_install.specs.declared.kept.KeptMember.{KeptMember}
+use Rattle.deb_install.specs.declared.readings.Readings.TheVariants.{Every}
+use Rattle.deb_solve.specs.declared.verdict.Verdict.{Verdict}
+use Rattle.deb_install.proofs.AnswerLines.{answers-true}
 
 one_meaning : (doc : Doc) (text : List ℕ) (meaning other : Meaning) → Accepted doc text meaning → Accepted doc text other → meaning ≡ other
 one_meaning doc = accepted_means_one_thing ValueMeaning (SpellsValue doc) value_text (value_law doc) (rules_of doc)
@@ -38,13 +42,13 @@ lists-of All text packages meaning accepted lists =
 lists-of Installed text packages meaning accepted lists =
     subst (λ m. Pairwise Lists (filter is_member m) packages) (one_meaning Status text lists.meaning meaning lists.accepted accepted) lists.listed
 
-pub record HeldFile (members : Members) (text : List ℕ) (packages : List Listed) (kept : List Kept) : Type 0 where
+pub record HeldFile (members : Members) (text : List ℕ) (packages : List Listed) (kept : List KeptMember) : Type 0 where
   pub meaning : Meaning
   pub accepted : Accepted (doc_of members) text meaning
   pub listed : Pairwise Lists (filter (has_values members) meaning) packages
   pub holds : Pairwise HoldsValues (filter (has_values members) meaning) kept
 
-pub held-file : (members : Members) (text : List ℕ) (packages : List Listed) (kept : List Kept) → ListsMembers members text packages → KeepsMembers members (HoldsGiven members kept) text → HeldFile members text packages kept
+pub held-file : (members : Members) (text : List ℕ) (packages : List Listed) (kept : List KeptMember) → ListsMembers members text packages → KeepsMembers members (HoldsGiven members kept) text → HeldFile members text packages kept
 held-file members text packages kept lists keeps =
     let all = all_kept members (HoldsGiven members kept) text keeps in
     let holds = all.keeps in
@@ -56,7 +60,7 @@ held-file members text packages kept lists keeps =
       holds = holds.holds;
     }
 
-module _ (asks : AsksInstallable) (text : List ℕ) (packages : List Listed) (kept : List Kept) (lists : ListsMembers asks.members text packages) (file : HeldFile asks.members text packages kept) (lines : List ℕ) (has : HasAnswers asks.strength asks.names asks.environment packages (filter (has_values asks.members) file.meaning) lines) where
+module _ (asks : AsksInstallable) (text : List ℕ) (packages : List Listed) (kept : List KeptMember) (lists : ListsMembers asks.members text packages) (file : HeldFile asks.members text packages kept) (lines : List ℕ) (has : HasAnswers asks packages (filter (has_values asks.members) file.meaning) lines) where
   abbrev answers : FileAnswers asks text
   answers = record {
     packages = packages;
@@ -65,6 +69,8 @@ module _ (asks : AsksInstallable) (text : List ℕ) (packages : List Listed) (ke
     accepted = file.accepted;
     answer = has.answer;
     are_true = has.are_true;
+    reasons = has.reasons;
+    are_reasons = has.are_reasons;
   }
 
   pub writes-answers : (summary : Summary) (old new : Option (List ℕ)) → length packages ≡ summary.paragraphs → Appends old new lines → summary.is_empty ≡ is_nothing lines → WritesAnswers asks text summary old new
@@ -77,6 +83,16 @@ module _ (asks : AsksInstallable) (text : List ℕ) (packages : List Listed) (ke
 
   pub begins-answers : (old new : Option (List ℕ)) → AppendsFront old new lines → BeginsAnswers asks text old new
   begins-answers old new written = record { file = answers; written = subst (AppendsFront old new) has.is written }
+
+-- lines by verdicts are those of true answers
+pub has-answers : (asks : AsksInstallable) (packages : List Listed) (meaning : Meaning) (every : List Verdict) (text : List ℕ) → AreVerdictsIn Every asks.terms asks.environment packages meaning every → HasLines asks packages meaning every text → HasAnswers asks packages meaning text
+has-answers asks packages meaning every text are has = record {
+  answer = answer_at every has.one;
+  are_true = answers-true asks.terms asks.environment packages meaning every has.one are has.are;
+  reasons = has.reasons;
+  are_reasons = has.are_reasons;
+  is = has.is;
+}
 
 pub stopped-writing : (fault : Fault) (asks : AsksInstallable) (text : List ℕ) (old new : Option (List ℕ)) → fault ≡ faults.Write → BeginsAnswers asks text old new → StopsAnswers fault asks text old new
 stopped-writing fault asks text old new is begins = subst (λ f. StopsAnswers f asks text old new) (sym is) begins

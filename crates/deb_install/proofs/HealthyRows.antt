@@ -20,11 +20,16 @@ use Rattle.deb_health.specs.Together.{rules_out}
 use Rattle.deb_health.proofs.NoLines.{later-from}
 use Rattle.deb_install.specs.Installable.{is_healthy_in}
 use Rattle.deb_install.specs.Members.{IsHealthyByRows, members_from, members_of}
-use Rattle.deb_install.specs.Rows.{AreRowsOf, excluded_numbers, exclusion_row, later_duplicates, needed_rows}
+use Rattle.deb_install.specs.Rows.{excluded_numbers, exclusion_row, later_duplicates, needed_rows}
 use Rattle.deb_install.specs.declared.readings.Readings.{Readings}
 use Rattle.deb_install.specs.declared.readings.Readings.TheVariants.{Every, One}
 use Rattle.deb_install.proofs.PackageRows.{is_abundant_in, is_peaceful_in, needs-met, none-excluded}
 use Rattle.deb_install.proofs.Sets.{any-members, each_member, member-passes, members-pass}
+
+-- two functions of a number that give the rows of the groups of a package, and what it excludes
+pub record AreFieldRows (readings : Readings) (strength : Strength) (environment : Environment) (packages : List Listed) (meaning : Meaning) (needs : ℕ → List (List ℕ)) (excludes : ℕ → List ℕ) : Type 0 where
+  pub needed : (k : ℕ) (values : ValueEntries ValueMeaning) → slice_get meaning k ≡ Some values → needs (k + 1) ≡ needed_rows readings strength environment packages values
+  pub excluded : (k : ℕ) (values : ValueEntries ValueMeaning) → slice_get meaning k ≡ Some values → excludes (k + 1) ≡ exclusion_row readings strength environment packages (k + 1) values
 
 -- both readings in one form
 pub by-parts : (readings : Readings) (strength : Strength) (environment : Environment) (packages : List Listed) (meaning : Meaning)
@@ -48,7 +53,7 @@ regroup true false true d r = ending d r
 regroup true false false true r = refl
 regroup true false false false r = refl
 
-module _ (readings : Readings) (strength : Strength) (environment : Environment) (packages : List Listed) (meaning : Meaning) (needs : ℕ → List (List ℕ)) (excludes : ℕ → List ℕ) (rows : AreRowsOf readings strength environment packages meaning needs excludes) (set : ℕ → Bool) where
+module _ (readings : Readings) (strength : Strength) (environment : Environment) (packages : List Listed) (meaning : Meaning) (needs : ℕ → List (List ℕ)) (excludes : ℕ → List ℕ) (rows : AreFieldRows readings strength environment packages meaning needs excludes) (set : ℕ → Bool) where
   abbrev members : List Listed
   members = members_of set packages
 

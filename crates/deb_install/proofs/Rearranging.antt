@@ -1,15 +1,16 @@
 -- A set is healthy exactly if it is in another order.
-use Rattle.std.proofs.Common.{◌≡◌, ℕ, ◌+◌, ◌-◌, ◌<◌, ◌≤◌, Bool, not, ◌&&◌, List, length, map, codes, sym, ap, ◌∙◌, subst, arith}
-use Rattle.std.specs.List.{list_all}
+use Rattle.std.proofs.Common.{◌≡◌, ℕ, ◌+◌, ◌-◌, ◌<◌, ◌≤◌, Bool, true, false, cond, not, ◌&&◌, List, [], length, map, codes, sym, ap, ◌∙◌, subst, arith}
+use Rattle.std.specs.List.{filter, list_all, list_any}
 use Rattle.std.specs.List.Sorted.{IsPermutation}
 use Rattle.std.proofs.lemmas.List.{length-map}
-use Rattle.std.proofs.lemmas.List.Sorted.{IsPermutation-map, list_any-IsPermutation}
+use Rattle.std.proofs.lemmas.List.Sorted.{IsPermutation-map, IsPermutation-refl, list_any-IsPermutation}
 use Rattle.deb_relation.specs.Applying.{Environment}
 use Rattle.deb_field.specs.Values.{ValueMeaning}
 use Rattle.deb_control.specs.Documents.{Meaning}
 use Rattle.deb_control.specs.FieldWords.{groups_of, value_under, word_under}
 use Rattle.deb_control.specs.ValueFiles.{ValueEntries}
 use Rattle.deb_index.specs.Listed.{Listed}
+use Rattle.deb_index.specs.Named.{has_name}
 use Rattle.deb_unmet.specs.Asked.{fields_with}
 use Rattle.deb_unmet.specs.Fields.{environment_for}
 use Rattle.deb_unmet.specs.Readings.{applies_by, surely}
@@ -18,11 +19,12 @@ use Rattle.deb_unmet.specs.declared.asked.Strength.{Strength}
 use Rattle.deb_health.specs.Excluding.{excludes}
 use Rattle.deb_health.specs.Health.{are_apart}
 use Rattle.deb_health.specs.Lines.{negative_fields}
-use Rattle.deb_health.proofs.Rearranged.{list_all-permutation}
+use Rattle.deb_health.proofs.Rearranged.{filter-permutation, list_all-permutation}
 use Rattle.deb_health.proofs.SameReasons.{apart-rearranged, healthy-rearranged, otherwise-rearranged}
 use Rattle.deb_install.specs.Installable.{can_be_abundant, can_be_healthy, can_be_peaceful, is_healthy_in}
 use Rattle.deb_install.specs.Laws.{RearrangingKeepsInstallable}
 use Rattle.deb_install.specs.Members.{members_from, members_of}
+use Rattle.deb_install.specs.Terms.{Terms, essential_names, has_none, is_allowed, is_essential}
 use Rattle.deb_install.specs.declared.readings.Readings.{Readings}
 use Rattle.deb_install.specs.declared.readings.Readings.TheVariants.{Every, One}
 use Rattle.deb_install.proofs.Renumbered.{members-map, renumbers}
@@ -50,8 +52,28 @@ module _ (packages others : List Listed) (moved : IsPermutation packages others)
   in-rearranged Every meaning other moved_too = healthy-rearranged packages others moved strength environment meaning other moved_too
   in-rearranged One meaning other moved_too = one-rearranged meaning other moved_too
 
+-- a set is as terms ask exactly if it is in another order, and all packages are
+names-rearranged : (t : Terms) (target : List ℕ) (meaning other : Meaning) → IsPermutation meaning other → IsPermutation (essential_names t target meaning) (essential_names t target other)
+names-rearranged t target meaning other moved = go t.essential
+  where
+    name : ValueEntries ValueMeaning → List ℕ
+    name = word_under (codes "Package")
+
+    test : ValueEntries ValueMeaning → Bool
+    test = is_essential t.without target
+
+    go : (v : Bool) → IsPermutation (cond v (map name (filter test meaning)) []) (cond v (map name (filter test other)) [])
+    go true = IsPermutation-map name (filter test meaning) (filter test other) (filter-permutation test meaning other moved)
+    go false = IsPermutation-refl []
+
+allowed-rearranged : (t : Terms) (target : List ℕ) (meaning other : Meaning) → IsPermutation meaning other → (members others : List Listed) → IsPermutation members others
+    → is_allowed t target meaning members ≡ is_allowed t target other others
+allowed-rearranged t target meaning other moved members others same =
+    (λ i. list_all (λ name. not (list_any-IsPermutation (has_name name) members others same i)) t.without && list_all (λ name. list_any-IsPermutation (has_name name) members others same i) (essential_names t target meaning))
+    ∙ ap (λ b. has_none t.without others && b) (list_all-permutation (λ name. list_any (has_name name) others) (essential_names t target meaning) (essential_names t target other) (names-rearranged t target meaning other moved))
+
 pub rearranging : RearrangingKeepsInstallable
-rearranging readings strength environment pairs others k moved installable =
+rearranging readings t environment pairs others k moved installable =
     let r = renumbers pairs others moved in
     let set = installable.set in
     let based : ℕ → Bool = λ i. set (1 + i) in
@@ -66,7 +88,9 @@ rearranging readings strength environment pairs others k moved installable =
     subst (λ l. IsPermutation (members_of set pairs) l) (sym after) (subst (λ l. IsPermutation l (members_from (λ j. based (r.from j)) 0 others)) (sym before) (r.moved based)) in
     let listed : ValueEntries ValueMeaning × Listed → Listed = λ x. x.1 in
     let values : ValueEntries ValueMeaning × Listed → ValueEntries ValueMeaning = λ x. x.0 in
-    let ways = in-rearranged (map listed (members_of set pairs)) (map listed (members_of new others)) (IsPermutation-map listed _ _ same) strength environment readings
+    let allowed = allowed-rearranged t environment.native (map values pairs) (map values others) (IsPermutation-map values pairs others moved)
+    (map listed (members_of set pairs)) (map listed (members_of new others)) (IsPermutation-map listed _ _ same) in
+    let ways = in-rearranged (map listed (members_of set pairs)) (map listed (members_of new others)) (IsPermutation-map listed _ _ same) t.strength environment readings
     (map values (members_of set pairs)) (map values (members_of new others)) (IsPermutation-map values _ _ same) in
     let long : length (map listed pairs) ≡ length pairs = length-map pairs listed in
     let other_long : length (map listed others) ≡ length others = length-map others listed in
@@ -84,9 +108,9 @@ rearranging readings strength environment pairs others k moved installable =
         contains = ap (λ j. set (1 + r.from j)) less ∙ ap (λ j. set (1 + j)) (r.back k within) ∙ ap set back ∙ installable.contains;
         listed = (some, most);
         healthy =
-            (λ i. is_healthy_in readings strength environment (members-map listed new 1 others i) (members-map values new 1 others i))
-            ∙ sym ways
-            ∙ (λ i. is_healthy_in readings strength environment (sym (members-map listed set 1 pairs) i) (sym (members-map values set 1 pairs) i))
+            (λ i. is_allowed t environment.native (map values others) (members-map listed new 1 others i) && is_healthy_in readings t.strength environment (members-map listed new 1 others i) (members-map values new 1 others i))
+            ∙ (λ i. sym allowed i && sym ways i)
+            ∙ (λ i. is_allowed t environment.native (map values pairs) (sym (members-map listed set 1 pairs) i) && is_healthy_in readings t.strength environment (sym (members-map listed set 1 pairs) i) (sym (members-map values set 1 pairs) i))
             ∙ installable.healthy;
       };
     }

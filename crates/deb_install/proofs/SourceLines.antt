@@ -9,11 +9,11 @@ use Rattle.deb_index.specs.Listed.{Listed}
 use Rattle.deb_relation.specs.Applying.{Environment}
 use Rattle.deb_solve.specs.declared.verdict.Verdict.{Verdict}
 use Rattle.deb_solve.specs.declared.verdict.Verdict.TheVariants as solved
-use Rattle.deb_unmet.specs.declared.asked.Strength.TheVariants.{Depends}
 use Rattle.deb_install.specs.Answers.{answer_at, answer_by}
 use Rattle.deb_install.specs.KeptSources.{HoldsSource}
 use Rattle.deb_install.specs.SourceAnswers.{AreSourceAnswers, AreSourceVerdicts, SaysOfSource, line_of, source_line, source_lines_from}
 use Rattle.deb_install.specs.SourceKinds.{name_field}
+use Rattle.deb_install.specs.Terms.{Terms}
 use Rattle.deb_install.specs.declared.answer.Answer.{Answer}
 use Rattle.deb_install.specs.declared.kept_source.KeptSource.{KeptSource}
 use Rattle.deb_install.specs.declared.readings.Readings.TheVariants.{Every, One}
@@ -35,8 +35,8 @@ source-next kind answer meaning n source out now all next one before =
     ∙ ap (λ l. out ++ source_lines_from kind answer n l) (sym next.left)
     ∙ before
 
-module _ (environment : Environment) (packages : List Listed) (meaning sources : Meaning) (every one : List Verdict) (in_every : AreSourceVerdicts Every Depends environment packages meaning sources every) (in_one : AreSourceVerdicts One Depends environment packages meaning sources one) where
-  say : (k : ℕ) (values : ValueEntries ValueMeaning) → slice_get sources k ≡ Some values → (v w : Verdict) → slice_index_or every k solved.Undecided ≡ v → slice_index_or one k solved.Undecided ≡ w → SaysOfSource (answer_by v w) environment packages meaning values
+module _ (t : Terms) (environment : Environment) (packages : List Listed) (meaning sources : Meaning) (every one : List Verdict) (in_every : AreSourceVerdicts Every t environment packages meaning sources every) (in_one : AreSourceVerdicts One t environment packages meaning sources one) where
+  say : (k : ℕ) (values : ValueEntries ValueMeaning) → slice_get sources k ≡ Some values → (v w : Verdict) → slice_index_or every k solved.Undecided ≡ v → slice_index_or one k solved.Undecided ≡ w → SaysOfSource (answer_by v w) t environment packages meaning values
   say k values at solved.Installable w is is_one = in_every.yes k values at (known-at every k solved.Installable (λ e. cc) is)
   say k values at solved.Undecided w is is_one = tt
   say k values at solved.Uninstallable solved.Installable is is_one =
@@ -44,5 +44,5 @@ module _ (environment : Environment) (packages : List Listed) (meaning sources :
   say k values at solved.Uninstallable solved.Uninstallable is is_one = in_one.no k values at (known-at one k solved.Uninstallable (λ e. cc) is_one)
   say k values at solved.Uninstallable solved.Undecided is is_one = tt
 
-  pub sources-true : AreSourceAnswers environment packages meaning sources (answer_at every one)
+  pub sources-true : AreSourceAnswers t environment packages meaning sources (answer_at every one)
   sources-true k values at = say k values at (slice_index_or every k solved.Undecided) (slice_index_or one k solved.Undecided) refl refl

@@ -38,14 +38,14 @@ at-behind (x ∷ xs) ys k d =
     let more : length (x ∷ xs) + k ≡ suc (length xs + k) = omega arith in
     ap (λ n. get_or (x ∷ xs ++ ys) n d) more ∙ at-behind xs ys k d
 
-behind : {X : Type 0} (all xs ys : List X) (m k : ℕ) (d : X) → all ≡ xs ++ ys → m ≡ length xs + k → get_or all m d ≡ get_or ys k d
+pub behind : {X : Type 0} (all xs ys : List X) (m k : ℕ) (d : X) → all ≡ xs ++ ys → m ≡ length xs + k → get_or all m d ≡ get_or ys k d
 behind all xs ys m k d is at = ap (λ l. get_or l m d) is ∙ ap (λ n. get_or (xs ++ ys) n d) at ∙ at-behind xs ys k d
 
-front : {X : Type 0} (all xs ys : List X) (k : ℕ) (d : X) → all ≡ xs ++ ys → k < length xs → get_or all k d ≡ get_or xs k d
+pub front : {X : Type 0} (all xs ys : List X) (k : ℕ) (d : X) → all ≡ xs ++ ys → k < length xs → get_or all k d ≡ get_or xs k d
 front all xs ys k d is within = ap (λ l. get_or l k d) is ∙ get_or_append_left xs ys d k within
 
 -- the row of a source package, by the rows that it needs
-row-at : (all rows : List (List ℕ)) (needed : List (List (List ℕ))) (k : ℕ) (rs : List (List ℕ)) → Pairwise (AreNumbersOf all) rows needed → slice_get needed k ≡ Some rs → AreNumbersOf all (get_or rows k []) rs
+pub row-at : (all rows : List (List ℕ)) (needed : List (List (List ℕ))) (k : ℕ) (rs : List (List ℕ)) → Pairwise (AreNumbersOf all) rows needed → slice_get needed k ≡ Some rs → AreNumbersOf all (get_or rows k []) rs
 row-at all [] [] zero rs are is = absurd cc
 row-at all [] [] (suc k) rs are is = absurd cc
 row-at all [] (n ∷ needed) k rs are is = absurd are
@@ -59,14 +59,14 @@ same-rows : (rows : List (List ℕ)) → Pairwise HaveSameNumbers rows rows
 same-rows [] = tt
 same-rows (row ∷ rows) = (λ k. refl, same-rows rows)
 
-itself : (k : ℕ) → eqb k k ≡ true
+pub itself : (k : ℕ) → eqb k k ≡ true
 itself k = grind arith
 
 -- a set with one number more
-abbrev with_one : (ℕ → Bool) → ℕ → ℕ → Bool
+abbrev pub with_one : (ℕ → Bool) → ℕ → ℕ → Bool
 with_one set m number = set number || eqb number m
 
-any-with : (set : ℕ → Bool) (m : ℕ) (row : List ℕ) → list_any set row ≡ true → list_any (with_one set m) row ≡ true
+pub any-with : (set : ℕ → Bool) (m : ℕ) (row : List ℕ) → list_any set row ≡ true → list_any (with_one set m) row ≡ true
 any-with set m row = any-grows set (with_one set m) (λ number. or_left (set number) (eqb number m)) row
 
 all-with : (set : ℕ → Bool) (m : ℕ) (rows : List (List ℕ)) → list_all (list_any set) rows ≡ true → list_all (list_any (with_one set m)) rows ≡ true
@@ -106,7 +106,7 @@ fitting u set p is =
       none = not-true (list_any set (get_or u.excludes p [])) parts.1;
     }
 
-module _ (s : Setting) (meaning sources : Meaning) (u : Universe) (is : IsUniverseWith s meaning sources u) (lists : Pairwise Lists meaning s.packages) where
+module _ (s : Setting) (sources : Meaning) (u : Universe) (is : IsUniverseWith s sources u) (lists : Pairwise Lists s.values s.packages) where
   abbrev count : ℕ
   count = length s.packages
 
@@ -116,16 +116,16 @@ module _ (s : Setting) (meaning sources : Meaning) (u : Universe) (is : IsUniver
   abbrev excluded : ℕ → List ℕ
   excluded = excludes_in is.first_needs u.groups is.first_excludes
 
-  decided : AreDecidedBy s.readings s.strength s.environment s.packages meaning needs excluded
-  decided = rows_decide s.readings s.strength s.environment s.packages meaning needs excluded lists (are-rows s meaning is.first_needs u.groups is.first_excludes is.packages)
+  decided : AreDecidedBy s.readings s.terms s.environment s.packages s.values needs excluded
+  decided = rows_decide s.readings s.terms s.environment s.packages s.values needs excluded lists (are-rows s is.first_needs u.groups is.first_excludes is.packages)
 
-  same_count : length meaning ≡ count
-  same_count = sym (pairwise-length Lists meaning s.packages lists)
+  same_count : length s.values ≡ count
+  same_count = sym (pairwise-length Lists s.values s.packages lists)
 
-  needs_long : length is.first_needs ≡ count + 1
+  pub needs_long : length is.first_needs ≡ count + 1
   needs_long = is.packages.needs_each ∙ ap (λ n. n + 1) same_count
 
-  excludes_long : length is.first_excludes ≡ count + 1
+  pub excludes_long : length is.first_excludes ≡ count + 1
   excludes_long = is.packages.excludes_each ∙ ap (λ n. n + 1) same_count
 
   -- the rows of a package
@@ -146,13 +146,13 @@ module _ (s : Setting) (meaning sources : Meaning) (u : Universe) (is : IsUniver
         ap (map (λ group. slice_index_or u.groups group [])) (behind u.needs is.first_needs is.rows place k [] is.needed (ap (λ n. n + k) (sym needs_long)))
         ∙ numbers-rows u.groups (get_or is.rows k []) (built_in s values) row
 
-    source-excludes : get_or u.excludes place [] ≡ barred_in s values
+    pub source-excludes : get_or u.excludes place [] ≡ barred_in s values
     source-excludes =
         behind u.excludes is.first_excludes (map (barred_in s) sources) place k [] is.excluded (ap (λ n. n + k) (sym excludes_long))
         ∙ get_or_from_slice_get (map (barred_in s) sources) k (barred_in s values) [] (slice_get-map (barred_in s) sources k ∙ ap (option_map (barred_in s)) at)
 
     -- a set of numbers with that of the source package has what builds it
-    pub buildable-from : IsInstallableIn u place → IsBuildable s.readings s.strength s.environment s.packages meaning values
+    pub buildable-from : IsInstallableIn u place → IsBuildable s.readings s.terms s.environment s.packages s.values values
     buildable-from has =
         let set = has.set in
         let own = fitting u set place (has.is_healthy place has.contains) in
@@ -161,7 +161,7 @@ module _ (s : Setting) (meaning sources : Meaning) (u : Universe) (is : IsUniver
           abundance = λ number some most contains. sym (ap (list_all (list_any set)) (package-needs number most)) ∙ (fitting u set number (has.is_healthy number contains)).met;
           peace = λ number some most contains. sym (ap (list_any set) (package-excludes number most)) ∙ (fitting u set number (has.is_healthy number contains)).none;
         } in
-        build_rows_decide.from_rows s.readings s.strength s.environment s.packages meaning needs excluded decided values (built_in s values) (barred_in s values) (same-rows (built_in s values)) (λ n. refl)
+        build_rows_decide.from_rows s.readings s.terms s.environment s.packages s.values needs excluded decided values (built_in s values) (barred_in s values) (same-rows (built_in s values)) (λ n. refl)
         (record {
           set = set;
           healthy = healthy;
@@ -169,19 +169,19 @@ module _ (s : Setting) (meaning sources : Meaning) (u : Universe) (is : IsUniver
           peace = sym (ap (list_any set) source-excludes) ∙ own.none;
         })
 
-    within : place < length u.needs
+    pub within : place < length u.needs
     within =
         let rows_long : length (map (built_in s) sources) ≡ length is.rows = pairwise-length (AreNumbersOf u.groups) is.rows (map (built_in s) sources) is.are in
         let mapped : length (map (built_in s) sources) ≡ length sources = length-map sources (built_in s) in
         omega (arith, needs_long, ap length is.needed, length-append is.first_needs is.rows, rows_long, mapped, slice_get_within sources k values at)
 
     -- and what builds it is such a set, with that number
-    pub with-buildable : IsBuildable s.readings s.strength s.environment s.packages meaning values → IsInstallableIn u place
+    pub with-buildable : IsBuildable s.readings s.terms s.environment s.packages s.values values → IsInstallableIn u place
     with-buildable given =
         let set : ℕ → Bool = only count given.set in
-        let healthy = decided.healthy set (only-healthy s.readings s.strength s.environment s.packages meaning values lists given) in
-        let abundance = sym (can-build s.readings s.environment set s.packages values) ∙ only-can s.readings s.strength s.environment s.packages meaning values lists given in
-        let peace = not-true (list_any set (barred_in s values)) (sym (may-build s.readings s.environment set s.packages values) ∙ only-may s.readings s.strength s.environment s.packages meaning values lists given) in
+        let healthy = decided.healthy set (only-healthy s.readings s.terms s.environment s.packages s.values values lists given) in
+        let abundance = sym (can-build s.readings s.environment set s.packages values) ∙ only-can s.readings s.terms s.environment s.packages s.values values lists given in
+        let peace = not-true (list_any set (barred_in s values)) (sym (may-build s.readings s.environment set s.packages values) ∙ only-may s.readings s.terms s.environment s.packages s.values values lists given) in
         record {
           set = with_one set place;
           is_healthy = λ p contains. elim (or_cases (set p) (eqb p place) contains) [
@@ -191,7 +191,7 @@ module _ (s : Setting) (meaning sources : Meaning) (u : Universe) (is : IsUniver
                 (all-with set place (needs p) (healthy.abundance p listed.0 listed.1 member))
                 (none-with set place (excluded p) (healthy.peace p listed.0 listed.1 member)
                 (λ other among_them.
-                let most = (exclusions-listed s.readings s.strength s.environment s.packages meaning needs excluded (are-rows s meaning is.first_needs u.groups is.first_excludes is.packages) same_count p other listed.0 listed.1 among_them).1 in
+                let most = (exclusions-listed s.readings s.terms s.environment s.packages s.values needs excluded (are-rows s is.first_needs u.groups is.first_excludes is.packages) same_count p other listed.0 listed.1 among_them).1 in
                 omega (arith, most)))
             | inr same ↦
                 subst (λ q. fits u (with_one set place) q ≡ true) (sym (eqb-true p place same))
@@ -199,7 +199,7 @@ module _ (s : Setting) (meaning sources : Meaning) (u : Universe) (is : IsUniver
                 (all-with set place (built_in s values) abundance)
                 (none-with set place (barred_in s values) peace
                 (λ other among_them.
-                let most = (barred-listed s.readings s.strength s.environment s.packages values other among_them).1 in
+                let most = (barred-listed s.readings s.terms s.environment s.packages values other among_them).1 in
                 omega (arith, most))))
           ];
           contains = or_right (set place) (eqb place place) (itself place);

@@ -21,7 +21,7 @@ slice-drop (suc n) (x ∷ xs) k =
     let more : suc (n + k) ≡ suc n + k = omega arith in
     slice-drop n xs k ∙ ap (slice_get (x ∷ xs)) more
 
-module _ (s : Setting) (meaning sources : Meaning) (u : Universe) (last : List Verdict) (count : ℕ) (is : IsUniverseWith s meaning sources u) (lists : Pairwise Lists meaning s.packages) (they : AreLastVerdicts u count last) where
+module _ (s : Setting) (sources : Meaning) (u : Universe) (last : List Verdict) (count : ℕ) (is : IsUniverseWith s sources u) (lists : Pairwise Lists s.values s.packages) (they : AreLastVerdicts u count last) where
   abbrev verdicts : List Verdict
   verdicts = they.verdicts
 
@@ -30,16 +30,16 @@ module _ (s : Setting) (meaning sources : Meaning) (u : Universe) (last : List V
   first-is =
       let rows_long : length (map (built_in s) sources) ≡ length is.rows = pairwise-length (AreNumbersOf u.groups) is.rows (map (built_in s) sources) is.are in
       let mapped : length (map (built_in s) sources) ≡ length sources = length-map sources (built_in s) in
-      let same : length s.packages ≡ length meaning = pairwise-length Lists meaning s.packages lists in
+      let same : length s.packages ≡ length s.values = pairwise-length Lists s.values s.packages lists in
       omega (arith, they.are.each, ap length is.needed, length-append is.first_needs is.rows, rows_long, mapped, is.packages.needs_each, same)
 
   place-of : (k : ℕ) (v : Verdict) → slice_get (drop (length verdicts - length sources) verdicts) k ≡ Some v → slice_get verdicts (length s.packages + 1 + k) ≡ Some v
   place-of k v at = sym (slice-drop (length s.packages + 1) verdicts k) ∙ ap (λ n. slice_get (drop n verdicts) k) (sym first-is) ∙ at
 
-  pub verdicts-of-sources : count ≡ length sources → AreSourceVerdicts s.readings s.strength s.environment s.packages meaning sources last
+  pub verdicts-of-sources : count ≡ length sources → AreSourceVerdicts s.readings s.terms s.environment s.packages s.values sources last
   verdicts-of-sources counted =
       let same : last ≡ drop (length verdicts - length sources) verdicts = they.is ∙ ap (λ n. drop (length verdicts - n) verdicts) counted in
       record {
-        yes = λ k values at verdict. buildable-from s meaning sources u is lists k values at (they.are.are_true.yes (length s.packages + 1 + k) (place-of k _ (ap (λ l. slice_get l k) (sym same) ∙ verdict)));
-        no = λ k values at verdict built. they.are.are_true.no (length s.packages + 1 + k) (place-of k _ (ap (λ l. slice_get l k) (sym same) ∙ verdict)) (with-buildable s meaning sources u is lists k values at built);
+        yes = λ k values at verdict. buildable-from s sources u is lists k values at (they.are.are_true.yes (length s.packages + 1 + k) (place-of k _ (ap (λ l. slice_get l k) (sym same) ∙ verdict)));
+        no = λ k values at verdict built. they.are.are_true.no (length s.packages + 1 + k) (place-of k _ (ap (λ l. slice_get l k) (sym same) ∙ verdict)) (with-buildable s sources u is lists k values at built);
       }

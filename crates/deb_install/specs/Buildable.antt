@@ -10,11 +10,11 @@ use Rattle.deb_control.specs.ValueFiles.{ValueEntries}
 use Rattle.deb_index.specs.Alternatives.{with_qualifier}
 use Rattle.deb_index.specs.Listed.{Listed}
 use Rattle.deb_unmet.specs.Asked.{build_fields}
-use Rattle.deb_unmet.specs.declared.asked.Strength.{Strength}
-use Rattle.deb_install.specs.Installable.{is_healthy_in}
+use Rattle.deb_install.specs.Installable.{is_healthy_by_terms}
 use Rattle.deb_install.specs.Members.{IsHealthyByRows, members_of}
 use Rattle.deb_install.specs.Passing.{fields_pass, fields_spare, for_amd64, group_passes, needing, of}
 use Rattle.deb_install.specs.Rows.{excluded_by_fields, group_rows, rows_of_fields}
+use Rattle.deb_install.specs.Terms.{Terms}
 use Rattle.deb_install.specs.declared.readings.Readings.{Readings}
 use Rattle.deb_install.specs.declared.readings.Readings.TheVariants.{Every}
 
@@ -36,13 +36,13 @@ abbrev pub may_build : Readings → Environment → List Listed → ValueEntries
 may_build readings environment packages values =
     fields_spare readings environment environment.native [] packages values conflict_fields
 
--- A source package with these values can be built: by a healthy set of the listed packages.
-pub record IsBuildable (readings : Readings) (strength : Strength) (environment : Environment)
+-- A source package with these values can be built: by a healthy set of the listed packages that is
+-- as the terms ask.
+pub record IsBuildable (readings : Readings) (t : Terms) (environment : Environment)
     (packages : List Listed) (meaning : Meaning) (values : ValueEntries ValueMeaning) : Type 0
   where
     pub set : ℕ → Bool
-    pub healthy : is_healthy_in readings strength environment (members_of set packages)
-        (members_of set meaning) ≡ true
+    pub healthy : is_healthy_by_terms readings t environment packages meaning set ≡ true
     pub can : can_build readings environment (members_of set packages) values ≡ true
     pub may : may_build readings environment (members_of set packages) values ≡ true
 

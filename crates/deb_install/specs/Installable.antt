@@ -1,7 +1,7 @@
 -- Which packages of a list are installable: a healthy set contains each. Debian Policy 7.2 to 7.5;
 -- the definition is that of Mancinelli and others, 'Managing the Complexity of Large Free and Open
 -- Source Package-Based Software Distributions'.
-use Rattle.std.specs.Prelude.{◌≡◌, ℕ, ◌≤◌, ◌==◌, ◌&&◌, Bool, true, false, not, List, [], ◌∷◌, length, codes, refl}
+use Rattle.std.specs.Prelude.{◌≡◌, ℕ, ◌≤◌, ◌==◌, ◌&&◌, Bool, true, false, not, List, [], ◌∷◌, length, map, codes, refl}
 use Rattle.std.specs.List.{list_all}
 use Rattle.std.proofs.lemmas.Bool.{leb-true}
 use Rattle.deb_relation.specs.Applying.{Environment}
@@ -19,6 +19,7 @@ use Rattle.deb_health.specs.Health.{are_apart, is_healthy}
 use Rattle.deb_health.specs.Lines.{negative_fields}
 use Rattle.deb_install.specs.Members.{members_of}
 use Rattle.deb_install.specs.Passing.{fields_pass, fields_spare, for_amd64, needing, of, perhaps_needing}
+use Rattle.deb_install.specs.Terms.{Terms, healthy_alone, is_allowed, terms}
 use Rattle.deb_install.specs.declared.readings.Readings.{Readings}
 use Rattle.deb_install.specs.declared.readings.Readings.TheVariants.{Every, One}
 
@@ -54,15 +55,22 @@ is_healthy_in Every strength environment packages meaning =
 is_healthy_in One strength environment packages meaning =
     can_be_healthy strength environment packages meaning
 
+-- A set of the listed packages is as the terms ask, and healthy.
+abbrev pub is_healthy_by_terms : Readings → Terms → Environment → List Listed → Meaning
+    → (ℕ → Bool) → Bool
+is_healthy_by_terms readings t environment packages meaning set =
+    is_allowed t environment.native meaning (members_of set packages)
+    && is_healthy_in readings t.strength environment (members_of set packages)
+    (members_of set meaning)
+
 -- The package with this number, which is counted from 1, is installable: a healthy set of the
--- listed packages contains it.
-pub record IsInstallable (readings : Readings) (strength : Strength) (environment : Environment)
+-- listed packages that is as the terms ask contains it.
+pub record IsInstallable (readings : Readings) (t : Terms) (environment : Environment)
     (packages : List Listed) (meaning : Meaning) (number : ℕ) : Type 0 where
   pub set : ℕ → Bool
   pub contains : set number ≡ true
   pub listed : (1 ≤ number) × (number ≤ length packages)
-  pub healthy : is_healthy_in readings strength environment (members_of set packages)
-      (members_of set meaning) ≡ true
+  pub healthy : is_healthy_by_terms readings t environment packages meaning set ≡ true
 
 worked-abundance : (can_be_abundant Depends for_amd64 [] (needing (codes "Depends")) ≡ false)
     × (can_be_abundant Depends for_amd64 [] (perhaps_needing (codes "Depends")) ≡ true)
@@ -102,8 +110,16 @@ worked-readings : (is_healthy_in Every Depends for_amd64 [] (perhaps_needing (co
     (perhaps_needing (codes "Depends") ∷ []) ≡ true)
 worked-readings = (refl, refl, refl, refl)
 
+-- the set of ee, which is left out, which isn't, and which isn't healthy
+worked-terms : (map (λ t. is_healthy_by_terms Every t for_amd64 (of (codes "ee") ∷ [])
+    (perhaps_needing (codes "Depends") ∷ []) (λ number. true))
+    (terms Depends false (codes "ee" ∷ []) ∷ healthy_alone Depends ∷ []) ≡ false ∷ true ∷ [])
+    × (is_healthy_by_terms Every (healthy_alone Depends) for_amd64 (of (codes "ee") ∷ [])
+    (needing (codes "Breaks") ∷ []) (λ number. true) ≡ false)
+worked-terms = (refl, refl)
+
 -- bb, which needs ee; another bb, which excludes ee; and ee: the first is installable with the last
-worked-installable : IsInstallable Every Depends for_amd64
+worked-installable : IsInstallable Every (healthy_alone Depends) for_amd64
     (of (codes "bb") ∷ of (codes "bb") ∷ of (codes "ee") ∷ [])
     (needing (codes "Depends") ∷ needing (codes "Conflicts") ∷ [] ∷ []) 1
 worked-installable =

@@ -1,5 +1,6 @@
 pub mod Members
 pub mod Passing
+pub mod Terms
 pub mod Installable
 pub mod Rows
 pub mod StoredRows
@@ -8,10 +9,14 @@ pub mod NameMeanings
 pub mod Laws
 pub mod Building
 pub mod Candidates
+pub mod Known
 pub mod Keeping
 pub mod Universes
 pub mod Answers
+pub mod Reasons
+pub mod ReasonLines
 pub mod Installing
+pub mod Explaining
 pub mod Witnesses
 pub mod Seeking
 pub mod SourceKinds
@@ -19,4 +24,7 @@ pub mod KeptSources
 pub mod ReadPackages
 pub mod SourceRows
 pub mod SourceAnswers
+pub mod SourceReasons
+pub mod SourceReasonLines
+pub mod SourceExplaining
 pub mod BuildFiles

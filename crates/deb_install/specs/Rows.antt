@@ -5,7 +5,8 @@ use Rattle.std.specs.List.{filter, flat_map, list_any, slice_get}
 use Rattle.std.specs.Option.{option_map_or}
 use Rattle.deb_relation.specs.Applying.{Environment}
 use Rattle.deb_relation.specs.Meaning.{Alternative, Group}
-use Rattle.deb_field.specs.Values.{ValueMeaning, NameMeans, RelationMeans}
+use Rattle.deb_field.specs.Values.{ValueMeaning, NameMeans, ArchitectureMeans, FlagMeans, RelationMeans}
+use Rattle.deb_field.specs.declared.flag.Flag.TheVariants.{Yes}
 use Rattle.deb_control.specs.Documents.{Meaning}
 use Rattle.deb_control.specs.FieldWords.{groups_of, value_under, word_under}
 use Rattle.deb_control.specs.ValueFiles.{ValueEntries}
@@ -23,6 +24,7 @@ use Rattle.deb_health.specs.Excluding.{excludes}
 use Rattle.deb_health.specs.Lines.{listed, negative_fields}
 use Rattle.deb_health.specs.Together.{rules_out}
 use Rattle.deb_install.specs.Passing.{counts, for_amd64}
+use Rattle.deb_install.specs.Terms.{Terms, healthy_alone, term_rows, terms}
 use Rattle.deb_install.specs.declared.readings.Readings.{Readings}
 use Rattle.deb_install.specs.declared.readings.Readings.TheVariants.{Every, One}
 
@@ -104,16 +106,23 @@ exclusion_row readings strength environment packages number values =
     excluded_numbers readings strength environment packages values
     ++ later_duplicates environment.native packages number
 
+-- all rows of a package: of the groups that it needs, and of the terms
+abbrev pub member_rows : Readings → Terms → Environment → List Listed → Meaning
+    → ValueEntries ValueMeaning → List (List ℕ)
+member_rows readings t environment packages meaning values =
+    needed_rows readings t.strength environment packages values
+    ++ term_rows t environment.native packages meaning (word_under (codes "Package") values)
+
 -- Two functions of a package's number, which is counted from 1: they give its rows and what it
 -- excludes. For a number that no package has they may give anything.
-pub record AreRowsOf (readings : Readings) (strength : Strength) (environment : Environment)
+pub record AreRowsOf (readings : Readings) (t : Terms) (environment : Environment)
     (packages : List Listed) (meaning : Meaning) (needs : ℕ → List (List ℕ))
     (excludes : ℕ → List ℕ) : Type 0 where
   pub needed : (k : ℕ) (values : ValueEntries ValueMeaning) → slice_get meaning k ≡ Some values
-      → needs (k + 1) ≡ needed_rows readings strength environment packages values
+      → needs (k + 1) ≡ member_rows readings t environment packages meaning values
   pub excluded : (k : ℕ) (values : ValueEntries ValueMeaning) → slice_get meaning k ≡ Some values
       → excludes (k + 1)
-      ≡ exclusion_row readings strength environment packages (k + 1) values
+      ≡ exclusion_row readings t.strength environment packages (k + 1) values
 
 -- For amd64: 1 and 4 are aa, 2 is bb, and 3 is cc for i386.
 abbrev packages : List Listed
@@ -185,6 +194,17 @@ worked-needed : (needed_rows Every Depends for_amd64 packages values
     × (needed_rows One Recommends for_amd64 packages values
     ≡ [] ∷ (1 ∷ 4 ∷ []) ∷ (2 ∷ []) ∷ [])
 worked-needed = (refl, refl, refl)
+
+-- without conditions, and if aa is left out
+worked-members : (member_rows One (healthy_alone Depends) for_amd64 packages [] values
+    ≡ [] ∷ (1 ∷ 4 ∷ []) ∷ [])
+    × (member_rows One (terms Depends true (codes "aa" ∷ [])) for_amd64 packages [] values
+    ≡ [] ∷ (1 ∷ 4 ∷ []) ∷ [] ∷ [])
+    × (member_rows One (terms Depends true []) for_amd64 packages
+    (((codes "Architecture", ArchitectureMeans (codes "all"))
+    ∷ (codes "Essential", FlagMeans Yes) ∷ (codes "Package", NameMeans (codes "bb")) ∷ []) ∷ [])
+    values ≡ [] ∷ (1 ∷ 4 ∷ []) ∷ (2 ∷ []) ∷ [])
+worked-members = (refl, refl, refl)
 
 worked-alternatives : map (λ readings. map
     (excluded_by readings for_amd64 (codes "amd64") (codes "aa") packages)

@@ -14,10 +14,9 @@ use Rattle.deb_solve.specs.Verdicts.{AreVerdicts}
 use Rattle.deb_solve.specs.declared.universe.Universe.{Universe}
 use Rattle.deb_solve.specs.declared.verdict.Verdict.{Verdict}
 use Rattle.deb_solve.specs.declared.verdict.Verdict.TheVariants as solved
-use Rattle.deb_unmet.specs.declared.asked.Strength.{Strength}
-use Rattle.deb_unmet.specs.declared.asked.Strength.TheVariants.{Depends}
 use Rattle.deb_install.specs.Buildable.{IsBuildable}
 use Rattle.deb_install.specs.SourceKinds.{name_field}
+use Rattle.deb_install.specs.Terms.{Terms}
 use Rattle.deb_install.specs.declared.answer.Answer.{Answer}
 use Rattle.deb_install.specs.declared.answer.Answer.TheVariants.{Installable, Uninstallable, Unsure, Undecided}
 use Rattle.deb_install.specs.declared.readings.Readings.{Readings}
@@ -26,23 +25,23 @@ use Rattle.deb_install.specs.declared.source_kind.SourceKind.{SourceKind}
 use Rattle.deb_install.specs.declared.source_kind.SourceKind.TheVariants.{Sources, Source}
 
 -- What an answer says of a source package with these values. `Undecided` says nothing.
-abbrev pub SaysOfSource : Answer → Environment → List Listed → Meaning
+abbrev pub SaysOfSource : Answer → Terms → Environment → List Listed → Meaning
     → ValueEntries ValueMeaning → Type 0
-SaysOfSource Installable environment packages meaning values =
-    IsBuildable Every Depends environment packages meaning values
-SaysOfSource Uninstallable environment packages meaning values =
-    IsBuildable One Depends environment packages meaning values → ⊥
-SaysOfSource Unsure environment packages meaning values =
-    IsBuildable One Depends environment packages meaning values
-    × (IsBuildable Every Depends environment packages meaning values → ⊥)
-SaysOfSource Undecided environment packages meaning values = Unit {0}
+SaysOfSource Installable t environment packages meaning values =
+    IsBuildable Every t environment packages meaning values
+SaysOfSource Uninstallable t environment packages meaning values =
+    IsBuildable One t environment packages meaning values → ⊥
+SaysOfSource Unsure t environment packages meaning values =
+    IsBuildable One t environment packages meaning values
+    × (IsBuildable Every t environment packages meaning values → ⊥)
+SaysOfSource Undecided t environment packages meaning values = Unit {0}
 
 -- An answer of each source package, by how many come before it, is true.
-abbrev pub AreSourceAnswers : Environment → List Listed → Meaning → Meaning → (ℕ → Answer)
-    → Type 0
-AreSourceAnswers environment packages meaning sources answer =
+abbrev pub AreSourceAnswers : Terms → Environment → List Listed → Meaning → Meaning
+    → (ℕ → Answer) → Type 0
+AreSourceAnswers t environment packages meaning sources answer =
     (k : ℕ) (values : ValueEntries ValueMeaning) → slice_get sources k ≡ Some values
-    → SaysOfSource (answer k) environment packages meaning values
+    → SaysOfSource (answer k) t environment packages meaning values
 
 -- ` NUMBER PACKAGE VERSION source` and a newline
 abbrev pub source_words : ℕ → List ℕ → List ℕ → List ℕ
@@ -76,28 +75,21 @@ abbrev pub source_lines : SourceKind → (ℕ → Answer) → Meaning → List �
 source_lines kind answer sources = source_lines_from kind answer 0 sources
 
 -- Verdicts of these source packages in these readings, by how many come before each, are true.
-pub record AreSourceVerdicts (readings : Readings) (strength : Strength)
+pub record AreSourceVerdicts (readings : Readings) (t : Terms)
     (environment : Environment) (packages : List Listed) (meaning sources : Meaning)
     (verdicts : List Verdict) : Type 0 where
   pub yes : (k : ℕ) (values : ValueEntries ValueMeaning) → slice_get sources k ≡ Some values
       → slice_get verdicts k ≡ Some solved.Installable
-      → IsBuildable readings strength environment packages meaning values
+      → IsBuildable readings t environment packages meaning values
   pub no : (k : ℕ) (values : ValueEntries ValueMeaning) → slice_get sources k ≡ Some values
       → slice_get verdicts k ≡ Some solved.Uninstallable
-      → IsBuildable readings strength environment packages meaning values → ⊥
+      → IsBuildable readings t environment packages meaning values → ⊥
 
 -- They are the last of true verdicts on a universe, so many.
 pub record AreLastVerdicts (u : Universe) (count : ℕ) (last : List Verdict) : Type 0 where
   pub verdicts : List Verdict
   pub are : AreVerdicts u verdicts
   pub is : last ≡ drop (length verdicts - count) verdicts
-
--- This text has the lines of true answers.
-pub record HasSourceAnswers (kind : SourceKind) (environment : Environment)
-    (packages : List Listed) (meaning sources : Meaning) (text : List ℕ) : Type 0 where
-  pub answer : ℕ → Answer
-  pub are_true : AreSourceAnswers environment packages meaning sources answer
-  pub is : text ≡ source_lines kind answer sources
 
 -- bb in an index, and aa in a description
 abbrev bb : ValueEntries ValueMeaning

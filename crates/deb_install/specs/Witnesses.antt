@@ -14,17 +14,18 @@ use Rattle.deb_index.specs.Members.{ListsMembers, doc_of, has_values}
 use Rattle.deb_index.specs.Named.{package_at}
 use Rattle.deb_index.specs.ReportText.{canonical_version, package_line}
 use Rattle.deb_index.specs.Reports.{Numbered}
-use Rattle.deb_install.specs.Answers.{AreAnswers, answer_lines, is_asked, lines_from}
-use Rattle.deb_install.specs.Installable.{is_healthy_in}
-use Rattle.deb_install.specs.Installing.{AsksInstallable}
-use Rattle.deb_install.specs.Members.{members_of}
+use Rattle.deb_install.specs.Answers.{AreAnswers, AskedNames, is_asked, lines_from}
+use Rattle.deb_install.specs.Installable.{is_healthy_by_terms}
+use Rattle.deb_install.specs.Installing.{AsksInstallable, names_by}
+use Rattle.deb_install.specs.ReasonLines.{lines_with}
+use Rattle.deb_install.specs.Reasons.{AreReasonsIn, Reason}
 use Rattle.deb_install.specs.declared.answer.Answer.{Answer}
 use Rattle.deb_install.specs.declared.answer.Answer.TheVariants.{Installable}
 use Rattle.deb_install.specs.declared.readings.Readings.TheVariants.{Every}
 use Rattle.deb_install.specs.declared.witnesses.Sought.{Sought}
 
 -- The package with this number is listed, and is asked.
-pub record IsAskedAt (names : List (List ℕ)) (packages : List Listed) (number : ℕ) : Type 0 where
+pub record IsAskedAt (names : AskedNames) (packages : List Listed) (number : ℕ) : Type 0 where
   pub «package» : Listed
   pub at : package_at number packages ≡ Some «package»
   pub asked : is_asked names «package».name ≡ true
@@ -32,10 +33,10 @@ pub record IsAskedAt (names : List (List ℕ)) (packages : List Listed) (number 
 -- The set is healthy in every reading, and contains a package that is asked.
 pub record IsWitness (asks : AsksInstallable) (packages : List Listed) (meaning : Meaning)
     (set : ℕ → Bool) : Type 0 where
-  pub healthy : is_healthy_in Every asks.strength asks.environment (members_of set packages)
-      (members_of set meaning) ≡ true
+  pub healthy : is_healthy_by_terms Every asks.terms asks.environment packages meaning set
+      ≡ true
   pub number : ℕ
-  pub is_asked : IsAskedAt asks.names packages number
+  pub is_asked : IsAskedAt (names_by asks) packages number
   pub contains : set number ≡ true
 
 -- a member of a set has the line of a package that `query` found
@@ -54,13 +55,15 @@ pub record HasSet (asks : AsksInstallable) (packages : List Listed) (meaning : M
   pub lines_are : lines ≡ set_lines set packages
 
 -- These are the lines of true answers, none of which is `Installable`: each package that is asked
--- has a line.
+-- has a line. Reasons follow it, if they are asked.
 pub record HasNoSet (asks : AsksInstallable) (packages : List Listed) (meaning : Meaning)
     (lines : List ℕ) : Type 0 where
   pub answer : ℕ → Answer
-  pub are_true : AreAnswers asks.strength asks.environment packages meaning answer
+  pub are_true : AreAnswers asks.terms asks.environment packages meaning answer
   pub none : (number : ℕ) → answer number ≡ Installable → ⊥
-  pub lines_are : lines ≡ answer_lines asks.names answer packages
+  pub reasons : ℕ → List Reason
+  pub are_reasons : AreReasonsIn asks.terms asks.environment packages meaning reasons
+  pub lines_are : lines ≡ lines_with asks.reasons (names_by asks) answer reasons packages
 
 abbrev pub HasSought : AsksInstallable → List Listed → Meaning → Bool → List ℕ → Type 0
 HasSought asks packages meaning true lines = HasSet asks packages meaning lines

@@ -1,6 +1,6 @@
 //! What is known of whether each package can be installed, and its line.
 
-ghost use Rattle.std.specs.Prelude.{◌≡◌, ◌++◌, ◌<◌, ◌^◌, ◌-◌, length, slice_index_or, IfOk, OnOk};
+ghost use Rattle.std.specs.Prelude.{◌≡◌, ◌++◌, ◌<◌, ◌^◌, ◌-◌, ◌==◌, ◌||◌, length, slice_index_or, IfOk, OnOk};
 ghost use Rattle.deb_index.specs.Indexes.{packages_of};
 ghost use Rattle.deb_index.specs.Kept.{listed_of};
 ghost use Rattle.deb_index.specs.ReportText.{canonical_version, package_line};
@@ -11,13 +11,21 @@ ghost use Rattle.std.specs.Str.{bytes_eq};
 ghost use Rattle.deb_relation.specs.Applying.{is_among};
 ghost use Rattle.deb_relation.specs.Views.{name_key, names_of};
 ghost use Rattle.deb_install.specs.Answers.{answer_at, answer_by, answer_line, answer_lines};
-ghost use Rattle.deb_install.specs.Answers.{asked_line, is_asked};
+ghost use Rattle.deb_install.specs.Answers.{asked_line, is_asked, names_in};
+ghost use Rattle.deb_install.specs.ReasonLines.{package_words};
 
 use deb_index::{Index, Package};
 use deb_solve::Verdict;
 use deb_unmet::append_spaced;
 use itoa::Buffer;
 use std::alloc::{AllocError, Global};
+
+/// The names of packages that are asked, where no name means all, and of those that are left out.
+#[derive(Clone, Copy)]
+pub(crate) struct Names<'a> {
+    pub(crate) asked: &'a [&'a [u8]],
+    pub(crate) without: &'a [&'a [u8]],
+}
 
 /// What is known of whether a package can be installed.
 #[derive(Clone, Copy, Debug, PartialEq, Eq)]
@@ -37,11 +45,11 @@ pub enum Answer {
 pub(crate) fn lines_of(
     alloc: Global,
     index: &Index,
-    names: &[&[u8]],
+    names: &Names<'_>,
     every: &[Verdict],
     one: &[Verdict],
 ) -> Result<Vec<u8>, AllocError>
-    ensures { IfOk result (λ text. text.items ≡ answer_lines (names_of names.now)
+    ensures { IfOk result (λ text. text.items ≡ answer_lines (names_in names.now)
         (answer_at every.now one.now) (packages_of index.now)) }
 {
     let mut text = Vec::new(alloc);
@@ -52,14 +60,23 @@ pub(crate) fn lines_of(
     Ok(text)
 }
 
-/// Returns whether a package with this name is asked: its name is one of these, or there are none.
-pub(crate) fn is_asked(names: &[&[u8]], name: &[u8]) -> bool
-    ensures { result ≡ is_asked (names_of names.now) name.now }
+/// Returns whether a package with this name is asked: its name isn't left out, and is one of these,
+/// or there are none.
+pub(crate) fn is_asked(names: &Names<'_>, name: &[u8]) -> bool
+    ensures { result ≡ is_asked (names_in names.now) name.now }
+{
+    !is_among(name, names.without) && is_empty_or_has(names.asked, name)
+}
+
+fn is_empty_or_has(names: &[&[u8]], name: &[u8]) -> bool
+    ensures { result
+        ≡ ((length names.now == 0) || is_among name.now (names_of names.now)) }
 {
     names.is_empty() || is_among(name, names)
 }
 
-fn is_among(name: &[u8], names: &[&[u8]]) -> bool
+/// Returns whether a name is one of these.
+pub(crate) fn is_among(name: &[u8], names: &[&[u8]]) -> bool
     ensures { result ≡ is_among name.now (names_of names.now) }
 {
     some_is(names, name)
@@ -103,15 +120,15 @@ fn answer_by(every: Verdict, one: Verdict) -> Answer
 }
 
 /// Appends the line of the package with this number, if it is asked and has one.
-fn append_answer(
+pub(crate) fn append_answer(
     out: &mut Vec<u8>,
-    names: &[&[u8]],
+    names: &Names<'_>,
     answer: Answer,
     index: &Index,
     number: u64,
 ) -> Result<(), AllocError>
     ensures { OnOk result (out.new.items ≡ out.old.items
-        ++ line_at (asked_line (names_of names.now) answer) (packages_of index.now) number) }
+        ++ line_at (asked_line (names_in names.now) answer) (packages_of index.now) number) }
 {
     match index.package(number) {
         Some(package) => append_asked(out, names, answer, number, &package),
@@ -122,13 +139,13 @@ fn append_answer(
 /// Appends the line of a package, if it is asked and has one.
 fn append_asked(
     out: &mut Vec<u8>,
-    names: &[&[u8]],
+    names: &Names<'_>,
     answer: Answer,
     number: u64,
     package: &Package<'_>,
 ) -> Result<(), AllocError>
     ensures { OnOk result (out.new.items ≡ out.old.items
-        ++ asked_line (names_of names.now) answer (number, listed_of «package».now)) }
+        ++ asked_line (names_in names.now) answer (number, listed_of «package».now)) }
 {
     if is_asked(names, package.name()) {
         append_line(out, answer, number, package)
@@ -178,11 +195,23 @@ pub(crate) fn append_package(
     ensures { OnOk result (out.new.items ≡ out.old.items
         ++ package_line canonical_version (number, listed_of «package».now)) }
 {
+    append_words(out, number, package)?;
+    out.push(b'\n')?;
+    Ok(())
+}
+
+/// Appends the number, the name, the version and the architecture of a package, each after a space.
+pub(crate) fn append_words(
+    out: &mut Vec<u8>,
+    number: u64,
+    package: &Package<'_>,
+) -> Result<(), AllocError>
+    ensures { OnOk result (out.new.items ≡ out.old.items
+        ++ package_words (number, listed_of «package».now)) }
+{
     let mut buffer = Buffer::new();
     append_spaced(out, buffer.format(number).as_bytes())?;
     append_spaced(out, package.name())?;
     append_spaced(out, package.version())?;
-    append_spaced(out, package.architecture())?;
-    out.push(b'\n')?;
-    Ok(())
+    append_spaced(out, package.architecture())
 }

@@ -1,10 +1,11 @@
 //! Laws of installable packages. Each function does nothing; its contract is the law.
 
-ghost use Rattle.deb_install.specs.Laws.{AddingKeepsInstallable, BuildRowsDecide, CanonicalTextChangesNothing, EveryReadingIsOne, ReadingsAreSound, RearrangingKeepsInstallable, RowsDecide, StoredRowsDecide, UnmetIsNotInstallable};
+ghost use Rattle.deb_install.specs.Laws.{AddingKeepsInstallable, BuildRowsDecide, CanonicalTextChangesNothing, EveryReadingIsOne, ReadingsAreSound, RearrangingKeepsInstallable, ReasonsRuleOut, RowsDecide, SourceReasonsRuleOut, StoredRowsDecide, TermsOnlyRestrict, UnmetIsNotInstallable};
 
-/// A set of listed packages is healthy exactly if, by the rows of numbers of its packages, each row
-/// that one of them needs has a number of the set, and none excludes a number of the set. A package
-/// is installable exactly if its number is in such a set.
+/// A set with a listed package is healthy, and has the essential packages and none that is left
+/// out, exactly if, by the rows of numbers of its packages, each row that one of them needs has a
+/// number of the set, and none excludes a number of the set. A package is installable exactly if
+/// its number is in such a set.
 pub fn rows_decide()
     ensures { RowsDecide }
 {}
@@ -26,6 +27,13 @@ pub fn every_reading_is_one()
     ensures { EveryReadingIsOne }
 {}
 
+/// A package that is installable with essential packages, or without packages that are left out, is
+/// installable without these conditions. Leaving out more names makes no other package installable,
+/// if the essential ones aren't asked.
+pub fn terms_only_restrict()
+    ensures { TermsOnlyRestrict }
+{}
+
 /// Whatever the architecture wildcards and other names with a hyphen mean, a set that is healthy in
 /// every reading is healthy, and one that is healthy is healthy in one reading.
 pub fn readings_are_sound()
@@ -38,7 +46,20 @@ pub fn unmet_is_not_installable()
     ensures { UnmetIsNotInstallable }
 {}
 
-/// A package that is installable stays installable whatever package is added to the index.
+/// A package isn't installable if true reasons rule it out: needs and exclusions of packages, so
+/// that no set of listed packages that respects them contains the package.
+pub fn reasons_rule_out()
+    ensures { ReasonsRuleOut }
+{}
+
+/// A source package can't be built if true reasons rule it out: what it and packages need and
+/// exclude, so that no set of listed packages respects them.
+pub fn source_reasons_rule_out()
+    ensures { SourceReasonsRuleOut }
+{}
+
+/// A package that is installable stays installable whatever package is added to the index, unless
+/// that one is essential and these are asked.
 pub fn adding_keeps_installable()
     ensures { AddingKeepsInstallable }
 {}

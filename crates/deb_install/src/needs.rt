@@ -1,7 +1,8 @@
 //! The groups that a package needs, as rows of the numbers of the packages that meet them.
 
-ghost use Rattle.std.specs.Prelude.{◌≡◌, ◌++◌, [], ◌∷◌, IfOk, OnOk, cond};
+ghost use Rattle.std.specs.Prelude.{◌≡◌, ◌++◌, ℕ, List, [], ◌∷◌, length, IfOk, IfSome, IsTrue, OnOk};
 ghost use Rattle.std.specs.List.{flat_map, list_any};
+ghost use Rattle.deb_relation.specs.Applying.{Environment};
 ghost use Rattle.deb_relation.specs.Environments.{environment_of};
 ghost use Rattle.deb_relation.specs.Meaning.{Alternative as Meaning};
 ghost use Rattle.deb_relation.specs.Relations.{relation_of};
@@ -11,10 +12,12 @@ ghost use Rattle.deb_index.specs.Indexes.{packages_of};
 ghost use Rattle.deb_unmet.specs.Readings.{applies_by, may, surely};
 ghost use Rattle.deb_install.specs.Building.{AppendsRows};
 ghost use Rattle.deb_install.specs.Candidates.{candidates_if, meets_by, rows_if_may};
+ghost use Rattle.deb_install.specs.Known.{AppendsKnown, Knows};
 ghost use Rattle.deb_install.specs.Rows.{candidates, group_rows, some_surely_applies};
 
 use crate::exclusions::push_number;
 use crate::groups::Groups;
+use crate::known::Known;
 use crate::readings::Readings;
 use deb_index::{Index, cut_group, next_alternative, only_alternative};
 use deb_relation::{Alternative, Env, Relation};
@@ -29,27 +32,99 @@ pub(crate) struct Needing<'a> {
     pub(crate) readings: Readings,
     /// The environment of the package.
     pub(crate) environment: &'a Env,
+    /// Whether groups are known in this environment.
+    pub(crate) is_usual: bool,
 }
 
 /// Appends the numbers of the groups of the relation with a canonical text.
 pub(crate) fn append_groups(
     alloc: Global,
     groups: &mut Groups,
+    known: &mut Known,
     out: &mut Vec<u32>,
     needing: &Needing<'_>,
     text: &[u8],
 ) -> Result<(), AllocError>
-    ensures { OfRelation text.now (λ m. OnOk result (AppendsRows groups.old.rows groups.new.rows
-        out.old.items out.new.items (flat_map (group_rows needing.now.readings
+    ensures { (environment : Environment)
+        → Knows needing.now environment groups.old.rows known.old → OfRelation text.now
+        (λ m. OnOk result (AppendsKnown needing.now environment groups.old.rows groups.new.rows
+        known.new out.old.items out.new.items (flat_map (group_rows needing.now.readings
         (environment_of needing.now.environment.now) (packages_of needing.now.index.now)) m))) }
 {
     let mut rest = text;
     while !rest.is_empty() {
         let (group, others) = cut_group(rest);
-        append_group(alloc, groups, out, needing, group)?;
+        append_known(alloc, groups, known, out, needing, group)?;
         rest = others;
     }
     Ok(())
+}
+
+/// Appends the numbers of the rows of the group with a canonical text, which may be known.
+fn append_known(
+    alloc: Global,
+    groups: &mut Groups,
+    known: &mut Known,
+    out: &mut Vec<u32>,
+    needing: &Needing<'_>,
+    group: &[u8],
+) -> Result<(), AllocError>
+    ensures { (environment : Environment)
+        → Knows needing.now environment groups.old.rows known.old → OfGroup group.now
+        (λ g. OnOk result (AppendsKnown needing.now environment groups.old.rows groups.new.rows
+        known.new out.old.items out.new.items (group_rows needing.now.readings
+        (environment_of needing.now.environment.now) (packages_of needing.now.index.now) g))) }
+{
+    if !needing.is_usual {
+        return append_group(alloc, groups, out, needing, group);
+    }
+    match known.number_of(group) {
+        Some(number) => push(out, number),
+        None => append_new(alloc, groups, known, out, needing, group),
+    }
+}
+
+/// Appends a number.
+fn push(out: &mut Vec<u32>, number: u32) -> Result<(), AllocError>
+    ensures { OnOk result (out.new.items ≡ out.old.items ++ number ∷ []) }
+{
+    out.push(number)?;
+    Ok(())
+}
+
+/// Appends the numbers of the rows of the group with a canonical text, and notes the number if it
+/// is one alone.
+fn append_new(
+    alloc: Global,
+    groups: &mut Groups,
+    known: &mut Known,
+    out: &mut Vec<u32>,
+    needing: &Needing<'_>,
+    group: &[u8],
+) -> Result<(), AllocError>
+    ensures { IsTrue needing.now.is_usual → (environment : Environment)
+        → Knows needing.now environment groups.old.rows known.old → OfGroup group.now
+        (λ g. OnOk result (AppendsKnown needing.now environment groups.old.rows groups.new.rows
+        known.new out.old.items out.new.items (group_rows needing.now.readings
+        (environment_of needing.now.environment.now) (packages_of needing.now.index.now) g))) }
+{
+    let count = out.as_slice().len();
+    append_group(alloc, groups, out, needing, group)?;
+    match only_after(out, count) {
+        Some(number) => known.insert(alloc, group, number),
+        None => Ok(()),
+    }
+}
+
+/// Returns the only number after so many.
+fn only_after(numbers: &[u32], count: usize) -> Option<u32>
+    ensures { IfSome result (λ number. (first more : List ℕ) → numbers.now ≡ first ++ more
+        → length first ≡ count → more ≡ number ∷ []) }
+{
+    match numbers.split_last() {
+        Some((last, first)) if first.len() == count => Some(*last),
+        _ => None,
+    }
 }
 
 /// Appends the numbers of the rows of the group with a canonical text.
@@ -75,7 +150,11 @@ fn append_group(
 }
 
 /// Appends the number of a row.
-fn append_row(groups: &mut Groups, out: &mut Vec<u32>, row: &[u32]) -> Result<(), AllocError>
+pub(crate) fn append_row(
+    groups: &mut Groups,
+    out: &mut Vec<u32>,
+    row: &[u32],
+) -> Result<(), AllocError>
     ensures { OnOk result (AppendsRows groups.old.rows groups.new.rows out.old.items out.new.items
         (row.now ∷ [])) }
 {
@@ -85,7 +164,7 @@ fn append_row(groups: &mut Groups, out: &mut Vec<u32>, row: &[u32]) -> Result<()
 }
 
 /// Returns whether an alternative of the group with a canonical text surely applies.
-fn some_surely_applies(
+pub(crate) fn some_surely_applies(
     alloc: Global,
     needing: &Needing<'_>,
     group: &[u8],
@@ -172,7 +251,7 @@ fn append_candidates(
 }
 
 /// Appends the numbers of packages.
-fn append_numbers(row: &mut Vec<u32>, numbers: &[u64]) -> Result<(), AllocError>
+pub(crate) fn append_numbers(row: &mut Vec<u32>, numbers: &[u64]) -> Result<(), AllocError>
     ensures { OnOk result (row.new.items ≡ row.old.items ++ numbers.now) }
 {
     for &number in numbers {

@@ -11,9 +11,8 @@ ghost use Rattle.deb_control.specs.Documents.{refusal_of};
 ghost use Rattle.deb_index.specs.Members.{doc_of};
 ghost use Rattle.deb_install.specs.ReadPackages.{HoldsFile};
 
-use crate::kept::KeptMembers;
+use crate::kept::{KeptMember, KeptMembers};
 use deb_base::{Fault, Source};
-use deb_health::Kept;
 use deb_index::{Index, Members};
 use std::alloc::Global;
 
@@ -21,7 +20,7 @@ use std::alloc::Global;
 #[derive(Drop)]
 pub struct Packages {
     pub(crate) index: Index,
-    pub(crate) kept: Vec<Kept>,
+    pub(crate) kept: Vec<KeptMember>,
 }
 
 impl Packages {

@@ -6,6 +6,7 @@ ghost use Rattle.deb_control.specs.Pairs.{Pairwise};
 ghost use Rattle.deb_install.specs.Answers.{answer_at};
 ghost use Rattle.deb_install.specs.KeptSources.{HoldsSource};
 ghost use Rattle.deb_install.specs.SourceAnswers.{source_line, source_lines, source_words};
+ghost use Rattle.deb_install.specs.SourceReasonLines.{source_head};
 ghost use Rattle.deb_install.specs.declared.source_kind.SourceKind.{SourceKind};
 
 use crate::answer::{Answer, answer_at};
@@ -35,7 +36,7 @@ pub(crate) fn lines_of_sources(
 }
 
 /// Appends the line of the source package with this number, if it has one.
-fn append_answer(
+pub(crate) fn append_answer(
     out: &mut Vec<u8>,
     answer: Answer,
     number: u64,
@@ -62,12 +63,25 @@ fn append_with(
     ensures { OnOk result (out.new.items ≡ out.old.items
         ++ (word.now ++ source_words number source.now.name.items source.now.version.items)) }
 {
-    let mut buffer = Buffer::new();
     out.extend_from_slice(word)?;
+    append_head(out, number, source)?;
+    out.push(b'\n')?;
+    Ok(())
+}
+
+/// Appends the number, the name and the version of a source package, and `source`, each after a
+/// space.
+pub(crate) fn append_head(
+    out: &mut Vec<u8>,
+    number: u64,
+    source: &KeptSource,
+) -> Result<(), AllocError>
+    ensures { OnOk result (out.new.items ≡ out.old.items
+        ++ source_head number source.now.name.items source.now.version.items) }
+{
+    let mut buffer = Buffer::new();
     append_spaced(out, buffer.format(number).as_bytes())?;
     append_spaced(out, &source.name)?;
     append_spaced(out, &source.version)?;
-    append_spaced(out, b"source")?;
-    out.push(b'\n')?;
-    Ok(())
+    append_spaced(out, b"source")
 }

@@ -6,25 +6,27 @@ ghost use Rattle.deb_control.specs.Pairs.{Pairwise};
 ghost use Rattle.deb_control.specs.ValueFiles.{ValueEntries};
 ghost use Rattle.deb_field.specs.Values.{ValueMeaning};
 ghost use Rattle.deb_index.specs.Indexes.{packages_of};
+ghost use Rattle.deb_relation.specs.Applying.{Environment};
 ghost use Rattle.deb_relation.specs.Environments.{environment_of};
-ghost use Rattle.deb_install.specs.Building.{AppendsRows};
 ghost use Rattle.deb_install.specs.Buildable.{build_rows, conflict_fields};
+ghost use Rattle.deb_install.specs.Known.{AppendsKnown, Knows};
 ghost use Rattle.deb_install.specs.KeptSources.{HoldsBuild, HoldsSource};
 ghost use Rattle.deb_install.specs.Rows.{excluded_by_fields};
 ghost use Rattle.deb_install.specs.SourceRows.{AppendsSource, AppendsSources};
-ghost use Rattle.deb_install.specs.Universes.{AppendsNeeds, setting};
+ghost use Rattle.deb_install.specs.Universes.{AppendsNeeds, AreKnownIn, setting_of};
 ghost use Rattle.deb_install.specs.declared.source_kind.SourceKind.{SourceKind};
 
 use crate::exclusions::{Excluding, append_exclusions};
 use crate::groups::Groups;
 use crate::kept_source::{KeptBuild, KeptSource};
+use crate::known::Known;
 use crate::needs::{Needing, append_groups};
 use crate::universe::{Building, Listing};
 use deb_solve::Rows;
 use std::alloc::{AllocError, Global};
 
 /// The relation that each source package needs, though it doesn't say so.
-const IMPLIED: &'static [u8] = b"build-essential:native";
+pub(crate) const IMPLIED: &'static [u8] = b"build-essential:native";
 
 /// Appends the rows of the source packages of which this is kept.
 pub(crate) fn append_sources(
@@ -33,11 +35,10 @@ pub(crate) fn append_sources(
     listing: &Listing<'_>,
     sources: &[KeptSource],
 ) -> Result<(), AllocError>
-    ensures { (kind : SourceKind) (meaning : Meaning)
-        → Pairwise (HoldsSource kind) meaning sources.now → OnOk result (AppendsSources
-        (setting listing.now.readings listing.now.strength
-        (environment_of listing.now.environment.now) (packages_of listing.now.index.now)) meaning
-        building.old building.new) }
+    ensures { (kind : SourceKind) (meaning others : Meaning)
+        → Pairwise (HoldsSource kind) others sources.now
+        → AreKnownIn (setting_of listing.now meaning) building.old → OnOk result (AppendsSources
+        (setting_of listing.now meaning) others building.old building.new) }
 {
     for count in 0..sources.len() {
         append_source(alloc, building, listing, &sources[count].build)?;
@@ -52,15 +53,15 @@ fn append_source(
     listing: &Listing<'_>,
     build: &KeptBuild,
 ) -> Result<(), AllocError>
-    ensures { (values : ValueEntries ValueMeaning) → HoldsBuild values build.now
-        → OnOk result (AppendsSource (setting listing.now.readings listing.now.strength
-        (environment_of listing.now.environment.now) (packages_of listing.now.index.now)) values
-        building.old building.new) }
+    ensures { (meaning : Meaning) (values : ValueEntries ValueMeaning) → HoldsBuild values build.now
+        → AreKnownIn (setting_of listing.now meaning) building.old → OnOk result (AppendsSource
+        (setting_of listing.now meaning) values building.old building.new) }
 {
     let needing = Needing {
         index: listing.index,
         readings: listing.readings,
         environment: listing.environment,
+        is_usual: true,
     };
     append_needs(alloc, building, &needing, build)?;
     let excluding = Excluding {
@@ -80,13 +81,16 @@ fn append_needs(
     needing: &Needing<'_>,
     build: &KeptBuild,
 ) -> Result<(), AllocError>
-    ensures appended { (values : ValueEntries ValueMeaning) → HoldsBuild values build.now
-        → OnOk result (AppendsNeeds building.old.groups.rows building.new.groups.rows
-        building.old.needs building.new.needs (build_rows needing.now.readings
-        (environment_of needing.now.environment.now) (packages_of needing.now.index.now) values)) }
+    ensures appended { (environment : Environment) (values : ValueEntries ValueMeaning)
+        → HoldsBuild values build.now
+        → Knows needing.now environment building.old.groups.rows building.old.known
+        → OnOk result (AppendsNeeds needing.now environment building.old building.new
+        (build_rows needing.now.readings (environment_of needing.now.environment.now)
+        (packages_of needing.now.index.now) values)) }
     ensures others { building.new.excludes ≡ building.old.excludes }
 {
-    let needs = needs_of(alloc, &mut building.groups, needing, build)?;
+    let groups = &mut building.groups;
+    let needs = needs_of(alloc, groups, &mut building.known, needing, build)?;
     building.needs.push_row(&needs)
 }
 
@@ -94,19 +98,35 @@ fn append_needs(
 fn needs_of(
     alloc: Global,
     groups: &mut Groups,
+    known: &mut Known,
     needing: &Needing<'_>,
     build: &KeptBuild,
 ) -> Result<Vec<u32>, AllocError>
-    ensures { (values : ValueEntries ValueMeaning) → HoldsBuild values build.now
-        → IfOk result (λ needs. AppendsRows groups.old.rows groups.new.rows [] needs.items
-        (build_rows needing.now.readings (environment_of needing.now.environment.now)
-        (packages_of needing.now.index.now) values)) }
+    ensures { (environment : Environment) (values : ValueEntries ValueMeaning)
+        → HoldsBuild values build.now → Knows needing.now environment groups.old.rows known.old
+        → IfOk result (λ needs. AppendsKnown needing.now environment groups.old.rows
+        groups.new.rows known.new [] needs.items (build_rows needing.now.readings
+        (environment_of needing.now.environment.now) (packages_of needing.now.index.now) values)) }
 {
     let mut needs = Vec::new(alloc);
-    append_groups(alloc, groups, &mut needs, needing, IMPLIED)?;
-    append_groups(alloc, groups, &mut needs, needing, &build.depends)?;
-    append_groups(alloc, groups, &mut needs, needing, &build.depends_arch)?;
-    append_groups(alloc, groups, &mut needs, needing, &build.depends_indep)?;
+    append_groups(alloc, groups, known, &mut needs, needing, IMPLIED)?;
+    append_groups(alloc, groups, known, &mut needs, needing, &build.depends)?;
+    append_groups(
+        alloc,
+        groups,
+        known,
+        &mut needs,
+        needing,
+        &build.depends_arch,
+    )?;
+    append_groups(
+        alloc,
+        groups,
+        known,
+        &mut needs,
+        needing,
+        &build.depends_indep,
+    )?;
     Ok(needs)
 }
 

@@ -16,17 +16,18 @@ ghost use Rattle.deb_relation.specs.Environments.{environment_of};
 ghost use Rattle.deb_relation.specs.Views.{names_of};
 ghost use Rattle.deb_unmet.specs.Asking.{IsWritersFault};
 ghost use Rattle.deb_unmet.specs.Files.{is_nothing};
-ghost use Rattle.deb_install.specs.Answers.{AreVerdictsIn, HasAnswers};
-ghost use Rattle.deb_install.specs.Installing.{StopsAnswers, WritesAnswers, asks_by};
+ghost use Rattle.deb_install.specs.Answers.{AreVerdictsIn, names_asked, names_in};
+ghost use Rattle.deb_install.specs.Installing.{HasAnswers, StopsAnswers, WritesAnswers, asks_by};
 ghost use Rattle.deb_install.specs.Keeping.{HoldsGiven, HoldsValues};
+ghost use Rattle.deb_install.specs.Universes.{terms_in};
 ghost use Rattle.deb_install.specs.declared.readings.Readings.TheVariants.{Every, One};
 
-use crate::answer::lines_of;
-use crate::kept::KeptMembers;
+use crate::answer::Names;
+use crate::kept::{KeptMember, KeptMembers};
 use crate::readings::Readings;
+use crate::reasons::lines_by;
 use crate::universe::{Listing, universe_of};
 use deb_base::{Fault, Sink, Source, put_all};
-use deb_health::Kept;
 use deb_index::{Index, Members};
 use deb_relation::Env;
 use deb_solve::{Budget, Verdict, solve};
@@ -40,16 +41,39 @@ pub struct InstallRequest<'a> {
     pub members: Members,
     /// Which relations a package needs.
     pub strength: Strength,
+    /// Whether a set has to have a package of each name that a package of the environment's native
+    /// architecture, or of all, has with `Essential: yes` (Debian Policy 3.8), in any version and
+    /// of any architecture.
+    pub essential: bool,
+    /// The names of packages that are left out: none is in a set, none is essential, and none is
+    /// asked. They are counted all the same.
+    pub without: &'a [&'a [u8]],
     /// The names of the packages that are asked: all are, if there are none. A set may contain the
     /// others too.
     pub names: &'a [&'a [u8]],
     /// How long each of the two searches may take: in every reading, and in one.
     pub budget: Budget,
+    /// Whether the line of an uninstallable package is followed by reasons.
+    pub reasons: bool,
+}
+
+impl<'a> InstallRequest<'a> {
+    /// Returns the names that are asked, and those that are left out.
+    pub(crate) fn asked(&self) -> Names<'a>
+        ensures { names_in result
+            ≡ names_asked (names_of self.now.names.now) (names_of self.now.without.now) }
+    {
+        Names {
+            asked: self.names,
+            without: self.without,
+        }
+    }
 }
 
 /// Reads an index or the installed packages of a status file once, and writes a line for each
 /// package that is asked and can't be installed (Debian Policy 7.2 to 7.5): no healthy set of the
-/// file's packages contains it.
+/// file's packages contains it. If the request asks for essential packages or leaves out names, a
+/// set has to be so too.
 ///
 /// - `uninstallable`: it can't be installed, however architecture lists are read.
 /// - `unsure`: it can be installed in one reading, and not in every one.
@@ -60,6 +84,16 @@ pub struct InstallRequest<'a> {
 /// The word is followed by the number, the name, the version and the architecture of the package.
 /// The number counts the packages from 1. The lines are in the order of the packages. A package
 /// that is asked and has no line can be installed in every reading.
+///
+/// If reasons are asked, a line `uninstallable` is followed by lines that say why, unless the
+/// search for reasons spends the budget. In one reading, they alone rule the package out:
+///
+/// - ` N P V A needs GROUP: ..`: the package needs the group, and exactly the packages with these
+///   numbers meet it; `none` if there are none.
+/// - ` N P V A needs NAME (Essential): ..`: each package needs the essential ones, and exactly the
+///   packages with these numbers have the name.
+/// - ` N P V A excludes M Q W B`: no set with the first package may contain the second one.
+/// - ` N P V A is left out`: no set may contain it.
 ///
 /// At most 4,295,032,831 bytes are read: a file of the most bytes, and one piece. Promises about
 /// the text of the file hold for a reader whose bytes are known.
@@ -117,7 +151,7 @@ fn write_answers<W: Sink>(
     index: &Index,
     environment: &Env,
     request: &InstallRequest<'_>,
-    kept: &[Kept],
+    kept: &[KeptMember],
     writer: &mut W,
 ) -> Result<Summary, Fault>
     ensures ok { (text : List ℕ) → ListsMembers request.now.members text (packages_of index.now)
@@ -156,26 +190,23 @@ fn text_of(
     index: &Index,
     environment: &Env,
     request: &InstallRequest<'_>,
-    kept: &[Kept],
+    kept: &[KeptMember],
 ) -> Result<Vec<u8>, AllocError>
     ensures { (meaning : Meaning) → Pairwise HoldsValues meaning kept.now
         → Pairwise Lists meaning (packages_of index.now) → IfOk result (λ text. HasAnswers
-        request.now.strength (names_of request.now.names.now) (environment_of environment.now)
-        (packages_of index.now) meaning text.items) }
+        (asks_by request.now (environment_of environment.now)) (packages_of index.now) meaning
+        text.items) }
 {
     let listing = Listing {
         index,
         environment,
         strength: request.strength,
+        essential: request.essential,
+        without: request.without,
         readings: Readings::Every,
     };
     let every = verdicts_of(alloc, &listing, kept, request.budget)?;
-    let listing = Listing {
-        readings: Readings::One,
-        ..listing
-    };
-    let one = verdicts_if(alloc, &listing, kept, request.budget, &every)?;
-    lines_of(alloc, index, request.names, &every, &one)
+    lines_by(alloc, index, environment, request, kept, &every)
 }
 
 /// Returns a verdict for each package, by its number, in the readings of a listing; none if the
@@ -183,12 +214,12 @@ fn text_of(
 fn verdicts_of(
     alloc: Global,
     listing: &Listing<'_>,
-    kept: &[Kept],
+    kept: &[KeptMember],
     budget: Budget,
 ) -> Result<Vec<Verdict>, AllocError>
     ensures { (meaning : Meaning) → Pairwise HoldsValues meaning kept.now
         → Pairwise Lists meaning (packages_of listing.now.index.now) → IfOk result (λ verdicts.
-        AreVerdictsIn listing.now.readings listing.now.strength
+        AreVerdictsIn listing.now.readings (terms_in listing.now)
         (environment_of listing.now.environment.now) (packages_of listing.now.index.now) meaning
         verdicts.items) }
 {
@@ -202,13 +233,13 @@ fn verdicts_of(
 pub(crate) fn verdicts_if(
     alloc: Global,
     listing: &Listing<'_>,
-    kept: &[Kept],
+    kept: &[KeptMember],
     budget: Budget,
     others: &[Verdict],
 ) -> Result<Vec<Verdict>, AllocError>
     ensures { (meaning : Meaning) → Pairwise HoldsValues meaning kept.now
         → Pairwise Lists meaning (packages_of listing.now.index.now) → IfOk result (λ verdicts.
-        AreVerdictsIn listing.now.readings listing.now.strength
+        AreVerdictsIn listing.now.readings (terms_in listing.now)
         (environment_of listing.now.environment.now) (packages_of listing.now.index.now) meaning
         verdicts.items) }
 {

@@ -19,19 +19,21 @@ ghost use Rattle.deb_relation.specs.Views.{names_of};
 ghost use Rattle.deb_solve.specs.Health.{is_among};
 ghost use Rattle.deb_solve.specs.Marks.{AreMarks, marked};
 ghost use Rattle.deb_unmet.specs.Asking.{IsWritersFault};
+ghost use Rattle.deb_install.specs.Answers.{names_in};
 ghost use Rattle.deb_install.specs.Installing.{asks_by};
 ghost use Rattle.deb_install.specs.Keeping.{HoldsGiven, HoldsValues};
 ghost use Rattle.deb_install.specs.Seeking.{AreAsked, IsFoundIn};
+ghost use Rattle.deb_install.specs.Universes.{terms_in};
 ghost use Rattle.deb_install.specs.Witnesses.{HasSought, StopsWitness, WritesWitness, member_line, set_lines};
 
-use crate::answer::{append_package, is_asked, lines_of};
+use crate::answer::{Names, append_package, is_asked};
 use crate::exclusions::push_number;
-use crate::kept::KeptMembers;
+use crate::kept::{KeptMember, KeptMembers};
 use crate::readings::Readings;
+use crate::reasons::lines_by;
 use crate::universe::{Listing, universe_of};
-use crate::verdicts::{InstallRequest, verdicts_if};
+use crate::verdicts::InstallRequest;
 use deb_base::{Fault, Sink, Source, put_all};
-use deb_health::Kept;
 use deb_index::{Index, Package};
 use deb_relation::Env;
 use deb_solve::{Budget, SetOrVerdicts};
@@ -48,7 +50,8 @@ pub struct Sought {
 
 /// Reads an index or the installed packages of a status file once, and writes a healthy set of its
 /// packages that contains one that is asked (Debian Policy 7.2 to 7.5). It is healthy in every
-/// reading of architecture lists. Of the packages that are asked the first in the order of the file
+/// reading of architecture lists, has the essential packages if the request asks for them, and none
+/// that is left out. Of the packages that are asked the first in the order of the file
 /// is taken for which the search finds a set.
 ///
 /// A line of the set is a space, the number, the name, the version and the architecture of a
@@ -112,7 +115,7 @@ fn write_sought<W: Sink>(
     index: &Index,
     environment: &Env,
     request: &InstallRequest<'_>,
-    kept: &[Kept],
+    kept: &[KeptMember],
     writer: &mut W,
 ) -> Result<Sought, Fault>
     ensures ok { (text : List ℕ) → ListsMembers request.now.members text (packages_of index.now)
@@ -151,7 +154,7 @@ fn seek(
     index: &Index,
     environment: &Env,
     request: &InstallRequest<'_>,
-    kept: &[Kept],
+    kept: &[KeptMember],
 ) -> Result<Found, AllocError>
     ensures { (meaning : Meaning) → Pairwise HoldsValues meaning kept.now
         → Pairwise Lists meaning (packages_of index.now) → IfOk result (λ found. HasSought
@@ -162,6 +165,8 @@ fn seek(
         index,
         environment,
         strength: request.strength,
+        essential: request.essential,
+        without: request.without,
         readings: Readings::Every,
     };
     match set_of(alloc, &listing, kept, request)? {
@@ -169,17 +174,10 @@ fn seek(
             is_found: true,
             lines: lines_of_set(alloc, index, &members)?,
         }),
-        SetOrVerdicts::Refused(every) => {
-            let listing = Listing {
-                readings: Readings::One,
-                ..listing
-            };
-            let one = verdicts_if(alloc, &listing, kept, request.budget, &every)?;
-            Ok(Found {
-                is_found: false,
-                lines: lines_of(alloc, index, request.names, &every, &one)?,
-            })
-        }
+        SetOrVerdicts::Refused(every) => Ok(Found {
+            is_found: false,
+            lines: lines_by(alloc, index, environment, request, kept, &every)?,
+        }),
     }
 }
 
@@ -188,16 +186,20 @@ fn seek(
 fn set_of(
     alloc: Global,
     listing: &Listing<'_>,
-    kept: &[Kept],
+    kept: &[KeptMember],
     request: &InstallRequest<'_>,
 ) -> Result<SetOrVerdicts, AllocError>
     ensures { (meaning : Meaning) → Pairwise HoldsValues meaning kept.now
         → Pairwise Lists meaning (packages_of listing.now.index.now) → IfOk result
-        (IsFoundIn listing.now.readings listing.now.strength (names_of request.now.names.now)
+        (IsFoundIn listing.now.readings (terms_in listing.now) (names_of request.now.names.now)
         (environment_of listing.now.environment.now) (packages_of listing.now.index.now)
         meaning) }
 {
-    let wanted = numbers_asked(alloc, listing.index, request.names)?;
+    let names = Names {
+        asked: request.names,
+        without: listing.without,
+    };
+    let wanted = numbers_asked(alloc, listing.index, &names)?;
     match universe_of(alloc, listing, kept)? {
         Some(universe) => deb_solve::witness(alloc, &universe, &wanted, request.budget),
         None => Ok(SetOrVerdicts::Refused(Vec::new(alloc))),
@@ -205,8 +207,8 @@ fn set_of(
 }
 
 /// Returns the numbers of the packages that are asked.
-fn numbers_asked(alloc: Global, index: &Index, names: &[&[u8]]) -> Result<Vec<u32>, AllocError>
-    ensures { IfOk result (λ wanted. AreAsked (names_of names.now) (packages_of index.now)
+fn numbers_asked(alloc: Global, index: &Index, names: &Names<'_>) -> Result<Vec<u32>, AllocError>
+    ensures { IfOk result (λ wanted. AreAsked (names_in names.now) (packages_of index.now)
         wanted.items) }
 {
     let mut wanted = Vec::new(alloc);
@@ -219,12 +221,12 @@ fn numbers_asked(alloc: Global, index: &Index, names: &[&[u8]]) -> Result<Vec<u3
 /// Appends this number, if its package is asked.
 fn append_if_asked(
     out: &mut Vec<u32>,
-    names: &[&[u8]],
+    names: &Names<'_>,
     index: &Index,
     number: u64,
 ) -> Result<(), AllocError>
-    ensures { AreAsked (names_of names.now) (packages_of index.now) out.old.items
-        → OnOk result (AreAsked (names_of names.now) (packages_of index.now) out.new.items) }
+    ensures { AreAsked (names_in names.now) (packages_of index.now) out.old.items
+        → OnOk result (AreAsked (names_in names.now) (packages_of index.now) out.new.items) }
 {
     match index.package(number) {
         Some(package) if is_asked(names, package.name()) => push_number(out, number),

@@ -12,7 +12,7 @@ use Rattle.deb_install.proofs.builds.write_sources.Goals as goal
 
 pub returns-in_err-put_all-clause-stopped : goal.returns-in_err-put_all-clause-stopped
 returns-in_err-put_all-clause-stopped g c = λ members index text holds sources.
-    let asks = asks_buildable members index c.args.request.kind (environment_of c.args.environment.now) in
+    let asks = asks_buildable members index c.args.request (environment_of c.args.environment.now) in
     let file = file-held asks c.args.packages.now holds in
     let has = c.in_ok-text.ensures _ sources.meaning file.holds file.listed sources.holds in
     let p = err_from_is_err_and c.from_residual-in_err-put_all.result c.from_residual-in_err-put_all.ensures.1 in
@@ -22,7 +22,7 @@ returns-in_err-put_all-clause-stopped g c = λ members index text holds sources.
 
 pub returns-clause-ok : goal.returns-clause-ok
 returns-clause-ok g c = λ members index text holds sources.
-    let asks = asks_buildable members index c.args.request.kind (environment_of c.args.environment.now) in
+    let asks = asks_buildable members index c.args.request (environment_of c.args.environment.now) in
     let file = file-held asks c.args.packages.now holds in
     let has = c.in_ok-text.ensures _ sources.meaning file.holds file.listed sources.holds in
     writes-buildable asks text c.args.packages.now c.args.sources.now holds sources c.in_ok-text.text.items has _ _ _ (sym (pairwise-length (HoldsSource c.args.request.kind) sources.meaning c.args.sources.now sources.holds)) (subst (Appends _ _) c.deref.ensures.value c.in_ok-put_all.ensures.written)

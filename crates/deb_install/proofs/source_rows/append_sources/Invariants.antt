@@ -5,10 +5,11 @@ use Rattle.deb_control.specs.Pairs.{Pairwise}
 use Rattle.deb_install.specs.KeptSources.{HoldsSource}
 use Rattle.deb_install.specs.SourceRows.{AppendsSources}
 use Rattle.deb_install.specs.declared.source_kind.SourceKind.{SourceKind}
-use Rattle.deb_install.proofs.Universes.{setting_of}
+use Rattle.deb_install.specs.Universes.{AreKnownIn, setting_of}
 use Rattle.deb_install.proofs.source_rows.append_sources.Given as goal
 
 abbrev pub invariant-loop-count : goal.invariant-loop-count
 invariant-loop-count l =
-    (kind : SourceKind) (meaning : Meaning) → Pairwise (HoldsSource kind) meaning l.sources
-    → AppendsSources (setting_of l.listing) (take l.count meaning) l.initial.building l.building
+    (kind : SourceKind) (meaning others : Meaning) → Pairwise (HoldsSource kind) others l.sources
+    → AreKnownIn (setting_of l.listing meaning) l.initial.building
+    → AppendsSources (setting_of l.listing meaning) (take l.count others) l.initial.building l.building
