@@ -1,13 +1,13 @@
 -- A command with one more argument, and the program with one more command, is what `clap` reads so; and so are those
 -- that a walk over the rows has made so far.
-use Rattle.std.proofs.Common.{◌≡◌, ◌∙◌, ◌<◌, ◌+◌, ◌++◌, ◌∷◌, ◌||◌, ℕ, List, [], false, ap, ap₂, get_or, length, map, refl, subst, sym, take}
+use Rattle.std.proofs.Common.{◌≡◌, ◌∙◌, ◌<◌, ◌+◌, ◌++◌, ◌∷◌, ◌||◌, ℕ, IfOk, List, [], Result, Ok, Err, false, ap, ap₂, append_assoc, get_or, length, map, refl, subst, sym, take}
 use Rattle.std.proofs.lemmas.List.{map-append, take_more}
 use Rattle.clap.specs.Built.{AddsArg, AddsSubcommand}
 use Rattle.clap.specs.Simple.{App, Shape, with_rule, with_subcommand}
 use Rattle.clap.specs.Walk.{Rule, Text, rule_of}
 use Rattle.clap.specs.declared.builder.arg.Arg.{Arg}
 use Rattle.clap.specs.declared.builder.command.Command.{Command}
-use Rattle.debctl_args.specs.Commands.{CommandRow, app_of_row, app_with, program_of, program_with, row_in, rule_in, IsShaped}
+use Rattle.debctl_args.specs.Commands.{CommandRow, app_of_row, app_with, debctl_app, file_commands, package_commands, program_of, program_with, row_in, rule_in, IsShaped}
 use Rattle.debctl_args.specs.declared.options.Argument.{Argument}
 use Rattle.debctl_args.specs.declared.rows.Row.{Row}
 
@@ -38,13 +38,20 @@ program_more : (commands : List Shape) (more : Shape) → with_subcommand (progr
 program_more [] more = refl
 program_more (command ∷ commands) more = refl
 
--- the commands of the program up to this one
-pub shaped_command : (rows : List Row) (i : ℕ) (d : Row) (old added new : Command) → i < length rows → IsShaped (program_of (map row_in (take i rows))) old → IsShaped (app_of_row (row_in (get_or rows i d))) added
-    → AddsSubcommand old added new → IsShaped (program_of (map row_in (take (i + 1) rows))) new
-shaped_command rows i d old added new within was is adds =
+-- the program with the commands of the rows up to this one
+pub shaped_command : (before : List CommandRow) (rows : List Row) (i : ℕ) (d : Row) (old added new : Command) → i < length rows → IsShaped (program_of (before ++ map row_in (take i rows))) old
+    → IsShaped (app_of_row (row_in (get_or rows i d))) added → AddsSubcommand old added new → IsShaped (program_of (before ++ map row_in (take (i + 1) rows))) new
+shaped_command before rows i d old added new within was is adds =
     let top : CommandRow → Shape = λ row. (app_of_row row).top in
     let last = row_in (get_or rows i d) in
-    let more : map top (map row_in (take (i + 1) rows)) ≡ map top (map row_in (take i rows)) ++ top last ∷ [] =
-    ap (map top) (one_more row_in rows i d within) ∙ map-append top (map row_in (take i rows)) (last ∷ []) in
+    let so_far : List CommandRow = before ++ map row_in (take i rows) in
+    let more : map top (before ++ map row_in (take (i + 1) rows)) ≡ map top so_far ++ top last ∷ [] =
+    ap (λ rs. map top (before ++ rs)) (one_more row_in rows i d within) ∙ ap (map top) (sym (append_assoc before (map row_in (take i rows)) (last ∷ []))) ∙ map-append top so_far (last ∷ []) in
     let one = shaped_with _ (app_of_row last) old added new was is adds in
-    subst (λ app. IsShaped app new) (program_more (map top (map row_in (take i rows))) (top last) ∙ ap program_with (sym more)) one
+    subst (λ app. IsShaped app new) (program_more (map top so_far) (top last) ∙ ap program_with (sym more)) one
+
+-- the program with the commands of both tables
+pub shaped_program : {E : Type 0} (rows : List Row) (between : Command) (result : Result Command E) → map row_in rows ≡ package_commands → IsShaped (program_of file_commands) between
+    → IfOk result (λ made. (before : List CommandRow) → IsShaped (program_of before) between → IsShaped (program_of (before ++ map row_in rows)) made) → IfOk result (IsShaped debctl_app)
+shaped_program rows between (Ok made) is files extends = subst (λ more. IsShaped (program_of (file_commands ++ more)) made) is (extends file_commands files)
+shaped_program rows between (Err error) is files extends = tt

@@ -46,6 +46,7 @@ use Rattle.debctl_args.specs.declared.jobs.Strength.{Strength}
 use Rattle.debctl_args.specs.declared.jobs.Strength.TheVariants.{Depends, Recommends}
 use Rattle.debctl_args.specs.declared.jobs.Task.{Task}
 use Rattle.debctl_args.specs.declared.jobs.Task.TheVariants as task
+use Rattle.debctl_args.specs.declared.jobs.Terms.{Terms}
 
 -- ---- words
 
@@ -175,6 +176,11 @@ pub data Audited : Type 0 where
   paths : List Text → Audited
   listed : Text → Audited
 
+-- what a set has to contain and what it may not, with the bytes of the names
+pub record AskedTerms : Type 0 where
+  pub essential : Bool
+  pub without : List Text
+
 -- a task, with the bytes of its words
 pub data Wanted : Type 0 where
   checks : Doc → Wanted
@@ -191,9 +197,9 @@ pub data Wanted : Type 0 where
   queries_from : Text → List Text → Members → Detail → VersionText → Wanted
   finds_unmet : Text → List Text → Members → Dependents → VersionText → Wanted
   checks_health : Text → Members → Strength → Wanted
-  finds_uninstallable : Text → Members → Strength → List Text → ℕ → Wanted
-  finds_witness : Text → Members → Strength → List Text → ℕ → Wanted
-  finds_unbuildable : Text → List Text → Members → SourceKind → ℕ → Wanted
+  finds_uninstallable : Text → Members → Strength → AskedTerms → List Text → ℕ → Bool → Wanted
+  finds_witness : Text → Members → Strength → AskedTerms → List Text → ℕ → Bool → Wanted
+  finds_unbuildable : Text → List Text → Members → SourceKind → AskedTerms → ℕ → Bool → Wanted
   explains : Doc → Wanted
   explains_all : Doc → Wanted
   explains_rule : Code → Wanted
@@ -206,6 +212,10 @@ pub record Request : Type 0 where
   pub wanted : Wanted
   pub first : Option Text
   pub second : Option Text
+
+abbrev pub terms_of : Terms → AskedTerms
+terms_of terms =
+    record { essential = terms.essential; without = map string_bytes terms.without.items }
 
 abbrev pub wanted_of : Job → Wanted
 wanted_of (job.Check kind) = checks kind
@@ -227,12 +237,15 @@ wanted_of (job.QueryFrom arch profiles members detail versions) =
 wanted_of (job.Unmet arch profiles members dependents versions) =
     finds_unmet (string_bytes arch) (map string_bytes profiles.items) members dependents versions
 wanted_of (job.Healthy arch members strength) = checks_health (string_bytes arch) members strength
-wanted_of (job.Installable arch members strength names budget) =
-    finds_uninstallable (string_bytes arch) members strength (map string_bytes names.items) budget
-wanted_of (job.Witness arch members strength names budget) =
-    finds_witness (string_bytes arch) members strength (map string_bytes names.items) budget
-wanted_of (job.Buildable arch profiles members kind budget) =
-    finds_unbuildable (string_bytes arch) (map string_bytes profiles.items) members kind budget
+wanted_of (job.Installable arch members strength terms names budget reasons) =
+    finds_uninstallable (string_bytes arch) members strength (terms_of terms)
+    (map string_bytes names.items) budget reasons
+wanted_of (job.Witness arch members strength terms names budget reasons) =
+    finds_witness (string_bytes arch) members strength (terms_of terms)
+    (map string_bytes names.items) budget reasons
+wanted_of (job.Buildable arch profiles members kind terms budget reasons) =
+    finds_unbuildable (string_bytes arch) (map string_bytes profiles.items) members kind
+    (terms_of terms) budget reasons
 
 -- the files that a job reads
 abbrev pub reads_of : Job → Reads
@@ -250,9 +263,9 @@ reads_of (job.Query arch profiles relation members detail versions) = OneFile
 reads_of (job.QueryFrom arch profiles members detail versions) = Paths
 reads_of (job.Unmet arch profiles members dependents versions) = Paths
 reads_of (job.Healthy arch members strength) = OneFile
-reads_of (job.Installable arch members strength names budget) = OneFile
-reads_of (job.Witness arch members strength names budget) = OneFile
-reads_of (job.Buildable arch profiles members kind budget) = Paths
+reads_of (job.Installable arch members strength terms names budget reasons) = OneFile
+reads_of (job.Witness arch members strength terms names budget reasons) = OneFile
+reads_of (job.Buildable arch profiles members kind terms budget reasons) = Paths
 
 -- the kind that is named for the files of a job whose refusals are lines on standard error
 abbrev pub document_of : Job → Option Doc
@@ -634,15 +647,26 @@ healthy_asked rows =
       second = None;
     })
 
+-- what a set has to contain, and the names of packages that it may not
+abbrev pub terms_asked : List Row → AskedTerms
+terms_asked rows = record {
+  essential = flag_asked (first_of (codes "essential") rows);
+  without = pieces_asked (first_of (codes "without") rows);
+}
+
+-- reasons are asked for
+abbrev pub reasons_asked : List Row → Bool
+reasons_asked rows = flag_asked (first_of (codes "why") rows)
+
 -- what `installable` of packages wants with this budget: for the names of `--witness` a set, and
 -- without them the lines of packages, of those with the names of `--only` or of all
 abbrev pub packages_wanted : List Row → ℕ → Wanted
 packages_wanted rows budget = option_map_or
     (λ names. finds_witness (word_in (codes "arch") rows) (members_in rows) (strength_in rows)
-    (comma_pieces names) budget)
+    (terms_asked rows) (comma_pieces names) budget (reasons_asked rows))
     (first_of (codes "witness") rows)
     (finds_uninstallable (word_in (codes "arch") rows) (members_in rows) (strength_in rows)
-    (pieces_asked (first_of (codes "only") rows)) budget)
+    (terms_asked rows) (pieces_asked (first_of (codes "only") rows)) budget (reasons_asked rows))
 
 -- `installable` of packages
 abbrev pub packages_to_install : List Row → Asked
@@ -664,6 +688,13 @@ installable_of_packages rows =
     then only_or_witness
     else packages_to_install rows
 
+-- what `installable` of source packages of this kind wants with this budget
+abbrev pub sources_wanted : List Row → SourceKind → ℕ → Wanted
+sources_wanted rows kind budget =
+    finds_unbuildable (word_in (codes "arch") rows)
+    (pieces_asked (first_of (codes "profiles") rows)) (members_in rows) kind (terms_asked rows)
+    budget (reasons_asked rows)
+
 -- `installable` of the source packages of a file, with the packages of an index: not both are
 -- standard input
 abbrev pub buildable_of_files : List Row → SourceKind → Asked
@@ -672,8 +703,7 @@ buildable_of_files rows kind =
     then standard_input_twice
     else option_map_or
     (λ budget. asks (record {
-      wanted = finds_unbuildable (word_in (codes "arch") rows)
-          (pieces_asked (first_of (codes "profiles") rows)) (members_in rows) kind budget;
+      wanted = sources_wanted rows kind budget;
       first = Some (word_in (codes "index") rows);
       second = first_of (codes "path") rows;
     }))

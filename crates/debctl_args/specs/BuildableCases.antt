@@ -1,11 +1,11 @@
 -- Worked cases of what the words of `installable` ask of source packages.
-use Rattle.std.specs.Prelude.{◌≡◌, List, [], map, ◌∷◌, Option, Some, None, codes, refl}
+use Rattle.std.specs.Prelude.{◌≡◌, Bool, true, false, List, [], map, ◌∷◌, Option, Some, None, codes, refl}
 use Rattle.std.specs.Fmt.{digits}
 use Rattle.clap.proofs.OnLiterals.{clap_on_literals}
 use Rattle.clap.specs.Faults.{fault_of}
 use Rattle.clap.specs.Walk.{Text}
 use Rattle.clap.specs.declared.error.kind.ErrorKind.TheVariants as kind
-use Rattle.debctl_args.specs.Asked.{asked_of, asks, finds_unbuildable, finds_uninstallable, index_and_path, index_of_packages, kind_asked, names_of_sources, no_budget, other_kind, profiles_of_packages, sources_recommend, standard_input_twice, unknown_kind, Asked}
+use Rattle.debctl_args.specs.Asked.{asked_of, asks, finds_unbuildable, finds_uninstallable, index_and_path, index_of_packages, kind_asked, names_of_sources, no_budget, other_kind, profiles_of_packages, sources_recommend, standard_input_twice, unknown_kind, Asked, AskedTerms}
 use Rattle.debctl_args.specs.Commands.{debctl_app}
 use Rattle.debctl_args.specs.declared.jobs.Members.{Members}
 use Rattle.debctl_args.specs.declared.jobs.Members.TheVariants.{All, Installed}
@@ -21,11 +21,15 @@ build_line words =
 abbrev asked_with : List Text → Option Asked
 asked_with words = asked_of (build_line words)
 
+-- a set may contain any packages
+abbrev no_terms : AskedTerms
+no_terms = record { essential = false; without = [] }
+
 -- what is asked of sources for amd64, without profiles and with the budget of no option
 abbrev asks_buildable : Members → SourceKind → Text → Text → Option Asked
 asks_buildable members sources index path =
     Some (asks (record {
-      wanted = finds_unbuildable (codes "amd64") [] members sources 100000;
+      wanted = finds_unbuildable (codes "amd64") [] members sources no_terms 100000 false;
       first = Some index;
       second = Some path;
     }))
@@ -47,17 +51,39 @@ profiles_and_budget : asked_with
     (codes "--profiles" ∷ codes "a,,b" ∷ codes "--budget=7" ∷ codes "--kind=sources"
     ∷ codes "--index=x" ∷ codes "x" ∷ [])
     ≡ Some (asks (record {
-      wanted = finds_unbuildable (codes "amd64") (codes "a" ∷ [] ∷ codes "b" ∷ []) All Sources 7;
+      wanted = finds_unbuildable (codes "amd64") (codes "a" ∷ [] ∷ codes "b" ∷ []) All Sources
+          no_terms 7 false;
       first = Some (codes "x");
       second = Some (codes "x");
     }))
 unfolding clap_on_literals kind_asked digits
 profiles_and_budget = refl
 
+-- what a set has to contain and may not, and why a source can't be built
+abbrev asks_on_terms : AskedTerms → Bool → Option Asked
+asks_on_terms terms reasons =
+    Some (asks (record {
+      wanted = finds_unbuildable (codes "amd64") [] All Sources terms 100000 reasons;
+      first = Some (codes "x");
+      second = Some (codes "y");
+    }))
+
+terms_and_reasons : map
+    (λ words. asked_with (codes "--kind=sources" ∷ codes "--index=x" ∷ codes "y" ∷ words))
+    ((codes "--essential" ∷ []) ∷ (codes "--without" ∷ codes "a,b" ∷ []) ∷ (codes "--why" ∷ [])
+    ∷ (codes "--why" ∷ codes "--without=a" ∷ codes "--essential" ∷ []) ∷ [])
+    ≡ asks_on_terms (record { essential = true; without = [] }) false
+    ∷ asks_on_terms
+    (record { essential = false; without = codes "a" ∷ codes "b" ∷ [] }) false
+    ∷ asks_on_terms no_terms true
+    ∷ asks_on_terms (record { essential = true; without = codes "a" ∷ [] }) true ∷ []
+unfolding clap_on_literals kind_asked
+terms_and_reasons = refl
+
 -- the kind of packages may be named
 named_packages : asked_with (codes "--kind=packages" ∷ codes "x" ∷ [])
     ≡ Some (asks (record {
-      wanted = finds_uninstallable (codes "amd64") All Depends [] 100000;
+      wanted = finds_uninstallable (codes "amd64") All Depends no_terms [] 100000 false;
       first = Some (codes "x");
       second = None;
     }))

@@ -1,6 +1,6 @@
 -- The commands with their options and arguments, as what `clap` reads of them. `Asked.antt` says
 -- what they ask. (This project's own.)
-use Rattle.std.specs.Prelude.{◌≡◌, ℕ, ◌||◌, Bool, true, false, List, [], ◌∷◌, Option, Some, None, codes, map, bytes_eq, refl}
+use Rattle.std.specs.Prelude.{◌≡◌, ◌++◌, ℕ, ◌||◌, Bool, true, false, List, [], ◌∷◌, Option, Some, None, codes, map, bytes_eq, refl}
 use Rattle.std.specs.List.{list_any}
 use Rattle.clap.specs.Lexer.{usize_max}
 use Rattle.clap.specs.Simple.{App, Shape, app_of, new_app, new_rule, new_shape, on_top}
@@ -85,6 +85,17 @@ only_rule = record (new_rule (codes "only")) { long = Some (codes "only"); value
 abbrev pub witness_rule : Rule
 witness_rule =
     record (new_rule (codes "witness")) { long = Some (codes "witness"); value_names = 1 }
+
+-- `--essential`, which takes no value
+abbrev pub essential_rule : Rule
+essential_rule =
+    record (new_rule (codes "essential"))
+    { long = Some (codes "essential"); action = Some SetTrue }
+
+-- `--without N,N`
+abbrev pub without_rule : Rule
+without_rule =
+    record (new_rule (codes "without")) { long = Some (codes "without"); value_names = 1 }
 
 -- `--index INDEX`
 abbrev pub index_rule : Rule
@@ -215,9 +226,9 @@ pub record IsShaped (app : App) (command : Command) : Type 0 where
 abbrev pub row : Text → List Rule → CommandRow
 row name rules = record { name = name; rules = rules }
 
--- The commands: each has a name, and these options and arguments.
-abbrev pub commands : List CommandRow
-commands =
+-- The commands on files and versions: each has a name, and these options and arguments.
+abbrev pub file_commands : List CommandRow
+file_commands =
     -- `check [--kind K] [--all] [--complete] [--least N] [PATH]`
     row (codes "check") (kind_rule ∷ all_rule ∷ complete_rule ∷ least_rule
     ∷ optional_rule (codes "path") ∷ [])
@@ -245,10 +256,14 @@ commands =
     -- `version-key V ..`
     ∷ row (codes "version-key") (versions_rule ∷ [])
     -- `sort [--reverse] [PATH]`
-    ∷ row (codes "sort") (reverse_rule ∷ optional_rule (codes "path") ∷ [])
+    ∷ row (codes "sort") (reverse_rule ∷ optional_rule (codes "path") ∷ []) ∷ []
+
+-- the commands on packages, and the one for help
+abbrev pub package_commands : List CommandRow
+package_commands =
     -- `query --arch A [--profiles P,P] [--why] [--spelled] [--installed] RELATION [PATH]`, or with
     -- `--relation-from PATH` and without RELATION
-    ∷ row (codes "query") (arch_rule ∷ profiles_rule ∷ why_rule ∷ spelled_rule ∷ installed_rule
+    row (codes "query") (arch_rule ∷ profiles_rule ∷ why_rule ∷ spelled_rule ∷ installed_rule
     ∷ relation_file_rule ∷ optional_rule (codes "relation") ∷ optional_rule (codes "path") ∷ [])
     -- `unmet --arch A [--profiles P,P] [--kind K] [--recommends] [--spelled] [--installed] INDEX
     -- [PATH]`
@@ -258,15 +273,19 @@ commands =
     -- `healthy --arch A [--recommends] [--installed] [PATH]`
     ∷ row (codes "healthy") (arch_rule ∷ recommends_rule ∷ installed_rule
     ∷ optional_rule (codes "path") ∷ [])
-    -- `installable --arch A [--recommends] [--installed] [--budget N] [--only N,N] [PATH]`, the
-    -- same with `--witness N,N` in place of `--only`, and
-    -- `installable --arch A [--profiles P,P] --kind K --index INDEX [--installed] [--budget N]
-    -- PATH`
+    -- `installable --arch A [--recommends] [--essential] [--without N,N] [--installed] [--budget N]
+    -- [--only N,N] [--why] [PATH]`, the same with `--witness N,N` in place of `--only`, and
+    -- `installable --arch A [--profiles P,P] --kind K --index INDEX [--essential] [--without N,N]
+    -- [--installed] [--budget N] [--why] PATH`
     ∷ row (codes "installable") (arch_rule ∷ profiles_rule ∷ kind_rule ∷ index_rule
-    ∷ recommends_rule ∷ installed_rule ∷ budget_rule ∷ only_rule ∷ witness_rule
-    ∷ optional_rule (codes "path") ∷ [])
+    ∷ recommends_rule ∷ essential_rule ∷ without_rule ∷ installed_rule ∷ budget_rule ∷ only_rule
+    ∷ witness_rule ∷ why_rule ∷ optional_rule (codes "path") ∷ [])
     -- `help [COMMAND]`
     ∷ row (codes "help") (optional_rule (codes "command") ∷ []) ∷ []
+
+-- all commands, in the order of the program's help
+abbrev pub commands : List CommandRow
+commands = file_commands ++ package_commands
 
 -- the program with its commands
 abbrev pub debctl_app : App

@@ -1,16 +1,20 @@
 -- Worked cases of what the words of `installable` ask.
-use Rattle.std.specs.Prelude.{◌≡◌, ℕ, List, [], map, ◌∷◌, Option, Some, None, true, codes, refl}
+use Rattle.std.specs.Prelude.{◌≡◌, ℕ, Bool, true, false, List, [], map, ◌∷◌, Option, Some, None, codes, refl}
 use Rattle.std.specs.Fmt.{digits}
 use Rattle.clap.proofs.OnLiterals.{clap_on_literals}
 use Rattle.clap.specs.Faults.{fault_of}
 use Rattle.clap.specs.Takes.{takes}
 use Rattle.clap.specs.Walk.{Text}
 use Rattle.clap.specs.declared.error.kind.ErrorKind.TheVariants as kind
-use Rattle.debctl_args.specs.Asked.{asked_of, asks, asks_help, budget_named, finds_uninstallable, finds_witness, index_of_packages, kind_asked, no_budget, only_or_witness, pieces_asked, profiles_of_packages, Asked}
+use Rattle.debctl_args.specs.Asked.{asked_of, asks, asks_help, budget_named, finds_uninstallable, finds_witness, index_of_packages, kind_asked, no_budget, only_or_witness, pieces_asked, profiles_of_packages, Asked, AskedTerms}
 use Rattle.debctl_args.specs.Commands.{debctl_app}
 use Rattle.debctl_args.specs.declared.jobs.Members.TheVariants as members
 use Rattle.debctl_args.specs.declared.jobs.Strength.{Strength}
 use Rattle.debctl_args.specs.declared.jobs.Strength.TheVariants.{Depends, Recommends}
+
+-- a set may contain any packages
+abbrev no_terms : AskedTerms
+no_terms = record { essential = false; without = [] }
 
 -- the program's name, `installable`, and the arguments after it
 abbrev installable_line : List Text → List Text
@@ -20,7 +24,7 @@ installable_line words = codes "debctl" ∷ codes "installable" ∷ words
 abbrev asks_installable : Strength → ℕ → Option Text → Option Asked
 asks_installable strength budget path =
     Some (asks (record {
-      wanted = finds_uninstallable (codes "amd64") members.All strength [] budget;
+      wanted = finds_uninstallable (codes "amd64") members.All strength no_terms [] budget false;
       first = path;
       second = None;
     }))
@@ -45,7 +49,8 @@ installable_with_options = refl
 installable_of_installed_packages : asked_of
     (installable_line (codes "--arch=amd64" ∷ codes "--installed" ∷ codes "x" ∷ []))
     ≡ Some (asks (record {
-      wanted = finds_uninstallable (codes "amd64") members.Installed Depends [] 100000;
+      wanted = finds_uninstallable (codes "amd64") members.Installed Depends no_terms [] 100000
+          false;
       first = Some (codes "x");
       second = None;
     }))
@@ -56,7 +61,7 @@ installable_of_installed_packages = refl
 unusual_words : asked_of
     (installable_line (codes "--arch" ∷ [] ∷ codes "--" ∷ codes "--budget=x" ∷ []))
     ≡ Some (asks (record {
-      wanted = finds_uninstallable [] members.All Depends [] 100000;
+      wanted = finds_uninstallable [] members.All Depends no_terms [] 100000 false;
       first = Some (codes "--budget=x");
       second = None;
     }))
@@ -74,7 +79,7 @@ help_on_installable = refl
 abbrev asks_named : List Text → Option Asked
 asks_named names =
     Some (asks (record {
-      wanted = finds_uninstallable (codes "amd64") members.All Depends names 100000;
+      wanted = finds_uninstallable (codes "amd64") members.All Depends no_terms names 100000 false;
       first = Some (codes "x");
       second = None;
     }))
@@ -93,13 +98,13 @@ names_of_a_set : map (λ words. asked_of (installable_line (codes "--arch=amd64"
     ((codes "--witness" ∷ codes "aa,b" ∷ codes "x" ∷ codes "--recommends" ∷ codes "--installed"
     ∷ []) ∷ (codes "--budget=20" ∷ codes "--witness=" ∷ []) ∷ [])
     ≡ Some (asks (record {
-      wanted = finds_witness (codes "amd64") members.Installed Recommends
-          (codes "aa" ∷ codes "b" ∷ []) 100000;
+      wanted = finds_witness (codes "amd64") members.Installed Recommends no_terms
+          (codes "aa" ∷ codes "b" ∷ []) 100000 false;
       first = Some (codes "x");
       second = None;
     }))
     ∷ Some (asks (record {
-      wanted = finds_witness (codes "amd64") members.All Depends ([] ∷ []) 20;
+      wanted = finds_witness (codes "amd64") members.All Depends no_terms ([] ∷ []) 20 false;
       first = None;
       second = None;
     })) ∷ []
@@ -131,6 +136,59 @@ names_and_budget = refl
 pieces_of_words : map pieces_asked (None ∷ Some [] ∷ Some (codes "aa,b") ∷ [])
     ≡ [] ∷ ([] ∷ []) ∷ (codes "aa" ∷ codes "b" ∷ []) ∷ []
 pieces_of_words = refl
+
+-- ---- what a set has to contain, what it may not, and why there is none
+
+abbrev asks_on_terms : AskedTerms → Bool → Option Asked
+asks_on_terms terms reasons =
+    Some (asks (record {
+      wanted = finds_uninstallable (codes "amd64") members.All Depends terms [] 100000 reasons;
+      first = Some (codes "x");
+      second = None;
+    }))
+
+terms_and_reasons : map
+    (λ words. asked_of (installable_line (codes "--arch=amd64" ∷ codes "x" ∷ words)))
+    ((codes "--essential" ∷ []) ∷ (codes "--why" ∷ [])
+    ∷ (codes "--why" ∷ codes "--without=a" ∷ codes "--essential" ∷ []) ∷ [])
+    ≡ asks_on_terms (record { essential = true; without = [] }) false
+    ∷ asks_on_terms no_terms true
+    ∷ asks_on_terms (record { essential = true; without = codes "a" ∷ [] }) true ∷ []
+unfolding clap_on_literals kind_asked
+terms_and_reasons = refl
+
+-- the names are split as those of lines
+abbrev asks_without : List Text → Option Asked
+asks_without names = asks_on_terms (record { essential = false; without = names }) false
+
+names_left_out : map
+    (λ words. asked_of (installable_line (codes "--arch=amd64" ∷ codes "x" ∷ words)))
+    ((codes "--without" ∷ codes "aa,b,a a" ∷ []) ∷ (codes "--without=aa" ∷ [])
+    ∷ (codes "--without=,aa," ∷ []) ∷ (codes "--without=" ∷ []) ∷ [])
+    ≡ asks_without (codes "aa" ∷ codes "b" ∷ codes "a a" ∷ []) ∷ asks_without (codes "aa" ∷ [])
+    ∷ asks_without ([] ∷ codes "aa" ∷ [] ∷ []) ∷ asks_without ([] ∷ []) ∷ []
+unfolding clap_on_literals kind_asked
+names_left_out = refl
+
+-- with other names too, also with the same ones
+terms_of_named : map (λ words. asked_of (installable_line (codes "--arch=amd64" ∷ words)))
+    ((codes "--only=a" ∷ codes "--without=a,b" ∷ codes "--why" ∷ [])
+    ∷ (codes "--essential" ∷ codes "--without=b" ∷ codes "--why" ∷ codes "--witness=a" ∷ []) ∷ [])
+    ≡ Some (asks (record {
+      wanted = finds_uninstallable (codes "amd64") members.All Depends
+          (record { essential = false; without = codes "a" ∷ codes "b" ∷ [] })
+          (codes "a" ∷ []) 100000 true;
+      first = None;
+      second = None;
+    }))
+    ∷ Some (asks (record {
+      wanted = finds_witness (codes "amd64") members.All Depends
+          (record { essential = true; without = codes "b" ∷ [] }) (codes "a" ∷ []) 100000 true;
+      first = None;
+      second = None;
+    })) ∷ []
+unfolding clap_on_literals kind_asked
+terms_of_named = refl
 
 -- ---- budgets
 
@@ -177,16 +235,18 @@ no_architecture = refl
 -- options of other commands, and one that no command has
 unknown_options : map
     (λ word. fault_of debctl_app (installable_line (codes "--arch=amd64" ∷ word ∷ [])))
-    (codes "--why" ∷ codes "--spelled" ∷ codes "--frob" ∷ [])
+    (codes "--values" ∷ codes "--spelled" ∷ codes "--frob" ∷ [])
     ≡ (kind.UnknownArgument ∷ []) ∷ (kind.UnknownArgument ∷ []) ∷ (kind.UnknownArgument ∷ []) ∷ []
 unfolding clap_on_literals
 unknown_options = refl
 
--- only `installable` has a budget and names
+-- only `installable` has a budget, names and terms
 options_of_healthy : map (λ word. fault_of debctl_app
     (codes "debctl" ∷ codes "healthy" ∷ codes "--arch=amd64" ∷ word ∷ []))
-    (codes "--budget=1" ∷ codes "--only=a" ∷ codes "--witness=a" ∷ [])
-    ≡ (kind.UnknownArgument ∷ []) ∷ (kind.UnknownArgument ∷ []) ∷ (kind.UnknownArgument ∷ []) ∷ []
+    (codes "--budget=1" ∷ codes "--only=a" ∷ codes "--witness=a" ∷ codes "--essential"
+    ∷ codes "--without=a" ∷ codes "--why" ∷ [])
+    ≡ (kind.UnknownArgument ∷ []) ∷ (kind.UnknownArgument ∷ []) ∷ (kind.UnknownArgument ∷ [])
+    ∷ (kind.UnknownArgument ∷ []) ∷ (kind.UnknownArgument ∷ []) ∷ (kind.UnknownArgument ∷ []) ∷ []
 unfolding clap_on_literals
 options_of_healthy = refl
 
@@ -200,8 +260,12 @@ given_twice : map (λ words. fault_of debctl_app (installable_line words))
     ((codes "--arch=amd64" ∷ codes "--budget=1" ∷ codes "--budget=1" ∷ [])
     ∷ (codes "--arch=amd64" ∷ codes "--installed" ∷ codes "--installed" ∷ [])
     ∷ (codes "--arch=amd64" ∷ codes "--only=a" ∷ codes "--only=b" ∷ [])
-    ∷ (codes "--arch=amd64" ∷ codes "--witness=a" ∷ codes "--witness=b" ∷ []) ∷ [])
+    ∷ (codes "--arch=amd64" ∷ codes "--witness=a" ∷ codes "--witness=b" ∷ [])
+    ∷ (codes "--arch=amd64" ∷ codes "--essential" ∷ codes "--essential" ∷ [])
+    ∷ (codes "--arch=amd64" ∷ codes "--without=a" ∷ codes "--without=a" ∷ [])
+    ∷ (codes "--arch=amd64" ∷ codes "--why" ∷ codes "--why" ∷ []) ∷ [])
     ≡ (kind.ArgumentConflict ∷ []) ∷ (kind.ArgumentConflict ∷ [])
+    ∷ (kind.ArgumentConflict ∷ []) ∷ (kind.ArgumentConflict ∷ []) ∷ (kind.ArgumentConflict ∷ [])
     ∷ (kind.ArgumentConflict ∷ []) ∷ (kind.ArgumentConflict ∷ []) ∷ []
 unfolding clap_on_literals
 given_twice = refl

@@ -4,7 +4,7 @@ use Rattle.std.specs.Prelude.{◌≡◌, ℕ, [], ◌∷◌, map, Option, Some, 
 use Rattle.std.specs.declared.alloc.Global.{Global}
 use Rattle.clap.specs.declared.error.kind.ErrorKind.TheVariants as kind
 use Rattle.deb_base.specs.declared.code.Code.TheVariants as code
-use Rattle.debctl_args.specs.Asked.{audits, canonicalises, checks, checks_all, checks_health, checks_whole, compares, document_of, explain_takes_one, explains, explains_all, explains_relation, explains_version, finds_changes, finds_unbuildable, finds_uninstallable, finds_unmet, finds_witness, first_or_whole, index_and_path, index_of_packages, keys, kind_of_path, listed, names_of_sources, no_budget, no_names, no_number, no_recommends, no_relations, no_status, normalises, only_or_witness, other_kind, paths, paths_or_list, profiles_of_packages, queries, queries_from, reads_of, relation_or_file, request_of, sorts, sources_recommend, standard_input_twice, explains_rule, compares_files, unknown_code, unknown_command, unknown_kind, unknown_operator, wanted_of, Request, Wanted}
+use Rattle.debctl_args.specs.Asked.{audits, canonicalises, checks, checks_all, checks_health, checks_whole, compares, document_of, explain_takes_one, explains, explains_all, explains_relation, explains_version, finds_changes, finds_unbuildable, finds_uninstallable, finds_unmet, finds_witness, first_or_whole, index_and_path, index_of_packages, keys, kind_of_path, listed, names_of_sources, no_budget, no_names, no_number, no_recommends, no_relations, no_status, normalises, only_or_witness, other_kind, paths, paths_or_list, profiles_of_packages, queries, queries_from, reads_of, relation_or_file, request_of, sorts, sources_recommend, standard_input_twice, explains_rule, compares_files, unknown_code, unknown_command, unknown_kind, unknown_operator, wanted_of, AskedTerms, Request, Wanted}
 use Rattle.debctl_args.specs.Fitting.{has_mistake, has_request, is_request_kind, IsUsage, FitsKind}
 use Rattle.debctl_args.specs.declared.jobs.Demands.{Demands}
 use Rattle.debctl_args.specs.declared.jobs.Explain.TheVariants as explain
@@ -16,6 +16,7 @@ use Rattle.debctl_args.specs.declared.jobs.Members.TheVariants as members
 use Rattle.debctl_args.specs.declared.jobs.Reads.TheVariants.{Nothing, OneFile, Paths}
 use Rattle.debctl_args.specs.declared.jobs.Task.{Task}
 use Rattle.debctl_args.specs.declared.jobs.Task.TheVariants as task
+use Rattle.debctl_args.specs.declared.jobs.Terms.{Terms}
 use Rattle.debctl_args.specs.declared.arguments.UsageFault.TheVariants.{Usage, Help}
 use Rattle.debctl_args.specs.declared.jobs.DiffKind.TheVariants as diff_kinds
 use Rattle.debctl_args.specs.declared.jobs.DiffDetail.TheVariants as diff_details
@@ -43,6 +44,19 @@ other = string (codes "b-") refl refl
 abbrev demands : Demands
 demands = record { complete = true; least = 3 }
 
+-- terms of sets with their names, and the same with the bytes of these
+abbrev terms : Terms
+terms = record { essential = true; without = vector (other ∷ one ∷ []) refl }
+
+abbrev no_terms : Terms
+no_terms = record { essential = false; without = vector [] refl }
+
+abbrev bytes_of_terms : AskedTerms
+bytes_of_terms = record { essential = true; without = codes "b-" ∷ codes "amd64" ∷ [] }
+
+abbrev bytes_of_no_terms : AskedTerms
+bytes_of_no_terms = record { essential = false; without = [] }
+
 -- ---- jobs
 
 jobs_on_files : map wanted_of
@@ -62,10 +76,13 @@ jobs_on_words : map wanted_of
     ∷ job.QueryFrom other (vector (other ∷ one ∷ []) refl) members.All Verdicts Spelled
     ∷ job.Unmet one (vector (other ∷ []) refl) members.Installed dependents.Sources Spelled
     ∷ job.Healthy one members.All Recommends ∷ job.Healthy other members.Installed Depends
-    ∷ job.Installable one members.Installed Depends (vector [] refl) 7
-    ∷ job.Installable other members.All Recommends (vector (other ∷ one ∷ []) refl) 1000000000
-    ∷ job.Witness one members.Installed Recommends (vector (one ∷ other ∷ []) refl) 5
-    ∷ job.Buildable one (vector (other ∷ one ∷ []) refl) members.All sources.Source 3 ∷ [])
+    ∷ job.Installable one members.Installed Depends terms (vector [] refl) 7 false
+    ∷ job.Installable other members.All Recommends no_terms (vector (other ∷ one ∷ []) refl)
+    1000000000 true
+    ∷ job.Witness one members.Installed Recommends terms (vector (one ∷ other ∷ []) refl) 5 true
+    ∷ job.Witness one members.All Depends no_terms (vector (one ∷ []) refl) 4 false
+    ∷ job.Buildable one (vector (other ∷ one ∷ []) refl) members.All sources.Source terms 3 false
+    ∷ job.Buildable one (vector [] refl) members.All sources.Sources no_terms 2 true ∷ [])
     ≡ compares (codes "amd64") cmps.Less (codes "b-") ∷ canonicalises (codes "b-")
     ∷ keys (codes "amd64" ∷ codes "b-" ∷ [])
     ∷ queries (codes "amd64") (codes "amd64" ∷ codes "b-" ∷ []) (codes "b-") members.Installed
@@ -74,12 +91,16 @@ jobs_on_words : map wanted_of
     ∷ finds_unmet (codes "amd64") (codes "b-" ∷ []) members.Installed dependents.Sources Spelled
     ∷ checks_health (codes "amd64") members.All Recommends
     ∷ checks_health (codes "b-") members.Installed Depends
-    ∷ finds_uninstallable (codes "amd64") members.Installed Depends [] 7
-    ∷ finds_uninstallable (codes "b-") members.All Recommends (codes "b-" ∷ codes "amd64" ∷ [])
-    1000000000
-    ∷ finds_witness (codes "amd64") members.Installed Recommends (codes "amd64" ∷ codes "b-" ∷ []) 5
+    ∷ finds_uninstallable (codes "amd64") members.Installed Depends bytes_of_terms [] 7 false
+    ∷ finds_uninstallable (codes "b-") members.All Recommends bytes_of_no_terms
+    (codes "b-" ∷ codes "amd64" ∷ []) 1000000000 true
+    ∷ finds_witness (codes "amd64") members.Installed Recommends bytes_of_terms
+    (codes "amd64" ∷ codes "b-" ∷ []) 5 true
+    ∷ finds_witness (codes "amd64") members.All Depends bytes_of_no_terms (codes "amd64" ∷ []) 4
+    false
     ∷ finds_unbuildable (codes "amd64") (codes "b-" ∷ codes "amd64" ∷ []) members.All
-    sources.Source 3 ∷ []
+    sources.Source bytes_of_terms 3 false
+    ∷ finds_unbuildable (codes "amd64") [] members.All sources.Sources bytes_of_no_terms 2 true ∷ []
 unfolding one other
 jobs_on_words = refl
 
@@ -96,9 +117,9 @@ jobs =
     ∷ job.QueryFrom one (vector [] refl) members.All Verdicts Spelled
     ∷ job.Unmet one (vector [] refl) members.All dependents.Sources Spelled
     ∷ job.Healthy one members.Installed Depends
-    ∷ job.Installable one members.All Recommends (vector [] refl) 1
-    ∷ job.Witness one members.All Depends (vector (other ∷ []) refl) 1
-    ∷ job.Buildable one (vector [] refl) members.Installed sources.Sources 1 ∷ []
+    ∷ job.Installable one members.All Recommends terms (vector [] refl) 1 true
+    ∷ job.Witness one members.All Depends terms (vector (other ∷ []) refl) 1 false
+    ∷ job.Buildable one (vector [] refl) members.Installed sources.Sources terms 1 true ∷ []
 
 files_of_jobs : map reads_of jobs
     ≡ OneFile ∷ OneFile ∷ OneFile ∷ Paths ∷ OneFile ∷ Paths ∷ Nothing ∷ Nothing ∷ Nothing

@@ -2,7 +2,7 @@
 
 ghost use Rattle.std.specs.Prelude.{◌≡◌, [], Some, None, map, true, string_bytes, IfOk, IfErr, option_copied, option_map};
 ghost use Rattle.clap.specs.Words.{fault_of, found_of, has_subcommand, kind_of, rows_of, subcommand_rows_of, takes};
-ghost use Rattle.debctl_args.specs.Asked.{asked_in, asked_of, asks, audit_asked, canon_version_asked, check_asked, checks_to, demands_asked, compare_asked, diff_asked, diff_of_files, explain_asked, file_explained, healthy_asked, help_asked, buildable_of_files, buildable_of_kind, installable_asked, installable_of_packages, packages_to_install, packages_wanted, is_demanding, query_asked, query_of_file, query_of_word, relation_asked, request_of, rule_asked, same_asked, sort_asked, text_asked, unmet_asked, unmet_of_files, unmet_of_path, unmet_of_sources, version_asked, version_key_asked, wanted_of, word_in, Request};
+ghost use Rattle.debctl_args.specs.Asked.{asked_in, asked_of, asks, audit_asked, canon_version_asked, check_asked, checks_to, demands_asked, compare_asked, diff_asked, diff_of_files, explain_asked, file_explained, healthy_asked, help_asked, buildable_of_files, buildable_of_kind, installable_asked, installable_of_packages, packages_to_install, packages_wanted, is_demanding, query_asked, query_of_file, query_of_word, relation_asked, request_of, rule_asked, same_asked, sort_asked, sources_wanted, text_asked, unmet_asked, unmet_of_files, unmet_of_path, unmet_of_sources, version_asked, version_key_asked, wanted_of, word_in, Request};
 ghost use Rattle.debctl_args.specs.Commands.{debctl_app};
 ghost use Rattle.debctl_args.specs.Fitting.{Answers, AnswersError, AnswersMet, IsHelp, MeansError, FitsKind, UsesText};
 
@@ -11,8 +11,8 @@ use crate::commands::{command_of, debctl_command, kinds_help, row_named};
 use crate::found_arguments::{
     all_given, budget_in, comma_pieces, detail_in, diff_detail_in, end_in, extent_in, flag_in,
     given, has_input_beside, index_in, is_standard_input_twice, kind_in, least_in, members_in,
-    names_file, owned_texts, packages_in, path_in, pieces_in, strength_in, version_text_in,
-    versions_in, word_in,
+    names_file, owned_texts, packages_in, path_in, pieces_in, strength_in, terms_in,
+    version_text_in, versions_in, word_in,
 };
 use crate::jobs::{
     Audit, Call, Demands, Dependents, DiffKind, Explain, Extent, Files, Job, SourceKind, Task,
@@ -103,12 +103,13 @@ impl From<AllocError> for UsageFault {
 /// other command for a task.
 ///
 /// The profiles of `query`, `unmet` and `installable` are the texts between the commas of P,P, and
-/// the names of `--only` and `--witness` those between the commas of NAME,NAME; without the option
-/// there are none. A name may be any text. So may a version, an architecture, a profile or a
-/// relation here: the job checks it. The path `-` is returned as it is; the program reads standard
-/// input for it. After `--code` N is the number of an error code, from 1 to 23, in decimal, or its
-/// name. After `--least` it is a number below 2^64, in decimal and without zeros before it; after
-/// `--budget` such a number from 1 to 1,000,000,000. Without the option the budget is 100,000.
+/// the names of `--only`, `--witness` and `--without` those between the commas of NAME,NAME; there
+/// are none if the option is missing. A name may be any text. So may a version, an architecture, a
+/// profile or a relation here: the job checks it. The path `-` is returned as it is; the program
+/// reads standard input for it. After `--code` N is the number of an error code, from 1 to 23, in
+/// decimal, or its name. After `--least` it is a number below 2^64, in decimal and without zeros
+/// before it; after `--budget` such a number from 1 to 1,000,000,000. Without the option the budget
+/// is 100,000.
 ///
 /// # Errors
 ///
@@ -627,23 +628,29 @@ fn job_on_packages(alloc: Global, found: &ArgMatches<'_>, budget: u32) -> Result
         (λ job. wanted_of job ≡ packages_wanted (rows_of (found_of found.now)) budget) }
 {
     let arch = String::from_str(alloc, word_in(found, "arch"))?;
+    let terms = terms_in(alloc, found)?;
     let members = members_in(found);
     let strength = strength_in(found);
+    let reasons = flag_in(found, "why");
     if let Some(names) = given(found, "witness") {
         return Ok(Job::Witness {
             arch,
             members,
             strength,
+            terms,
             names: comma_pieces(alloc, names)?,
             budget,
+            reasons,
         });
     }
     Ok(Job::Installable {
         arch,
         members,
         strength,
+        terms,
         names: pieces_in(alloc, found, "only")?,
         budget,
+        reasons,
     })
 }
 
@@ -681,21 +688,38 @@ fn buildable_of_files(
         return Err(usage(alloc, "usage: standard input twice"));
     }
     let budget = budget_in(alloc, found)?;
-    let arch = String::from_str(alloc, word_in(found, "arch"))?;
-    let profiles = pieces_in(alloc, found, "profiles")?;
+    let job = job_on_sources(alloc, found, sources, budget)?;
     let first = String::from_str(alloc, index)?;
     let second = path_in(alloc, found)?;
     Ok(Task::Run(Call {
-        job: Job::Buildable {
-            arch,
-            profiles,
-            members: members_in(found),
-            sources,
-            budget,
-        },
+        job,
         first: Some(first),
         second,
     }))
+}
+
+/// The job of `installable` of source packages.
+fn job_on_sources(
+    alloc: Global,
+    found: &ArgMatches<'_>,
+    sources: SourceKind,
+    budget: u32,
+) -> Result<Job, AllocError>
+    ensures { IfOk result
+        (λ job. wanted_of job ≡ sources_wanted (rows_of (found_of found.now)) sources budget) }
+{
+    let arch = String::from_str(alloc, word_in(found, "arch"))?;
+    let profiles = pieces_in(alloc, found, "profiles")?;
+    let terms = terms_in(alloc, found)?;
+    Ok(Job::Buildable {
+        arch,
+        profiles,
+        members: members_in(found),
+        sources,
+        terms,
+        budget,
+        reasons: flag_in(found, "why"),
+    })
 }
 
 /// The help of the program, or of the command that a word names.

@@ -1,12 +1,12 @@
 //! The commands as `clap` knows them, made of their rows.
 
-ghost use Rattle.std.specs.Prelude.{◌≡◌, [], None, Some, IfOk, false, is_some};
+ghost use Rattle.std.specs.Prelude.{◌≡◌, ◌++◌, List, [], None, Some, IfOk, false, is_some, map};
 ghost use Rattle.clap.specs.Simple.{new_app};
 ghost use Rattle.clap.specs.Words.{rule_of};
-ghost use Rattle.debctl_args.specs.Commands.{app_of_row, commands, debctl_app, has_row, program_with, row_in, rule_in, IsShaped};
+ghost use Rattle.debctl_args.specs.Commands.{app_of_row, commands, debctl_app, has_row, program_of, program_with, row_in, rule_in, CommandRow, IsShaped};
 
 use crate::options::{Argument, Form};
-use crate::rows::{Row, commands, help_after};
+use crate::rows::{Row, file_commands, help_after, package_commands};
 use clap::{Arg, ArgAction, Command};
 use deb_base::{Doc, is_single};
 use std::alloc::{AllocError, Global};
@@ -52,8 +52,22 @@ pub(crate) fn kinds_help(alloc: Global) -> Result<String, AllocError> {
 pub(crate) fn debctl_command<'a>(alloc: Global, kinds: &'a str) -> Result<Command<'a>, AllocError>
     ensures { IfOk result (IsShaped debctl_app) }
 {
-    let mut command = bare_command(alloc);
-    for row in commands() {
+    let command = with_commands(alloc, bare_command(alloc), file_commands(), kinds)?;
+    with_commands(alloc, command, package_commands(), kinds)
+}
+
+/// The program with the commands of more rows.
+fn with_commands<'a>(
+    alloc: Global,
+    mut command: Command<'a>,
+    rows: &'static [Row],
+    kinds: &'a str,
+) -> Result<Command<'a>, AllocError>
+    ensures { IfOk result (λ made. (before : List CommandRow)
+        → IsShaped (program_of before) command.entry
+        → IsShaped (program_of (before ++ map row_in rows.now)) made) }
+{
+    for row in rows {
         let below = command_of(alloc, row, kinds)?;
         command = command.subcommand(below)?;
     }
@@ -134,5 +148,15 @@ fn option_of<'a>(arg: Arg<'a>, argument: &'static Argument) -> Arg<'a>
 pub(crate) fn row_named(name: &str) -> Option<&'static Row>
     ensures { is_some result ≡ has_row name.now commands }
 {
-    commands().iter().find(|row| row.name == name)
+    match row_among(name, file_commands()) {
+        Some(row) => Some(row),
+        None => row_among(name, package_commands()),
+    }
+}
+
+/// The first of these rows with this name, if there is one.
+fn row_among<'a>(name: &str, rows: &'a [Row]) -> Option<&'a Row>
+    ensures { is_some result ≡ has_row name.now (map row_in rows.now) }
+{
+    rows.iter().find(|row| row.name == name)
 }

@@ -2,11 +2,11 @@
 
 ghost use Rattle.std.specs.Prelude.{◌≡◌, nat_lt, count_by, map, codes, string_bytes, option_map, IfOk, option_copied};
 ghost use Rattle.clap.specs.Words.{all_of, first_of, found_of, rows_of};
-ghost use Rattle.debctl_args.specs.Asked.{budget_asked, comma_pieces, detail_asked, diff_detail_asked, end_asked, extent_asked, flag_asked, has_input_beside, index_asked, is_standard_input, kind_asked, least_asked, members_in, names_file, packages_in, pieces_asked, strength_in, texts_asked, versions_asked, word_in};
+ghost use Rattle.debctl_args.specs.Asked.{budget_asked, comma_pieces, detail_asked, diff_detail_asked, end_asked, extent_asked, flag_asked, has_input_beside, index_asked, is_standard_input, kind_asked, least_asked, members_in, names_file, packages_in, pieces_asked, strength_in, terms_asked, terms_of, texts_asked, versions_asked, word_in};
 ghost use Rattle.debctl_args.specs.Fitting.{MeansBudget, MeansKind, MeansLeast};
 
 use crate::arguments::{UsageFault, usage};
-use crate::jobs::{Dependents, Detail, DiffDetail, Extent, LineEnd, Members, Strength};
+use crate::jobs::{Dependents, Detail, DiffDetail, Extent, LineEnd, Members, Strength, Terms};
 use crate::number_argument::{budget_named, number_named};
 use clap::ArgMatches;
 use deb_base::{Doc, VersionText};
@@ -166,6 +166,16 @@ pub(crate) fn names_file(found: &ArgMatches<'_>) -> bool
     ensures { result ≡ names_file (rows_of (found_of found.now)) }
 {
     given(found, "kind").is_some() || flag_in(found, "all") || given(found, "path").is_some()
+}
+
+/// What a set has to contain if `--essential` is given, and what it may not by `--without`.
+pub(crate) fn terms_in(alloc: Global, found: &ArgMatches<'_>) -> Result<Terms, AllocError>
+    ensures { IfOk result (λ terms. terms_of terms ≡ terms_asked (rows_of (found_of found.now))) }
+{
+    Ok(Terms {
+        essential: flag_in(found, "essential"),
+        without: pieces_in(alloc, found, "without")?,
+    })
 }
 
 /// The profiles or the names that an option has, or none without it.

@@ -103,34 +103,42 @@ pub enum Job {
     },
     /// `installable`: find the packages of a file that can't be installed, for a target
     /// architecture: of those that have one of the names, or of all if there is no name. The search
-    /// for one package takes at most `budget` steps, from 1 to 1,000,000,000.
+    /// for one package takes at most `budget` steps, from 1 to 1,000,000,000. `reasons`, which is
+    /// `--why`, asks why each of them can't.
     Installable {
         arch: String,
         members: Members,
         strength: Strength,
+        terms: Terms,
         names: Vec<String>,
         budget: u32,
+        reasons: bool,
     },
     /// `installable --witness`: find a healthy set of packages of a file that contains one that has
     /// one of the names, for a target architecture. There is at least one name. The search for one
-    /// package takes at most `budget` steps, from 1 to 1,000,000,000.
+    /// package takes at most `budget` steps, from 1 to 1,000,000,000. `reasons` asks, if there is
+    /// no set, why each of these packages can't be installed.
     Witness {
         arch: String,
         members: Members,
         strength: Strength,
+        terms: Terms,
         names: Vec<String>,
         budget: u32,
+        reasons: bool,
     },
     /// `installable --kind sources` or `--kind source`: find the source packages of a file that
     /// can't be built, for a target architecture and the active build profiles. The index is the
     /// first file, and the file of sources is the second. The search for one of them takes at most
-    /// `budget` steps, from 1 to 1,000,000,000.
+    /// `budget` steps, from 1 to 1,000,000,000. `reasons` asks why each of them can't.
     Buildable {
         arch: String,
         profiles: Vec<String>,
         members: Members,
         sources: SourceKind,
+        terms: Terms,
         budget: u32,
+        reasons: bool,
     },
 }
 
@@ -256,6 +264,16 @@ pub enum SourceKind {
     Sources,
     /// The description of a source package.
     Source,
+}
+
+/// What a set of packages has to contain, and what it may not, for `installable`.
+#[derive(Debug, PartialEq, Eq, Drop)]
+pub struct Terms {
+    /// `--essential`: for each name that a listed package of the target marks Essential, a package
+    /// of that name.
+    pub essential: bool,
+    /// `--without NAME,NAME`: no package that has one of these names, as if none were listed.
+    pub without: Vec<String>,
 }
 
 /// A command and the paths of the files that it reads.

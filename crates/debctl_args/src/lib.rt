@@ -25,5 +25,5 @@ mod rows;
 pub use arguments::{UsageFault, job_of};
 pub use jobs::{
     Audit, Call, Cmp, Demands, Dependents, Detail, DiffDetail, DiffKind, Explain, Extent, Files,
-    Job, LineEnd, Members, Reads, SourceKind, Strength, Task,
+    Job, LineEnd, Members, Reads, SourceKind, Strength, Task, Terms,
 };

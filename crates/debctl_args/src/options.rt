@@ -166,13 +166,22 @@ pub(crate) const PROFILES: Argument = Argument {
     help: Some("The active build profiles, separated by commas; none if the option is missing"),
 };
 
-/// `--why`
+/// `--why` of `query`
 pub(crate) const WHY: Argument = Argument {
     id: "why",
     short: None,
     form: Form::Flag,
     shown: "",
     help: Some("Say below each unmet or ignored group why it is"),
+};
+
+/// `--why` of `installable`
+pub(crate) const INSTALLABLE_WHY: Argument = Argument {
+    id: "why",
+    short: None,
+    form: Form::Flag,
+    shown: "",
+    help: Some("Say below each uninstallable package why it is"),
 };
 
 /// `--spelled`
@@ -200,6 +209,24 @@ pub(crate) const RECOMMENDS: Argument = Argument {
     form: Form::Flag,
     shown: "",
     help: Some("Try the groups of Recommends too"),
+};
+
+/// `--essential`
+pub(crate) const ESSENTIAL: Argument = Argument {
+    id: "essential",
+    short: None,
+    form: Form::Flag,
+    shown: "",
+    help: Some("Accept only sets that contain the Essential packages"),
+};
+
+/// `--without NAME,NAME`
+pub(crate) const WITHOUT: Argument = Argument {
+    id: "without",
+    short: None,
+    form: Form::Value,
+    shown: "NAME,NAME",
+    help: Some("Leave out the packages with one of these names, as if they weren't listed"),
 };
 
 /// `--installed`

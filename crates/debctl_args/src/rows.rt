@@ -4,7 +4,7 @@ ghost use Rattle.std.specs.Prelude.{◌≡◌, map};
 ghost use Rattle.clap.specs.Words.{found_of, rows_of};
 ghost use Rattle.debctl_args.specs.Asked.{asked_by, document_asked, normalises};
 ghost use Rattle.debctl_args.specs.Fitting.{Answers};
-ghost use Rattle.debctl_args.specs.Commands.{commands, row_in};
+ghost use Rattle.debctl_args.specs.Commands.{file_commands, package_commands, row_in};
 
 use crate::arguments::{
     UsageFault, audit_task, canon_version_task, check_task, compare_task, diff_task, explain_task,
@@ -14,11 +14,11 @@ use crate::arguments::{
 use crate::found_arguments::{given, kind_in, path_in};
 use crate::jobs::{Call, Job, Task};
 use crate::options::{
-    ALL, ARCH, Argument, BUDGET, CODE, COMMAND, COMPLETE, DEPENDENTS, DIFF_KIND, FIRST, INDEX,
-    INDEX_FILE, INSTALLABLE_KIND, INSTALLED, KIND, LEAST, LEFT, LIST, NEW, NULL, OLD, ONLY,
-    OPERATOR, PATH, PATHS, PROFILES, QUERIED, RECOMMENDS, RELATION, RELATION_FILE, RELATION_TEXT,
-    REVERSE, RIGHT, SECOND, SPELLED, UNMET_KIND, VALUES, VERSION, VERSION_TEXT, VERSIONS, WHY,
-    WITNESS,
+    ALL, ARCH, Argument, BUDGET, CODE, COMMAND, COMPLETE, DEPENDENTS, DIFF_KIND, ESSENTIAL, FIRST,
+    INDEX, INDEX_FILE, INSTALLABLE_KIND, INSTALLABLE_WHY, INSTALLED, KIND, LEAST, LEFT, LIST, NEW,
+    NULL, OLD, ONLY, OPERATOR, PATH, PATHS, PROFILES, QUERIED, RECOMMENDS, RELATION, RELATION_FILE,
+    RELATION_TEXT, REVERSE, RIGHT, SECOND, SPELLED, UNMET_KIND, VALUES, VERSION, VERSION_TEXT,
+    VERSIONS, WHY, WITHOUT, WITNESS,
 };
 use clap::ArgMatches;
 use std::alloc::Global;
@@ -32,8 +32,8 @@ pub(crate) struct Row {
     pub(crate) takes: &'static [Argument],
 }
 
-/// The commands, in the order of the program's help.
-static COMMANDS: [Row; 15] = [
+/// The commands on files and versions, in the order of the program's help.
+static FILE_COMMANDS: [Row; 10] = [
     Row {
         name: "check",
         about: "Checks whether a file is well formed",
@@ -84,6 +84,10 @@ static COMMANDS: [Row; 15] = [
         about: "Sorts the lines of a file, each a version, in Debian's order",
         takes: &[REVERSE, PATH],
     },
+];
+
+/// The commands on packages and the one for help, which come after these.
+static PACKAGE_COMMANDS: [Row; 5] = [
     Row {
         name: "query",
         about: "Finds the packages of an index that meet a relation",
@@ -119,10 +123,13 @@ static COMMANDS: [Row; 15] = [
             INSTALLABLE_KIND,
             INDEX_FILE,
             RECOMMENDS,
+            ESSENTIAL,
+            WITHOUT,
             INSTALLED,
             BUDGET,
             ONLY,
             WITNESS,
+            INSTALLABLE_WHY,
             PATH,
         ],
     },
@@ -133,11 +140,18 @@ static COMMANDS: [Row; 15] = [
     },
 ];
 
-/// Returns the rows of the commands.
-pub(crate) fn commands() -> &'static [Row]
-    ensures { map row_in result.now ≡ commands }
+/// Returns the rows of the commands on files and versions.
+pub(crate) fn file_commands() -> &'static [Row]
+    ensures { map row_in result.now ≡ file_commands }
 {
-    &COMMANDS
+    &FILE_COMMANDS
+}
+
+/// Returns the rows of the commands on packages and of the one for help.
+pub(crate) fn package_commands() -> &'static [Row]
+    ensures { map row_in result.now ≡ package_commands }
+{
+    &PACKAGE_COMMANDS
 }
 
 /// Returns what the help of a command prints after its options.
@@ -635,7 +649,14 @@ architecture. A package without a line is installable. `--kind packages` is the 
 A package is installable if it is in a healthy set of packages of the file: in one for
 which `debctl healthy` prints nothing. With `--recommends` a set has to meet the groups
 of Recommends too. The order of unpacking, loops of Pre-Depends and clashes of files are
-left out, and no set has to contain the Essential packages.
+left out.
+
+With `--essential` a set also has to contain, for each name that a listed package for A
+or `all` marks Essential, a package of that name.
+
+With `--without` the packages with one of the names, which commas separate, are left
+out, as if they weren't listed: no set contains one, and they have no line. The numbers
+stay those of the file.
 
 `uninstallable`: no set that contains the package is healthy.
 
@@ -657,6 +678,15 @@ With `--witness` it prints a healthy set that contains a package with one of the
 a line ` N P V A` for each package of the set, in file order. The set is healthy however
 architecture lists with wildcards are read. It is the set of the first package in the
 file for which the search finds one. If it finds none, it prints the lines of `--only`.
+
+With `--why` lines below each `uninstallable` line say why no set contains the package.
+Each is true by itself, and they are enough:
+   N P V A needs GROUP: 5901 6000     the numbers of all packages that meet the group
+   N P V A needs GROUP: none          no package meets it
+   N P V A needs NAME (Essential): 12 the same of an Essential name
+   N P V A excludes M Q W B           no set contains both packages
+   N P V A is left out                by `--without`
+There are none if the search for them takes all of its steps.
 
 With `--kind sources` or `--kind source` the lines are those of the source packages of
 PATH that can't be built with the packages of INDEX. A is `source`, and N counts the
@@ -688,12 +718,26 @@ Example:
   $ debctl installable --arch amd64 --only bb,cc index; echo $?
   0
 
+Why can't aa be installed?
+  $ debctl installable --arch amd64 --why index; echo $?
+  uninstallable 1 aa 1 all
+   1 aa 1 all needs bb: 2
+   1 aa 1 all needs cc: 3
+   2 bb 1 all excludes 3 cc 2 amd64
+  1
+
 Which packages form a healthy set with dd?
   $ printf '\\nPackage: dd\\nVersion: 1\\nArchitecture: all\\nDepends: cc\\n' >> index
   $ debctl installable --arch amd64 --witness dd index; echo $?
    3 cc 2 amd64
    4 dd 1 all
   0
+
+Which packages can't be installed once cc is removed?
+  $ debctl installable --arch amd64 --without cc index; echo $?
+  uninstallable 1 aa 1 all
+  uninstallable 4 dd 1 all
+  1
 
 Which source packages can't be built?
   $ printf '\\nPackage: build-essential\\nVersion: 1\\nArchitecture: amd64\\n' >> index

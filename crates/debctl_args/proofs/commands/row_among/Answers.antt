@@ -6,7 +6,7 @@ use Rattle.std.proofs.lemmas.Iterator.Search.{find_from_yields_List}
 use Rattle.clap.specs.Walk.{Text}
 use Rattle.debctl_args.specs.Commands.{has_row, row_in}
 use Rattle.debctl_args.specs.declared.rows.Row.{Row}
-use Rattle.debctl_args.proofs.commands.row_named.Goals as goal
+use Rattle.debctl_args.proofs.commands.row_among.Goals as goal
 
 is_there : {X Y : Type 0} (f : X → Y) (found : Option X) → is_some found ≡ is_some (option_map f found)
 is_there f None = refl
@@ -24,6 +24,5 @@ pub returns : goal.returns
 returns c =
     let test : Row → Bool = λ row. bytes_eq row.name.now c.args.name.now in
     is_there (λ (row : Bor Row). row.now) c.find.result
-    ∙ ap is_some (find_from_yields_List test _ _ c.find.result c.find.ensures.ran (YieldsList-from_slice c.commands.result.now cc) (λ x b q k. search (rules, tests)))
-    ∙ found_is_there c.args.name.now c.commands.result.now
-    ∙ ap (has_row c.args.name.now) c.commands.ensures
+    ∙ ap is_some (find_from_yields_List test _ _ c.find.result c.find.ensures.ran (YieldsList-from_slice c.args.rows.now cc) (λ x b q k. search (rules, tests)))
+    ∙ found_is_there c.args.name.now c.args.rows.now
