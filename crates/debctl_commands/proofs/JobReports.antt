@@ -1,7 +1,7 @@
 -- From what the functions of the jobs report to what each job promises: their arguments are those of
 -- the job.
 use Rattle.std.proofs.Common.{◌≡◌, ℕ, List, map, Option, String, Vec, Global, refl, subst, sym, string_bytes}
-use Rattle.std.specs.Prelude.{IsFalse, IsTrue}
+use Rattle.std.specs.Prelude.{Bool, IsFalse, IsTrue}
 use Rattle.deb_base.specs.declared.version_text.VersionText.{VersionText}
 use Rattle.deb_index.specs.Questions.{Question, question}
 use Rattle.debctl_commands.specs.JobDevices.{ReaderOfJob, WriterOfJob}
@@ -23,6 +23,7 @@ use Rattle.debctl_args.specs.declared.jobs.DiffKind.{DiffKind}
 use Rattle.debctl_args.specs.declared.jobs.Job.{Job}
 use Rattle.debctl_args.specs.declared.jobs.Job.TheVariants.{Buildable, Diff, Query, QueryFrom, Unmet}
 use Rattle.debctl_args.specs.declared.jobs.SourceKind.{SourceKind}
+use Rattle.debctl_args.specs.declared.jobs.Terms.{Terms}
 
 -- what is reported of a job is reported of an equal one
 pub reported_as : {W E : Type 0} (job other : Job) → job ≡ other → (first second : ReaderOfJob) (out : WriterOfJob W) (err : WriterOfJob E) (status : ℕ) → Reported other first second out err status → Reported job first second out err status
@@ -103,7 +104,7 @@ module _ (job : Job) (arch : String Global) (profiles : Vec (String Global) Glob
       subst (λ (asked : Job). Reported asked first second out err status) (sym is)
       (of_unmet (λ w. Ends (unmet_promise w) first second out err status) arch profiles members dependents versions target items packages tried chosen target_is items_is packages_are tried_is chosen_is reports)
 
-module _ (job : Job) (arch : String Global) (profiles : Vec (String Global) Global) (members : Members) (sources : SourceKind) (budget : ℕ) (is : job ≡ Buildable arch profiles members sources budget) (given : SourceWords) (given_is : given ≡ words_of_build arch profiles members sources) where
+module _ (job : Job) (arch : String Global) (profiles : Vec (String Global) Global) (members : Members) (sources : SourceKind) (terms : Terms) (budget : ℕ) (reasons : Bool) (is : job ≡ Buildable arch profiles members sources terms budget reasons) (given : SourceWords) (given_is : given ≡ words_of_build arch profiles members sources terms reasons) where
   -- what refused words of `installable` on source packages leave, and what a refused index does
   pub build_unread_index : (P : Type 0) → (IsFalse (can_be_asked given) → P) → IfRefusedWords job P
   build_unread_index P then =

@@ -12,7 +12,10 @@ use Rattle.deb_base.specs.declared.fault.Fault.TheVariants.{Refused, Memory, Rea
 use Rattle.deb_base.specs.declared.version_text.VersionText.TheVariants.{Canonical, Spelled}
 use Rattle.deb_control.specs.declared.side.Side.TheVariants.{First, Second}
 use Rattle.deb_index.specs.Questions.{question}
+use Rattle.deb_install.specs.Terms.{Terms as TermsOfSet, terms}
 use Rattle.deb_sort.specs.Files.{SortsFile}
+use Rattle.deb_unmet.specs.declared.asked.Strength.{Strength}
+use Rattle.deb_unmet.specs.declared.asked.Strength.TheVariants as fields
 use Rattle.debctl_args.specs.declared.jobs.Call.{Call}
 use Rattle.debctl_args.specs.declared.jobs.Cmp.TheVariants as cmps
 use Rattle.debctl_args.specs.declared.jobs.Dependents.{Dependents}
@@ -24,10 +27,11 @@ use Rattle.debctl_args.specs.declared.jobs.Job.{Job}
 use Rattle.debctl_args.specs.declared.jobs.Job.TheVariants as job
 use Rattle.debctl_args.specs.declared.jobs.SourceKind.TheVariants as sources
 use Rattle.debctl_args.specs.declared.jobs.Strength.TheVariants.{Depends}
-use Rattle.debctl_commands.specs.BuildJob.{AreRefusedSources, can_be_asked, source_words}
+use Rattle.debctl_args.specs.declared.jobs.Terms.{Terms}
+use Rattle.debctl_commands.specs.BuildJob.{AreRefusedSources, build_promise, can_be_asked, source_words}
 use Rattle.debctl_commands.specs.DiffJob.{IsRefusedOld}
 use Rattle.debctl_commands.specs.HealthJob.{is_architecture}
-use Rattle.debctl_commands.specs.InstallJob.{install_promise}
+use Rattle.debctl_commands.specs.InstallJob.{install_promise, package_words}
 use Rattle.debctl_commands.specs.JobDevices.{reader_of, writer_of}
 use Rattle.debctl_commands.specs.Opening.{first_of_job, first_path, second_path}
 use Rattle.debctl_commands.specs.Promises.{Promise}
@@ -70,14 +74,22 @@ diff = job.Diff diff_kinds.Source diff_details.Fields Spelled
 abbrev unmet : Dependents → Job
 unmet given = job.Unmet one names members.Installed given Spelled
 
+-- a set may contain any packages
+abbrev no_terms : Terms
+no_terms = record { essential = false; without = vector [] refl }
+
+-- with essential packages, and without b-
+abbrev all_terms : Terms
+all_terms = record { essential = true; without = vector (other ∷ []) refl }
+
 abbrev installable : ℕ → Job
-installable budget = job.Installable one members.Installed Depends names budget
+installable budget = job.Installable one members.Installed Depends no_terms names budget false
 
 abbrev witness : ℕ → Job
-witness budget = job.Witness one members.Installed Depends names budget
+witness budget = job.Witness one members.Installed Depends all_terms names budget true
 
 abbrev buildable : ℕ → Job
-buildable budget = job.Buildable one names members.Installed sources.Source budget
+buildable budget = job.Buildable one names members.Installed sources.Source all_terms budget true
 
 -- ---- promises
 
@@ -135,13 +147,21 @@ promises_of_budgets : (promise (installable 1) ≡ promise (installable 9))
     × (promise (buildable 1) ≡ promise (buildable 9))
 promises_of_budgets = (refl, refl, refl)
 
+abbrev without_b : Strength → TermsOfSet
+without_b strength = terms strength true (codes "b-" ∷ [])
+
 -- the names are those of its words, in their order
 promises_of_names : (promise (installable 1)
-    ≡ install_promise (codes "amd64") Installed Depends (codes "b-" ∷ codes "amd64" ∷ []))
+    ≡ install_promise (package_words (codes "amd64") Installed (terms fields.Depends false [])
+    (codes "b-" ∷ codes "amd64" ∷ []) false))
     × (promise (witness 1)
-    ≡ witness_promise (codes "amd64") Installed Depends (codes "b-" ∷ codes "amd64" ∷ []))
+    ≡ witness_promise (package_words (codes "amd64") Installed (without_b fields.Depends)
+    (codes "b-" ∷ codes "amd64" ∷ []) true))
+    × (promise (buildable 1)
+    ≡ build_promise (source_words (codes "amd64") (codes "b-" ∷ codes "amd64" ∷ []) Installed
+    kinds.Source (without_b fields.Depends) true))
 unfolding one other
-promises_of_names = (refl, refl)
+promises_of_names = (refl, refl, refl)
 
 -- the refusal of a file has a side where both files are of one kind, and other faults have none
 lines_of_jobs : ((promise (job.Check Source)).line Read ≡ codes "fault: read\n")
@@ -196,10 +216,10 @@ unread_by_words : (IfRefusedWords query ℕ
     × (IfRefusedWords (witness 9) ℕ ≡ (IsFalse (is_architecture (codes "amd64")) → ℕ))
     × (IfRefusedWords (buildable 9) ℕ
     ≡ (IsFalse (can_be_asked (source_words (codes "amd64") (codes "b-" ∷ codes "amd64" ∷ [])
-    Installed kinds.Source)) → ℕ))
+    Installed kinds.Source (without_b fields.Depends) true)) → ℕ))
     × (IfRefusedRelation (buildable 9) None ℕ
     ≡ (AreRefusedSources (source_words (codes "amd64") (codes "b-" ∷ codes "amd64" ∷ []) Installed
-    kinds.Source) None → ℕ))
+    kinds.Source (without_b fields.Depends) true) None → ℕ))
 unfolding one other
 unread_by_words = (refl, refl, refl, refl, refl, refl, refl, refl, refl)
 

@@ -1,12 +1,13 @@
 -- What a whole command answers and writes, by its job. The jobs and their statuses are this
 -- project's own.
-use Rattle.std.specs.Prelude.{◌≡◌, ℕ, ⊤, List, map, Option}
+use Rattle.std.specs.Prelude.{◌≡◌, ℕ, ⊤, Bool, List, map, Option}
 use Rattle.std.specs.Prelude.{IsFalse, IsTrue, Result, String, Vec, string_bytes}
 use Rattle.std.specs.declared.alloc.Global.{Global}
 use Rattle.deb_base.specs.declared.fault.Fault.{Fault}
 use Rattle.deb_base.specs.declared.version_text.VersionText.{VersionText}
 use Rattle.deb_control.specs.declared.summary.Summary.{Summary}
 use Rattle.deb_index.specs.Questions.{Question, question}
+use Rattle.deb_unmet.specs.declared.asked.Strength.TheVariants as fields
 use Rattle.deb_sort.specs.Files.{SortsFile}
 use Rattle.debctl_commands.specs.AllJobs.{ChecksAll, summary_status}
 use Rattle.debctl_commands.specs.BuildJob.{AreRefusedSources, SourceWords, build_promise}
@@ -14,7 +15,7 @@ use Rattle.debctl_commands.specs.BuildJob.{can_be_asked, kind_tried, source_word
 use Rattle.debctl_commands.specs.DiffJob.{FindsChanges, IsRefusedOld, form_asked}
 use Rattle.debctl_commands.specs.DocumentJobs.{ChecksFile, NormalisesFile}
 use Rattle.debctl_commands.specs.HealthJob.{health_promise, is_architecture}
-use Rattle.debctl_commands.specs.InstallJob.{install_promise}
+use Rattle.debctl_commands.specs.InstallJob.{PackageWords, install_promise, package_words, terms_named}
 use Rattle.debctl_commands.specs.JobDevices.{ReaderOfJob, WriterOfJob}
 use Rattle.debctl_commands.specs.KeyJob.{Keys}
 use Rattle.debctl_commands.specs.Promises.{Answers, Ends, HasStatus, Promise, Refuses, Saying}
@@ -23,8 +24,8 @@ use Rattle.debctl_commands.specs.QueryFrom.{AreRefusedFrom, from_promise}
 use Rattle.debctl_commands.specs.QueryJob.{AreRefused, QueriesFile, index_members, query_options}
 use Rattle.debctl_commands.specs.Reporting.{by_status}
 use Rattle.debctl_commands.specs.SameJob.{ComparesFiles}
-use Rattle.debctl_commands.specs.UnmetJob.{AreRefusedBefore, Words, has_environment, is_index}
-use Rattle.debctl_commands.specs.UnmetJob.{unmet_promise, words}
+use Rattle.debctl_commands.specs.UnmetJob.{AreRefusedBefore, Words, fields_tried, has_environment}
+use Rattle.debctl_commands.specs.UnmetJob.{is_index, unmet_promise, words}
 use Rattle.debctl_commands.specs.VersionJobs.{Canonicalises, Compares}
 use Rattle.debctl_commands.specs.WholeJob.{ChecksWhole, verdict_report}
 use Rattle.debctl_commands.specs.WitnessJob.{witness_promise}
@@ -36,6 +37,8 @@ use Rattle.debctl_args.specs.declared.jobs.Job.TheVariants.{Compare, CanonVersio
 use Rattle.debctl_args.specs.declared.jobs.Job.TheVariants.{Buildable, Healthy, Installable}
 use Rattle.debctl_args.specs.declared.jobs.Job.TheVariants.{Unmet, VersionKey, Witness}
 use Rattle.debctl_args.specs.declared.jobs.SourceKind.{SourceKind}
+use Rattle.debctl_args.specs.declared.jobs.Strength.{Strength}
+use Rattle.debctl_args.specs.declared.jobs.Terms.{Terms}
 
 -- the question that a query's words are
 abbrev pub asked : String Global → Vec (String Global) Global → String Global → Question
@@ -54,12 +57,19 @@ words_of_unmet arch profiles members dependents versions =
     words (string_bytes arch) (map string_bytes profiles.items) (index_members members) dependents
     versions
 
+-- the words of `installable` on packages
+abbrev pub words_of_packages : String Global → Members → Strength → Terms
+    → Vec (String Global) Global → Bool → PackageWords
+words_of_packages arch members strength terms names reasons =
+    package_words (string_bytes arch) (index_members members)
+    (terms_named (fields_tried strength) terms) (map string_bytes names.items) reasons
+
 -- the words of `installable` on source packages
 abbrev pub words_of_build : String Global → Vec (String Global) Global → Members → SourceKind
-    → SourceWords
-words_of_build arch profiles members kind =
+    → Terms → Bool → SourceWords
+words_of_build arch profiles members kind terms reasons =
     source_words (string_bytes arch) (map string_bytes profiles.items) (index_members members)
-    (kind_tried kind)
+    (kind_tried kind) (terms_named fields.Depends terms) reasons
 
 -- ---- promises
 
@@ -101,14 +111,12 @@ promise_of (Unmet arch profiles members dependents versions) =
     unmet_promise (words_of_unmet arch profiles members dependents versions)
 promise_of (Healthy arch members strength) =
     health_promise (string_bytes arch) (index_members members) strength
-promise_of (Installable arch members strength names budget) =
-    install_promise (string_bytes arch) (index_members members) strength
-    (map string_bytes names.items)
-promise_of (Witness arch members strength names budget) =
-    witness_promise (string_bytes arch) (index_members members) strength
-    (map string_bytes names.items)
-promise_of (Buildable arch profiles members kind budget) =
-    build_promise (words_of_build arch profiles members kind)
+promise_of (Installable arch members strength terms names budget reasons) =
+    install_promise (words_of_packages arch members strength terms names reasons)
+promise_of (Witness arch members strength terms names budget reasons) =
+    witness_promise (words_of_packages arch members strength terms names reasons)
+promise_of (Buildable arch profiles members kind terms budget reasons) =
+    build_promise (words_of_build arch profiles members kind terms reasons)
 
 -- ---- what each status says
 
@@ -155,9 +163,14 @@ HasDetail _ = ⊥
 -- The job is on the packages of a file.
 abbrev pub IsOnPackages : Job → Type 0
 IsOnPackages (Healthy arch members strength) = Unit {0}
-IsOnPackages (Installable arch members strength names budget) = Unit {0}
-IsOnPackages (Witness arch members strength names budget) = Unit {0}
+IsOnPackages (Installable arch members strength terms names budget reasons) = Unit {0}
+IsOnPackages (Witness arch members strength terms names budget reasons) = Unit {0}
 IsOnPackages _ = ⊥
+
+-- The job is on the source packages of a file.
+abbrev pub IsOnSources : Job → Type 0
+IsOnSources (Buildable arch profiles members kind terms budget reasons) = Unit {0}
+IsOnSources _ = ⊥
 
 -- Comparing two versions takes no memory.
 abbrev pub IfCompare : Job → Type 0 → Type 0
@@ -170,7 +183,7 @@ abbrev pub IfSecondUnread : Job → Type 0 → Type 0
 IfSecondUnread (Same doc) P = Unit {0}
 IfSecondUnread (Diff kind detail versions) P = Unit {0}
 IfSecondUnread (QueryFrom arch profiles members detail versions) P = Unit {0}
-IfSecondUnread (Buildable arch profiles members kind budget) P = Unit {0}
+IfSecondUnread (Buildable arch profiles members kind terms budget reasons) P = Unit {0}
 IfSecondUnread (Unmet arch profiles members dependents versions) P =
     IsTrue (is_index dependents) → P
 IfSecondUnread _ P = P
@@ -184,12 +197,12 @@ IfRefusedWords (Unmet arch profiles members dependents versions) P =
     IsFalse (has_environment (words_of_unmet arch profiles members dependents versions)) → P
 IfRefusedWords (Healthy arch members strength) P =
     IsFalse (is_architecture (string_bytes arch)) → P
-IfRefusedWords (Installable arch members strength names budget) P =
+IfRefusedWords (Installable arch members strength terms names budget reasons) P =
     IsFalse (is_architecture (string_bytes arch)) → P
-IfRefusedWords (Witness arch members strength names budget) P =
+IfRefusedWords (Witness arch members strength terms names budget reasons) P =
     IsFalse (is_architecture (string_bytes arch)) → P
-IfRefusedWords (Buildable arch profiles members kind budget) P =
-    IsFalse (can_be_asked (words_of_build arch profiles members kind)) → P
+IfRefusedWords (Buildable arch profiles members kind terms budget reasons) P =
+    IsFalse (can_be_asked (words_of_build arch profiles members kind terms reasons)) → P
 IfRefusedWords _ P = Unit {0}
 
 -- A query whose relation is that of a file leaves the second reader, which is that of the index, as
@@ -200,7 +213,7 @@ IfRefusedRelation (QueryFrom arch profiles members detail versions) left P =
     AreRefusedFrom (asked_of_file arch profiles) left → P
 IfRefusedRelation (Unmet arch profiles members dependents versions) left P =
     AreRefusedBefore (words_of_unmet arch profiles members dependents versions) left → P
-IfRefusedRelation (Buildable arch profiles members kind budget) left P =
-    AreRefusedSources (words_of_build arch profiles members kind) left → P
+IfRefusedRelation (Buildable arch profiles members kind terms budget reasons) left P =
+    AreRefusedSources (words_of_build arch profiles members kind terms reasons) left → P
 IfRefusedRelation (Diff kind detail versions) left P = IsRefusedOld kind left → P
 IfRefusedRelation _ left P = Unit {0}

@@ -1,23 +1,20 @@
 -- What the job of `installable --witness` answers and reports. Its lines are those of
 -- `deb_install`; the order of refusals is this project's own.
-use Rattle.std.specs.Prelude.{◌≡◌, ◌⊎◌, ℕ, true, false, List, [], Some, Result, IfErr, IfOk, IsTrue, refl}
+use Rattle.std.specs.Prelude.{◌≡◌, ◌⊎◌, ℕ, true, false, List, Some, Result, IfErr, IfOk, IsTrue, refl}
 use Rattle.deb_base.specs.Devices.{read_failures_after, write_failures_after}
 use Rattle.deb_base.specs.declared.fault.Fault.{Fault}
 use Rattle.deb_control.specs.Calls.{IfRefused}
 use Rattle.deb_control.specs.Checking.{IsRefusalOfDocument}
 use Rattle.deb_control.specs.Documents.{refusal_of}
-use Rattle.deb_relation.specs.Environments.{environment_with}
 use Rattle.deb_index.specs.Members.{doc_of}
-use Rattle.deb_index.specs.declared.members.Members.{Members}
-use Rattle.deb_install.specs.Installing.{AsksInstallable, asks_installable}
+use Rattle.deb_install.specs.Installing.{AsksInstallable}
 use Rattle.deb_install.specs.Witnesses.{StopsWitness, WritesWitness}
 use Rattle.deb_install.specs.declared.witnesses.Sought.{Sought}
-use Rattle.debctl_args.specs.declared.jobs.Strength.{Strength}
 use Rattle.debctl_commands.specs.HealthJob.{FailsAtTarget, is_architecture}
+use Rattle.debctl_commands.specs.InstallJob.{PackageWords, asks_of}
 use Rattle.debctl_commands.specs.JobDevices.{ReaderOfJob, WriterOfJob}
 use Rattle.debctl_commands.specs.Promises.{Promise, plain, yes_or_no}
 use Rattle.debctl_commands.specs.Reporting.{Report, by_status}
-use Rattle.debctl_commands.specs.UnmetJob.{fields_tried}
 
 -- The answer about a set of packages of the file, and what was written, whatever the budget of the
 -- search.
@@ -39,12 +36,11 @@ abbrev pub sought_report : Sought → Report
 sought_report sought = yes_or_no sought.is_found
 
 -- What the job promises of these words.
-abbrev pub witness_promise : {W : Type 0} → List ℕ → Members → Strength → List (List ℕ) → Promise W
-witness_promise target members strength names =
+abbrev pub witness_promise : {W : Type 0} → PackageWords → Promise W
+witness_promise w =
     plain sought_report
-    (λ first second out answer. FailsAtTarget target first out answer
-    ⊎ (IsTrue (is_architecture target) × FindsSet (asks_installable members
-    (fields_tried strength) names (environment_with target [])) first out answer))
+    (λ first second out answer. FailsAtTarget w.target first out answer
+    ⊎ (IsTrue (is_architecture w.target) × FindsSet (asks_of w) first out answer))
 
 -- a set is status 0, and none is 1
 reports_of_searches : (sought_report (record { paragraphs = 2; is_found = true }) ≡ by_status 0)

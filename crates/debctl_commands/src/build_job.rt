@@ -1,26 +1,29 @@
 //! The job on an index and a file of source packages that can't be built: `installable --kind
 //! sources` and `--kind source`.
 
-ghost use Rattle.std.specs.Prelude.{◌≡◌, ◌<◌, map, string_bytes, IsFalse, List, Result, ℕ};
+ghost use Rattle.std.specs.Prelude.{◌≡◌, ◌<◌, IsFalse, List, Result, ℕ};
 ghost use Rattle.deb_base.specs.declared.fault.Fault.{Fault};
 ghost use Rattle.deb_install.specs.ReadPackages.{HoldsFile};
 ghost use Rattle.deb_relation.specs.Environments.{environment_of};
 ghost use Rattle.deb_unmet.specs.declared.asking.Summary.{Summary};
 ghost use Rattle.debctl_commands.specs.BuildJob.{AnswersSources, AreRefusedSources, BuildsBeside};
-ghost use Rattle.debctl_commands.specs.BuildJob.{build_promise, can_be_asked, kind_tried};
-ghost use Rattle.debctl_commands.specs.BuildJob.{source_words_of};
+ghost use Rattle.debctl_commands.specs.BuildJob.{asks_of_request, build_promise, can_be_asked};
+ghost use Rattle.debctl_commands.specs.BuildJob.{kind_tried, source_words_of};
 ghost use Rattle.debctl_commands.specs.JobDevices.{reader_of, writer_of};
 ghost use Rattle.debctl_commands.specs.Promises.{Ends};
 ghost use Rattle.debctl_commands.specs.Taking.{TakesFile};
 ghost use Rattle.debctl_commands.specs.UnmetJob.{Failure, IsRefusedIndex, ReportsTried, at_side};
 
+use crate::query_job::names_of;
 use crate::reporting::{report_fault, report_side};
 use crate::unmet_job::{parse_environment, report_tried};
-use deb_base::{Sink, Source};
+use deb_base::{Fault, Sink, Source};
 use deb_control::{Side, SideFault};
 use deb_index::Members;
 use deb_install::{BuildRequest, Packages, SourceKind, buildable};
 use deb_relation::Env;
+use deb_solve::Budget;
+use debctl_args::Terms;
 use std::alloc::Global;
 
 /// The arguments of the job, except for its files.
@@ -29,7 +32,18 @@ pub(crate) struct BuildWords<'a> {
     pub target: &'a str,
     pub profiles: &'a [String],
     pub members: Members,
-    pub request: BuildRequest,
+    pub kind: SourceKind,
+    pub terms: &'a Terms,
+    pub search: SearchWords,
+}
+
+/// How long the search may take, and whether it is explained.
+#[derive(Clone, Copy)]
+pub(crate) struct SearchWords {
+    /// The most steps of the search for one source package, as with `installable` of packages.
+    pub budget: u32,
+    /// Whether the line of an uninstallable source package is followed by reasons.
+    pub reasons: bool,
 }
 
 /// What they ask: for which environment, with which packages, and of which file.
@@ -37,11 +51,12 @@ pub(crate) struct BuildWords<'a> {
 struct Asking<'a> {
     environment: &'a Env,
     members: Members,
-    request: BuildRequest,
+    request: BuildRequest<'a>,
 }
 
 /// Writes to `out` a line for each source package of a file that can't be built with the packages
-/// of an index, and returns the status. `first` reads the index, and `second` the file.
+/// of an index, followed by reasons if these are asked, and returns the status. `first` reads the
+/// index, and `second` the file.
 ///
 /// - 0 and 1: both files are accepted. No line was written, or some were, and nothing to `err`.
 /// - 2: the target or a profile, the index or the file is refused, in this order. `err` has the
@@ -78,13 +93,16 @@ pub(crate) fn run_buildable<R: Source, S: Source, W: Sink, E: Sink>(
         (writer_of W.held W.failures out.old out.new)
         (writer_of E.held E.failures err.old err.new) result }
 {
+    let Ok(without) = names_of(alloc, &words.terms.without) else {
+        return report_fault(&Fault::Memory, err);
+    };
     match parse_environment(alloc, words.target, words.profiles) {
         Ok(environment) => run_beside(
             alloc,
             &Asking {
                 environment: &environment,
                 members: words.members,
-                request: words.request,
+                request: request_for(words, &without),
             },
             first,
             second,
@@ -92,6 +110,24 @@ pub(crate) fn run_buildable<R: Source, S: Source, W: Sink, E: Sink>(
             err,
         ),
         Err(fault) => report_fault(&fault, err),
+    }
+}
+
+/// Returns what is asked, with the names that are left out in bytes.
+fn request_for<'a>(words: &BuildWords<'_>, without: &'a [&'a [u8]]) -> BuildRequest<'a>
+    ensures kind { result.kind ≡ words.now.kind }
+    ensures essential { result.essential ≡ words.now.terms.now.essential }
+    ensures without { result.without.now ≡ without.entry.now }
+    ensures reasons { result.reasons ≡ words.now.search.reasons }
+{
+    BuildRequest {
+        kind: words.kind,
+        essential: words.terms.essential,
+        without,
+        budget: Budget {
+            one_search: words.search.budget,
+        },
+        reasons: words.search.reasons,
     }
 }
 
@@ -105,8 +141,8 @@ fn run_beside<R: Source, S: Source, W: Sink, E: Sink>(
     err: &mut E,
 ) -> u8
     ensures ends { (answer : Result Summary Failure)
-        × BuildsBeside asking.now.members asking.now.request.kind
-        (environment_of asking.now.environment.now)
+        × BuildsBeside (asks_of_request asking.now.members asking.now.request
+        (environment_of asking.now.environment.now))
         (reader_of (R.left first.old) (R.failures first.old) (R.failures first.new))
         (reader_of (S.left second.old) (S.failures second.old) (S.failures second.new))
         (writer_of W.held W.failures out.old out.new) answer
@@ -139,7 +175,8 @@ fn run_with<S: Source, W: Sink, E: Sink>(
 ) -> u8
     ensures ends { (tried : Result Summary Fault)
         × AnswersSources (λ (index : List ℕ). HoldsFile asking.now.members index packages.now)
-        asking.now.members asking.now.request.kind (environment_of asking.now.environment.now)
+        (asks_of_request asking.now.members asking.now.request
+        (environment_of asking.now.environment.now))
         (reader_of (S.left second.old) (S.failures second.old) (S.failures second.new))
         (writer_of W.held W.failures out.old out.new) tried
         × ReportsTried (writer_of E.held E.failures err.old err.new) (at_side Side.Second tried)

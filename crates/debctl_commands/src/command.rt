@@ -2,17 +2,20 @@
 
 ghost use Rattle.std.specs.Prelude.{◌≡◌, ◌<◌, map, string_bytes};
 ghost use Rattle.deb_base.specs.Devices.{one_more};
+ghost use Rattle.deb_unmet.specs.declared.asked.Strength.TheVariants as fields;
 ghost use Rattle.debctl_commands.specs.Running.{Done, HasDetail, IfCompare, IfRefusedRelation};
 ghost use Rattle.debctl_commands.specs.Running.{IfRefusedWords, IfSecondUnread, IfUnread};
-ghost use Rattle.debctl_commands.specs.Running.{IsOnPackages, IsRefused, Reported, SaysNo};
+ghost use Rattle.debctl_commands.specs.Running.{IsOnPackages, IsOnSources, IsRefused, Reported};
+ghost use Rattle.debctl_commands.specs.Running.{SaysNo};
 ghost use Rattle.debctl_commands.specs.BuildJob.{kind_tried, source_words, source_words_of};
 ghost use Rattle.debctl_commands.specs.DiffJob.{form_asked};
+ghost use Rattle.debctl_commands.specs.InstallJob.{terms_named};
 ghost use Rattle.debctl_commands.specs.JobDevices.{ReaderOfJob, reader_of, writer_of};
 ghost use Rattle.debctl_commands.specs.QueryJob.{index_members, query_options};
 ghost use Rattle.debctl_commands.specs.Taking.{TakesFile};
 
 use crate::all_jobs::run_check_all;
-use crate::build_job::{BuildWords, kind_tried, run_buildable};
+use crate::build_job::{BuildWords, SearchWords, kind_tried, run_buildable};
 use crate::diff_job::{DiffOptions, form_asked, run_diff};
 use crate::document_jobs::{run_check, run_normalise};
 use crate::health_job::{SetAsked, run_healthy};
@@ -26,9 +29,9 @@ use crate::version_jobs::{run_canon_version, run_compare, run_version_key};
 use crate::whole_job::run_check_whole;
 use crate::witness_job::run_witness;
 use deb_base::{Sink, Source, VersionText};
-use deb_install::BuildRequest;
-use deb_solve::Budget;
-use debctl_args::{Dependents, Detail, DiffDetail, DiffKind, Job, Members, SourceKind, Strength};
+use debctl_args::{
+    Dependents, Detail, DiffDetail, DiffKind, Job, Members, SourceKind, Strength, Terms,
+};
 use std::alloc::Global;
 
 /// Runs a job over readers and writers, reports on `err` why it failed, and returns the status.
@@ -169,16 +172,7 @@ fn run_job<R: Source, S: Source, W: Sink, E: Sink>(
             let words = unmet_words(arch, profiles, members, *dependents, *versions);
             run_unmet(alloc, &words, first, second, out, err)
         }
-        Job::Buildable {
-            arch,
-            profiles,
-            members,
-            sources,
-            budget,
-        } => {
-            let words = build_words(arch, profiles, *members, *sources, *budget);
-            run_buildable(alloc, &words, first, second, out, err)
-        }
+        Job::Buildable { .. } => run_on_sources(alloc, job, first, second, out, err),
         Job::Healthy { .. } | Job::Installable { .. } | Job::Witness { .. } => {
             run_on_packages(alloc, job, first, out, err)
         }
@@ -226,21 +220,79 @@ fn run_on_packages<R: Source, W: Sink, E: Sink>(
             arch,
             members,
             strength,
+            terms,
             names,
             budget,
+            reasons,
         } => {
-            let asked = install_asked(*members, *strength, names, *budget);
+            let asked = install_asked(*members, *strength, terms, names, *budget, *reasons);
             run_installable(alloc, arch.as_str(), asked, first, out, err)
         }
         Job::Witness {
             arch,
             members,
             strength,
+            terms,
             names,
             budget,
+            reasons,
         } => {
-            let asked = install_asked(*members, *strength, names, *budget);
+            let asked = install_asked(*members, *strength, terms, names, *budget, *reasons);
             run_witness(alloc, arch.as_str(), asked, first, out, err)
+        }
+        _ => unreachable!(),
+    }
+}
+
+/// Runs the job on the source packages of a file: `installable`.
+fn run_on_sources<R: Source, S: Source, W: Sink, E: Sink>(
+    alloc: Global,
+    job: &Job,
+    first: &mut R,
+    second: &mut S,
+    out: &mut W,
+    err: &mut E,
+) -> u8
+    requires on_sources { IsOnSources job.now }
+
+    // Where a call of a device failed, the status is 3.
+    ensures status_3_if_read_failed { R.failures first.old < R.failures first.new → result ≡ 3 }
+    ensures status_3_if_second_read_failed { S.failures second.old < S.failures second.new → result
+        ≡ 3 }
+    ensures status_3_if_write_failed { W.failures out.old < W.failures out.new → result ≡ 3 }
+
+    // What a refusal leaves.
+    ensures first_untouched_if_refused { IfRefusedWords job.now (first.new ≡ first.old) }
+    ensures second_untouched_if_refused { IfRefusedRelation job.now (R.left first.old)
+        (second.new ≡ second.old) }
+
+    // How much is taken of the readers, whatever the status.
+    ensures reads_at_most { TakesFile (R.left first.old) (R.left first.new) }
+    ensures second_reads_at_most { TakesFile (S.left second.old) (S.left second.new) }
+
+    // Whatever the status: there is an answer to the job, and that is reported.
+    ensures reports_answer { Reported job.now
+        (reader_of (R.left first.old) (R.failures first.old) (R.failures first.new))
+        (reader_of (S.left second.old) (S.failures second.old) (S.failures second.new))
+        (writer_of W.held W.failures out.old out.new)
+        (writer_of E.held E.failures err.old err.new) result }
+{
+    match job {
+        Job::Buildable {
+            arch,
+            profiles,
+            members,
+            sources,
+            terms,
+            budget,
+            reasons,
+        } => {
+            let search = SearchWords {
+                budget: *budget,
+                reasons: *reasons,
+            };
+            let words = build_words(arch, profiles, *members, *sources, terms, search);
+            run_buildable(alloc, &words, first, second, out, err)
         }
         _ => unreachable!(),
     }
@@ -346,18 +398,24 @@ fn query_words<'a>(
 fn install_asked<'a>(
     members: Members,
     strength: Strength,
+    terms: &'a Terms,
     names: &'a [String],
     budget: u32,
+    reasons: bool,
 ) -> InstallAsked<'a>
     ensures members { result.members ≡ index_members members }
     ensures strength { result.strength ≡ strength }
+    ensures terms { result.terms.now ≡ terms.entry.now }
     ensures names { result.names.now ≡ names.entry.now }
+    ensures reasons { result.reasons ≡ reasons }
 {
     InstallAsked {
         members: index_members(members),
         strength,
+        terms,
         names,
         budget,
+        reasons,
     }
 }
 
@@ -366,19 +424,20 @@ fn build_words<'a>(
     profiles: &'a [String],
     members: Members,
     sources: SourceKind,
-    budget: u32,
+    terms: &'a Terms,
+    search: SearchWords,
 ) -> BuildWords<'a>
     ensures { source_words_of result ≡ source_words (string_bytes arch.entry.now)
-        (map string_bytes profiles.entry.now) (index_members members) (kind_tried sources) }
+        (map string_bytes profiles.entry.now) (index_members members) (kind_tried sources)
+        (terms_named fields.Depends terms.entry.now) search.reasons }
 {
     BuildWords {
         target: arch.as_str(),
         profiles,
         members: index_members(members),
-        request: BuildRequest {
-            kind: kind_tried(sources),
-            budget: Budget { one_search: budget },
-        },
+        kind: kind_tried(sources),
+        terms,
+        search,
     }
 }
 

@@ -1,20 +1,20 @@
 //! The job on a healthy set of packages of a file: `installable --witness`.
 
-ghost use Rattle.std.specs.Prelude.{◌≡◌, ◌<◌, map, string_bytes, IsFalse, Result};
+ghost use Rattle.std.specs.Prelude.{◌≡◌, ◌<◌, IsFalse, Result};
 ghost use Rattle.deb_base.specs.Lines.{fault_line};
 ghost use Rattle.deb_base.specs.declared.fault.Fault.{Fault};
 ghost use Rattle.deb_install.specs.Installing.{asks_by};
 ghost use Rattle.deb_install.specs.declared.witnesses.Sought.{Sought};
 ghost use Rattle.deb_relation.specs.Environments.{environment_of};
 ghost use Rattle.debctl_commands.specs.HealthJob.{is_architecture};
+ghost use Rattle.debctl_commands.specs.InstallJob.{package_words_of};
 ghost use Rattle.debctl_commands.specs.JobDevices.{ReaderOfJob, reader_of, writer_of};
 ghost use Rattle.debctl_commands.specs.Promises.{Ends};
 ghost use Rattle.debctl_commands.specs.Reporting.{ReportsBy};
 ghost use Rattle.debctl_commands.specs.Taking.{TakesFile};
 ghost use Rattle.debctl_commands.specs.WitnessJob.{FindsSet, sought_report, witness_promise};
 
-use crate::install_job::{InstallAsked, request_for};
-use crate::query_job::names_of;
+use crate::install_job::{InstallAsked, NamesAsked, request_for};
 use crate::reporting::report_fault;
 use crate::unmet_job::parse_environment;
 use deb_base::{Fault, Sink, Source};
@@ -50,18 +50,17 @@ pub(crate) fn run_witness<R: Source, W: Sink, E: Sink>(
 
     // Whatever the status: there is an answer, and that is reported.
     ensures reports_answer { (second : ReaderOfJob)
-        → Ends (witness_promise target.now asked.entry.members asked.entry.strength
-        (map string_bytes asked.entry.names.now))
+        → Ends (witness_promise (package_words_of target.now asked.entry))
         (reader_of (R.left first.old) (R.failures first.old) (R.failures first.new)) second
         (writer_of W.held W.failures out.old out.new)
         (writer_of E.held E.failures err.old err.new) result }
 {
-    let Ok(names) = names_of(alloc, asked.names) else {
+    let Ok(names) = NamesAsked::new(alloc, asked.names, &asked.terms.without) else {
         return report_fault(&Fault::Memory, err);
     };
     match parse_environment(alloc, target, &[]) {
         Ok(environment) => {
-            let request = request_for(asked, &names);
+            let request = request_for(asked, &names.asked, &names.without);
             run_in_environment(alloc, &environment, &request, first, out, err)
         }
         Err(fault) => report_fault(&fault, err),

@@ -1,7 +1,5 @@
-use Rattle.std.proofs.Common.{◌≡◌, ◌∙◌, ap, map, refl, string_bytes}
-use Rattle.debctl_commands.proofs.JobReports.{build_reported, build_unread_file, build_unread_index, reported_as, unmet_reported, unmet_unread_file, unmet_unread_index, unmet_unread_second}
-use Rattle.debctl_commands.specs.BuildJob.{kind_tried, source_words}
-use Rattle.debctl_commands.specs.QueryJob.{index_members}
+use Rattle.std.proofs.Common.{◌≡◌, ◌∙◌, refl}
+use Rattle.debctl_commands.proofs.JobReports.{reported_as, unmet_reported, unmet_unread_file, unmet_unread_index, unmet_unread_second}
 use Rattle.debctl_commands.proofs.command.run_job.Goals as goal
 
 pub returns-in-Check-clause-reports_answer : goal.returns-in-Check-clause-reports_answer
@@ -57,21 +55,3 @@ returns-in-Unmet-clause-reports_answer g c =
 
 pub returns-in-Healthy-clause-reports_answer : goal.returns-in-Healthy-clause-reports_answer
 returns-in-Healthy-clause-reports_answer g c = c.run_on_packages.ensures.reports_answer _
-
-pub returns-in-Buildable-clause-first_untouched_if_refused : goal.returns-in-Buildable-clause-first_untouched_if_refused
-returns-in-Buildable-clause-first_untouched_if_refused g c =
-    build_unread_index c.args.job.now c.in-Buildable.arch c.in-Buildable.profiles c.in-Buildable.members c.in-Buildable.sources c.in-Buildable.budget c.in-Buildable.is _
-    (c.build_words-words.ensures ∙ ap (λ named. source_words (string_bytes c.in-Buildable.arch) (map string_bytes named) (index_members c.in-Buildable.members) (kind_tried c.in-Buildable.sources)) c.deref-in-Buildable.ensures.value)
-    (c.run_buildable.new.first ≡ c.args.first.now) c.run_buildable.ensures.first_untouched_if_refused
-
-pub returns-in-Buildable-clause-second_untouched_if_refused : goal.returns-in-Buildable-clause-second_untouched_if_refused
-returns-in-Buildable-clause-second_untouched_if_refused g c =
-    build_unread_file c.args.job.now c.in-Buildable.arch c.in-Buildable.profiles c.in-Buildable.members c.in-Buildable.sources c.in-Buildable.budget c.in-Buildable.is _
-    (c.build_words-words.ensures ∙ ap (λ named. source_words (string_bytes c.in-Buildable.arch) (map string_bytes named) (index_members c.in-Buildable.members) (kind_tried c.in-Buildable.sources)) c.deref-in-Buildable.ensures.value)
-    (g.R.Source.left c.args.first.now) (c.run_buildable.new.second ≡ c.args.second.now) c.run_buildable.ensures.second_untouched_if_refused
-
-pub returns-in-Buildable-clause-reports_answer : goal.returns-in-Buildable-clause-reports_answer
-returns-in-Buildable-clause-reports_answer g c =
-    build_reported c.args.job.now c.in-Buildable.arch c.in-Buildable.profiles c.in-Buildable.members c.in-Buildable.sources c.in-Buildable.budget c.in-Buildable.is _
-    (c.build_words-words.ensures ∙ ap (λ named. source_words (string_bytes c.in-Buildable.arch) (map string_bytes named) (index_members c.in-Buildable.members) (kind_tried c.in-Buildable.sources)) c.deref-in-Buildable.ensures.value)
-    _ _ _ _ c.run_buildable.result c.run_buildable.ensures.reports_answer

@@ -21,7 +21,7 @@ returns-in-Installable-clause-first_untouched_if_refused g c =
 pub returns-in-Installable-clause-reports_answer : goal.returns-in-Installable-clause-reports_answer
 returns-in-Installable-clause-reports_answer g c second =
     let asked = c.install_asked-asked.ensures in
-    reported_as c.args.job.now _ c.in-Installable.is _ _ _ _ c.run_installable.result (rw (c.as_str-in-Installable.ensures.value, asked.members, asked.strength, asked.names, c.deref.ensures.value) at (c.run_installable.ensures.reports_answer second))
+    reported_as c.args.job.now _ c.in-Installable.is _ _ _ _ c.run_installable.result (rw (c.as_str-in-Installable.ensures.value, asked.members, asked.strength, asked.terms, asked.names, asked.reasons, c.deref.ensures.value) at (c.run_installable.ensures.reports_answer second))
 
 pub returns-in-Witness-clause-first_untouched_if_refused : goal.returns-in-Witness-clause-first_untouched_if_refused
 returns-in-Witness-clause-first_untouched_if_refused g c =
@@ -31,4 +31,4 @@ returns-in-Witness-clause-first_untouched_if_refused g c =
 pub returns-in-Witness-clause-reports_answer : goal.returns-in-Witness-clause-reports_answer
 returns-in-Witness-clause-reports_answer g c second =
     let asked = c.install_asked-asked-in-Witness.ensures in
-    reported_as c.args.job.now _ c.in-Witness.is _ _ _ _ c.run_witness.result (rw (c.as_str-in-Witness.ensures.value, asked.members, asked.strength, asked.names, c.deref-in-Witness.ensures.value) at (c.run_witness.ensures.reports_answer second))
+    reported_as c.args.job.now _ c.in-Witness.is _ _ _ _ c.run_witness.result (rw (c.as_str-in-Witness.ensures.value, asked.members, asked.strength, asked.terms, asked.names, asked.reasons, c.deref-in-Witness.ensures.value) at (c.run_witness.ensures.reports_answer second))
