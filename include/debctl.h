@@ -382,11 +382,20 @@ struct deb_answer deb_healthy(uint8_t kind, uint8_t recommends,
  * `recommends` are those of deb_healthy, and numbers count the packages that `kind` means. `budget` is
  * the most steps of the search for one package; 0 means 100,000. All searches take at most so
  * many, and 100 for each package.
+ * Unless `essential` is 0, a set must have a package of each name that a package of the target
+ * architecture, or of all, has with `Essential: yes`. `without` is an array of `without_count` names: no
+ * package with one of them is in a set, essential, or has a line, but numbers count it. Unless `reasons`
+ * is 0, lines that begin with a space say after an uninstallable package why it is: which package needs
+ * which group, with the numbers of all packages that meet it, or `none`; which excludes which; which
+ * needs which essential name; and which is left out. If the search for them took all its steps, there
+ * are none.
  * DEB_YES: there is no line, each package can be installed; DEB_NO: there is one; both with the number
  * of packages. DEB_REFUSED: the target (DEB_BAD_ENVIRONMENT) or the file, in this order; DEB_NO_ROOM;
  * DEB_NO_MEMORY; DEB_NO_KIND: `kind` is neither DEB_PACKAGES nor DEB_STATUS. */
-struct deb_answer deb_installable(uint8_t kind, uint8_t recommends, uint32_t budget,
+struct deb_answer deb_installable(uint8_t kind, uint8_t recommends, uint8_t essential,
+                                  uint8_t reasons, uint32_t budget,
                                   const uint8_t *target, size_t target_length,
+                                  const struct deb_text *without, size_t without_count,
                                   const uint8_t *index, size_t index_length,
                                   uint8_t *out, size_t out_size, size_t *length);
 
@@ -396,14 +405,16 @@ struct deb_answer deb_installable(uint8_t kind, uint8_t recommends, uint32_t bud
  * There is a line for each package of the set, in the order of the file: a space, its number, name,
  * version and architecture. If the search finds no set, the lines are those of deb_installable, by
  * these searches: one for each package with the name. They are the lines that the program
- * `debctl installable --witness` writes. `kind`, `recommends` and `budget` are those of
- * deb_installable.
+ * `debctl installable --witness` writes. `kind`, `recommends`, `essential`, `reasons`, `budget` and
+ * `without` are those of deb_installable.
  * DEB_YES: a set is found, DEB_REPORT is the form of its lines; DEB_NO: none is, the form is
  * DEB_INSTALLABLE_LINES, and there is no line if no package has the name; both with the number of
  * packages. The other statuses of deb_installable. */
-struct deb_answer deb_witness(uint8_t kind, uint8_t recommends, uint32_t budget,
+struct deb_answer deb_witness(uint8_t kind, uint8_t recommends, uint8_t essential, uint8_t reasons,
+                              uint32_t budget,
                               const uint8_t *target, size_t target_length,
                               const uint8_t *name, size_t name_length,
+                              const struct deb_text *without, size_t without_count,
                               const uint8_t *index, size_t index_length,
                               uint8_t *out, size_t out_size, size_t *length);
 
@@ -413,15 +424,17 @@ struct deb_answer deb_witness(uint8_t kind, uint8_t recommends, uint32_t budget,
  * need, and none that its Build-Conflicts, Build-Conflicts-Arch or Build-Conflicts-Indep exclude. Each
  * source package is asked by itself. The lines are those that the program `debctl installable --kind
  * sources` writes: those of deb_installable, with `source` as the architecture. `kind` is that of the
- * file `text`, DEB_SOURCES or DEB_SOURCE. `budget` is that of deb_installable, for the search for one
- * source package; all searches take at most so many steps, and 100 for each package of both files.
+ * file `text`, DEB_SOURCES or DEB_SOURCE. `essential`, `reasons` and `without` are those of
+ * deb_installable, and `budget` too, for the search for one source package; all searches take at most
+ * so many steps, and 100 for each package of both files.
  * DEB_YES: there is no line, each source package can be built; DEB_NO: there is one; both with the
  * number of source packages. DEB_REFUSED: the target or a profile (DEB_BAD_ENVIRONMENT) or the index,
  * in this order; DEB_SECOND_REFUSED: the file; DEB_NO_ROOM; DEB_NO_MEMORY; DEB_NO_KIND: `kind` is
  * neither of these two. */
-struct deb_answer deb_buildable(uint8_t kind, uint32_t budget,
+struct deb_answer deb_buildable(uint8_t kind, uint8_t essential, uint8_t reasons, uint32_t budget,
                                 const uint8_t *target, size_t target_length,
                                 const struct deb_text *profiles, size_t profile_count,
+                                const struct deb_text *without, size_t without_count,
                                 const uint8_t *index, size_t index_length,
                                 const uint8_t *text, size_t text_length,
                                 uint8_t *out, size_t out_size, size_t *length);
@@ -575,10 +588,17 @@ enum deb_row_kind {
     DEB_ROW_STATE = 25,         /* number, package, version, architecture, status; `-` for none */
     DEB_ROW_UNINSTALLABLE = 26, /* number, package, version, architecture */
     DEB_ROW_UNSURE = 27,        /* the same */
-    DEB_ROW_UNDECIDED = 28      /* the same */
+    DEB_ROW_UNDECIDED = 28,     /* the same */
+    DEB_ROW_NEED = 29,          /* number, package, version, architecture, group, candidates */
+    DEB_ROW_EXCLUSION = 30,     /* number, package, version, architecture of both packages */
+    DEB_ROW_LEFT_OUT = 31       /* number, package, version, architecture */
 };
 
-/* A line of a text. `fields` is one cell, with a space between two names. */
+/* A line of a text. `fields` is one cell, with a space between two names. `candidates` is one, too:
+ * the numbers of the packages that meet the group, with a space between two, or `none`. The group
+ * is `NAME (Essential)` if every package needs one of this name. Rows DEB_ROW_NEED, _EXCLUSION and
+ * _LEFT_OUT say why the package of the last row DEB_ROW_UNINSTALLABLE before them can't be
+ * installed, or built. */
 struct deb_row {
     uint8_t kind;              /* one of deb_row_kind */
     uint8_t cell_count;        /* how many cells the kind has */

@@ -4,25 +4,24 @@ use Rattle.std.specs.Prelude.{◌≡◌, ℕ, IsTrue, List, length}
 use Rattle.deb_relation.specs.Targets.{is_environment}
 use Rattle.deb_index.specs.declared.members.Members.{Members}
 use Rattle.deb_unmet.specs.Files.{is_nothing}
-use Rattle.deb_unmet.specs.declared.asked.Strength.{Strength}
 use Rattle.deb_unmet.specs.declared.asking.Summary.{Summary}
-use Rattle.deb_install.specs.Answers.{answer_lines}
-use Rattle.deb_install.specs.Installing.{AsksInstallable, FileAnswers, asks_installable}
-use Rattle.debctl_ffi.specs.Unmet.{Asker, environment_in}
+use Rattle.deb_install.specs.Installing.{AsksInstallable, FileAnswers, names_by}
+use Rattle.deb_install.specs.ReasonLines.{lines_with}
+use Rattle.debctl_ffi.specs.Searches.{Search, asks_in}
+use Rattle.debctl_ffi.specs.Unmet.{Asker}
 
--- The file is accepted, these are the lines of true answers of its packages, and the summary says
--- how many packages there are and whether there is no line.
+-- The file is accepted, these are the lines of true answers of its packages, with their reasons if
+-- these are asked, and the summary says how many packages there are and whether there is no line.
 pub record HasAnswerLines (asks : AsksInstallable) (file : List ℕ) (summary : Summary)
     (bytes : List ℕ) : Type 0 where
   pub answers : FileAnswers asks file
   pub count : length answers.packages ≡ summary.paragraphs
-  pub lines : bytes ≡ answer_lines asks.names answers.answer answers.packages
+  pub lines : bytes
+      ≡ lines_with asks.reasons (names_by asks) answers.answer answers.reasons answers.packages
   pub is_empty : summary.is_empty ≡ is_nothing bytes
 
--- The target is good, and these are the lines of the file for it: those of the packages with these
--- names, or of all packages if there is no name.
-pub record IsInstallable (strength : Strength) (names : List (List ℕ)) (by : Asker)
-    (members : Members) (summary : Summary) (bytes : List ℕ) : Type 0 where
+-- The target is good, and these are the lines of the search in the file for it.
+pub record IsInstallable (search : Search) (by : Asker) (members : Members) (summary : Summary)
+    (bytes : List ℕ) : Type 0 where
   pub environment : IsTrue (is_environment by.target by.profiles)
-  pub has : HasAnswerLines (asks_installable members strength names (environment_in by)) by.index
-      summary bytes
+  pub has : HasAnswerLines (asks_in search by members) by.index summary bytes

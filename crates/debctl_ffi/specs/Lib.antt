@@ -10,6 +10,7 @@ pub mod Queries
 pub mod Unmet
 pub mod Askers
 pub mod Health
+pub mod Searches
 pub mod Installable
 pub mod Witnesses
 pub mod Buildable

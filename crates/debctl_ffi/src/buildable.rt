@@ -13,7 +13,7 @@ ghost use Rattle.deb_relation.specs.Views.{names_of};
 ghost use Rattle.debctl_ffi.specs.Answers.{HasStatus};
 ghost use Rattle.debctl_ffi.specs.Buffers.{buffer};
 ghost use Rattle.debctl_ffi.specs.Buildable.{AsksNoSources, AsksSources, BuildFails};
-ghost use Rattle.debctl_ffi.specs.Buildable.{HasSourceLines, ListsSources};
+ghost use Rattle.debctl_ffi.specs.Buildable.{HasSourceLines, ListsSources, build_search};
 ghost use Rattle.debctl_ffi.specs.Replies.{Replies};
 ghost use Rattle.debctl_ffi.specs.Unmet.{RefusesAsker, asker};
 
@@ -36,8 +36,9 @@ use std::alloc::Global;
 /// 4: `out` is too small; `len` is the length that it needs. 5: out of memory. 6: `kind` is another
 /// number.
 ///
-/// The search for one source package takes at most `budget` steps, 100,000 if that is 0; all
-/// searches take at most so many, and 100 for each package of both files. A source package of which
+/// `essential`, `reasons` and `without` are those of `deb_installable`. The search for one source
+/// package takes at most `budget` steps, 100,000 if that is 0; all searches take at most so many,
+/// and 100 for each package of both files. A source package of which
 /// that was too few has the line `undecided`.
 ///
 /// Status 2, refused: the target or a profile, with the code 23 and the line 0; else the index,
@@ -48,16 +49,20 @@ use std::alloc::Global;
 pub extern "C" fn deb_buildable(
     alloc: Global,
     kind: u8,
+    essential: u8,
+    reasons: u8,
     budget: u32,
     target: &[u8],
     profiles: &[&[u8]],
+    without: &[&[u8]],
     index: &[u8],
     text: &[u8],
     out: &mut [u8],
     len: &mut usize,
 ) -> Answer
     ensures answers { let by = asker target.now (names_of profiles.now) index.now in
-        Replies (ListsSources kind by text.now) (BuildFails kind by text.now)
+        let search = build_search essential reasons (names_of without.now) in
+        Replies (ListsSources kind search by text.now) (BuildFails kind by text.now)
         (buffer out.old out.new len.new) result }
     ensures unknown_kind { AsksNoSources kind → result.status ≡ 6 }
     ensures status { HasStatus result.status (0 ∷ 1 ∷ 2 ∷ 3 ∷ 4 ∷ 5 ∷ 6 ∷ []) }
@@ -73,18 +78,16 @@ pub extern "C" fn deb_buildable(
     };
     let request = BuildRequest {
         kind,
+        essential: essential != 0,
+        without,
         budget: budget_of(budget),
+        reasons: reasons != 0,
     };
     let answered = builder.lines(alloc, request, text);
     drop(builder);
     match answered {
-        Ok((summary, lines)) => {
-            if summary.is_empty {
-                reply(yes(summary.paragraphs), &lines, out, len)
-            } else {
-                reply(some(summary.paragraphs), &lines, out, len)
-            }
-        }
+        Ok((found, lines)) if found.is_empty => reply(yes(found.paragraphs), &lines, out, len),
+        Ok((found, lines)) => reply(some(found.paragraphs), &lines, out, len),
         Err(Fault::Refused(refusal)) => second_refused(&refusal),
         Err(_) => no_memory(),
     }
@@ -137,16 +140,16 @@ impl Builder {
     fn lines(
         &self,
         alloc: Global,
-        request: BuildRequest,
+        request: BuildRequest<'_>,
         text: &[u8],
     ) -> Result<(Summary, Vec<u8>), Fault>
         ensures ok { (index : List ℕ) → HoldsFile Members.All index self.now.packages
             → IfOk result (λ answer. HasSourceLines
-            (asks_buildable Members.All index request.kind (environment_of self.now.environment))
+            (asks_buildable Members.All index request.entry (environment_of self.now.environment))
             text.now answer.0 answer.1.items) }
         ensures fault { IfErr result
             (λ fault. RefusedOrMemory fault
-            (λ refusal. refusal_of (doc_of request.kind) text.now ≡ Some refusal)) }
+            (λ refusal. refusal_of (doc_of request.entry.kind) text.now ≡ Some refusal)) }
     {
         lines_with(alloc, &self.packages, &self.environment, request, text)
     }
@@ -174,16 +177,16 @@ fn lines_with(
     alloc: Global,
     packages: &Packages,
     environment: &Env,
-    request: BuildRequest,
+    request: BuildRequest<'_>,
     text: &[u8],
 ) -> Result<(Summary, Vec<u8>), Fault>
     ensures ok { (index : List ℕ) → HoldsFile Members.All index packages.now
         → IfOk result (λ answer. HasSourceLines
-        (asks_buildable Members.All index request.kind (environment_of environment.now)) text.now
+        (asks_buildable Members.All index request.entry (environment_of environment.now)) text.now
         answer.0 answer.1.items) }
     ensures fault { IfErr result
         (λ fault. RefusedOrMemory fault
-        (λ refusal. refusal_of (doc_of request.kind) text.now ≡ Some refusal)) }
+        (λ refusal. refusal_of (doc_of request.entry.kind) text.now ≡ Some refusal)) }
 {
     let mut sink = VecSink::new(alloc);
     let mut source = SliceSource::new(text);

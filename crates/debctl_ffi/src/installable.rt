@@ -9,10 +9,11 @@ ghost use Rattle.deb_relation.specs.Environments.{environment_of};
 ghost use Rattle.deb_relation.specs.Views.{names_of};
 ghost use Rattle.debctl_ffi.specs.Answers.{HasStatus};
 ghost use Rattle.debctl_ffi.specs.Buffers.{buffer};
-ghost use Rattle.debctl_ffi.specs.Health.{AsksNoSet, ListsSet, RefusesSet, SetFails, strength_of};
+ghost use Rattle.debctl_ffi.specs.Health.{AsksNoSet, ListsSet, RefusesSet, SetFails};
 ghost use Rattle.debctl_ffi.specs.Installable.{HasAnswerLines, IsInstallable};
 ghost use Rattle.debctl_ffi.specs.Replies.{Replies};
-ghost use Rattle.debctl_ffi.specs.Unmet.{asker, is_set};
+ghost use Rattle.debctl_ffi.specs.Searches.{search_by, search_of};
+ghost use Rattle.debctl_ffi.specs.Unmet.{asker};
 
 use crate::answer::{Answer, no_kind, no_memory, refused, some, yes};
 use crate::asker::make_environment;
@@ -35,6 +36,10 @@ const STEPS: u32 = 100_000;
 /// package can be installed. 1: there is one. With the number of the packages. 4: `out` is too
 /// small; `len` is the length that it needs. 5: out of memory. 6: `kind` is another number.
 ///
+/// If `essential` isn't 0, a set has to have the essential packages (3.8). It has no package with a
+/// name of `without`; such a package has no line. If `reasons` isn't 0, reasons follow the line of
+/// an uninstallable package.
+///
 /// The search for one package takes at most `budget` steps, 100,000 if that is 0; all searches take
 /// at most so many, and 100 for each package. A package of which that was too few has the line
 /// `undecided`.
@@ -47,15 +52,19 @@ pub extern "C" fn deb_installable(
     alloc: Global,
     kind: u8,
     recommends: u8,
+    essential: u8,
+    reasons: u8,
     budget: u32,
     target: &[u8],
+    without: &[&[u8]],
     index: &[u8],
     out: &mut [u8],
     len: &mut usize,
 ) -> Answer
     ensures answers { let by = asker target.now [] index.now in
-        Replies (ListsSet kind (IsInstallable (strength_of (is_set recommends)) [] by))
-        (SetFails kind by) (buffer out.old out.new len.new) result }
+        let search = search_of recommends essential reasons [] (names_of without.now) in
+        Replies (ListsSet kind (IsInstallable search by)) (SetFails kind by)
+        (buffer out.old out.new len.new) result }
     ensures unknown_kind { AsksNoSet kind → result.status ≡ 6 }
     ensures status { HasStatus result.status (0 ∷ 1 ∷ 2 ∷ 4 ∷ 5 ∷ 6 ∷ []) }
 {
@@ -66,17 +75,15 @@ pub extern "C" fn deb_installable(
     let request = InstallRequest {
         members,
         strength: strength_of(recommends != 0),
+        essential: essential != 0,
+        without,
         names: &[],
         budget: budget_of(budget),
+        reasons: reasons != 0,
     };
     match lines_for(alloc, &request, target, index) {
-        Ok((summary, lines)) => {
-            if summary.is_empty {
-                reply(yes(summary.paragraphs), &lines, out, len)
-            } else {
-                reply(some(summary.paragraphs), &lines, out, len)
-            }
-        }
+        Ok((found, lines)) if found.is_empty => reply(yes(found.paragraphs), &lines, out, len),
+        Ok((found, lines)) => reply(some(found.paragraphs), &lines, out, len),
         Err(Fault::Refused(refusal)) => refused(&refusal),
         Err(_) => no_memory(),
     }
@@ -97,8 +104,8 @@ fn lines_for(
     index: &[u8],
 ) -> Result<(Summary, Vec<u8>), Fault>
     ensures ok { IfOk result
-        (λ answer. IsInstallable request.now.strength (names_of request.now.names.now)
-        (asker target.now [] index.now) request.now.members answer.0 answer.1.items) }
+        (λ answer. IsInstallable (search_by request.now) (asker target.now [] index.now)
+        request.now.members answer.0 answer.1.items) }
     ensures fault { IfErr result
         (λ fault. RefusedOrMemory fault
         (RefusesSet request.now.members (asker target.now [] index.now))) }

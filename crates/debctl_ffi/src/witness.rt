@@ -9,9 +9,10 @@ ghost use Rattle.deb_relation.specs.Environments.{environment_of};
 ghost use Rattle.deb_relation.specs.Views.{names_of};
 ghost use Rattle.debctl_ffi.specs.Answers.{HasStatus};
 ghost use Rattle.debctl_ffi.specs.Buffers.{buffer};
-ghost use Rattle.debctl_ffi.specs.Health.{AsksNoSet, RefusesSet, SetFails, strength_of};
+ghost use Rattle.debctl_ffi.specs.Health.{AsksNoSet, RefusesSet, SetFails};
 ghost use Rattle.debctl_ffi.specs.Replies.{Replies};
-ghost use Rattle.debctl_ffi.specs.Unmet.{asker, is_set};
+ghost use Rattle.debctl_ffi.specs.Searches.{search_by, search_of};
+ghost use Rattle.debctl_ffi.specs.Unmet.{asker};
 ghost use Rattle.debctl_ffi.specs.Witnesses.{HasFoundLines, IsSought, Seeks};
 
 use crate::answer::{Answer, no_kind, no_memory, refused, some, yes};
@@ -29,10 +30,10 @@ use std::alloc::Global;
 /// of these lines (Debian Policy 7.2 to 7.5). The set is healthy in every reading of architecture
 /// lists. It is one of the first package with the name, in the order of the file, for which the
 /// search finds a set. If it finds none, the lines are those of `deb_installable` for the packages
-/// with the name, by these searches. `kind`, `recommends` and `budget` are those of
-/// `deb_installable`. Status 0: a set is found. 1: none is. With the number of the packages. 4:
-/// `out` is too small; `len` is the length that it needs. 5: out of memory. 6: `kind` is another
-/// number.
+/// with the name, by these searches. `kind`, `recommends`, `essential`, `reasons`, `budget` and
+/// `without` are those of `deb_installable`. Status 0: a set is found. 1: none is. With the number
+/// of the packages. 4: `out` is too small; `len` is the length that it needs. 5: out of memory. 6:
+/// `kind` is another number.
 ///
 /// Status 2, refused: the target, with the code 23 and the line 0; else the file, with its first
 /// refusal. Except for status 0 and 1, `out` is unchanged.
@@ -42,16 +43,20 @@ pub extern "C" fn deb_witness(
     alloc: Global,
     kind: u8,
     recommends: u8,
+    essential: u8,
+    reasons: u8,
     budget: u32,
     target: &[u8],
     name: &[u8],
+    without: &[&[u8]],
     index: &[u8],
     out: &mut [u8],
     len: &mut usize,
 ) -> Answer
     ensures answers { let by = asker target.now [] index.now in
-        Replies (Seeks kind (strength_of (is_set recommends)) (name.now ∷ []) by)
-        (SetFails kind by) (buffer out.old out.new len.new) result }
+        let search = search_of recommends essential reasons (name.now ∷ [])
+        (names_of without.now) in
+        Replies (Seeks kind search by) (SetFails kind by) (buffer out.old out.new len.new) result }
     ensures unknown_kind { AsksNoSet kind → result.status ≡ 6 }
     ensures status { HasStatus result.status (0 ∷ 1 ∷ 2 ∷ 4 ∷ 5 ∷ 6 ∷ []) }
 {
@@ -62,17 +67,15 @@ pub extern "C" fn deb_witness(
     let request = InstallRequest {
         members,
         strength: strength_of(recommends != 0),
+        essential: essential != 0,
+        without,
         names: &[name],
         budget: budget_of(budget),
+        reasons: reasons != 0,
     };
     match lines_for(alloc, &request, target, index) {
-        Ok((sought, lines)) => {
-            if sought.is_found {
-                reply(yes(sought.paragraphs), &lines, out, len)
-            } else {
-                reply(some(sought.paragraphs), &lines, out, len)
-            }
-        }
+        Ok((sought, lines)) if sought.is_found => reply(yes(sought.paragraphs), &lines, out, len),
+        Ok((sought, lines)) => reply(some(sought.paragraphs), &lines, out, len),
         Err(Fault::Refused(refusal)) => refused(&refusal),
         Err(_) => no_memory(),
     }
@@ -87,8 +90,8 @@ fn lines_for(
     index: &[u8],
 ) -> Result<(Sought, Vec<u8>), Fault>
     ensures ok { IfOk result
-        (λ answer. IsSought request.now.strength (names_of request.now.names.now)
-        (asker target.now [] index.now) request.now.members answer.0 answer.1.items) }
+        (λ answer. IsSought (search_by request.now) (asker target.now [] index.now)
+        request.now.members answer.0 answer.1.items) }
     ensures fault { IfErr result
         (λ fault. RefusedOrMemory fault
         (RefusesSet request.now.members (asker target.now [] index.now))) }
