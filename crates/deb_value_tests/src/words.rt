@@ -16,7 +16,7 @@ fn words(alloc: Global, line: &str) -> Result<Vec<String>, AllocError> {
 }
 
 /// A command line, and the task or the fault that it has.
-const LINES: [(&str, &str); 52] = [
+const LINES: [(&str, &str); 55] = [
     (
         "check",
         "Ok(Run(Call { job: Check(Packages), first: None, second: None }))",
@@ -135,22 +135,38 @@ const LINES: [(&str, &str); 52] = [
     (
         "installable --arch amd64 x",
         "Ok(Run(Call { job: Installable { arch: \"amd64\", members: All, strength: Depends, \
-        names: [], budget: 100000 }, first: Some(\"x\"), second: None }))",
+        terms: Terms { essential: false, without: [] }, names: [], budget: 100000, \
+        reasons: false }, first: Some(\"x\"), second: None }))",
     ),
     (
         "installable --recommends --installed --budget 1000000000 --arch=amd64",
         "Ok(Run(Call { job: Installable { arch: \"amd64\", members: Installed, \
-        strength: Recommends, names: [], budget: 1000000000 }, first: None, second: None }))",
+        strength: Recommends, terms: Terms { essential: false, without: [] }, names: [], \
+        budget: 1000000000, reasons: false }, first: None, second: None }))",
     ),
     (
         "installable --arch amd64 --only a,,b x",
         "Ok(Run(Call { job: Installable { arch: \"amd64\", members: All, strength: Depends, \
-        names: [\"a\", \"\", \"b\"], budget: 100000 }, first: Some(\"x\"), second: None }))",
+        terms: Terms { essential: false, without: [] }, names: [\"a\", \"\", \"b\"], \
+        budget: 100000, reasons: false }, first: Some(\"x\"), second: None }))",
     ),
     (
         "installable --arch amd64 --installed --witness=b,a --budget 1",
         "Ok(Run(Call { job: Witness { arch: \"amd64\", members: Installed, strength: Depends, \
-        names: [\"b\", \"a\"], budget: 1 }, first: None, second: None }))",
+        terms: Terms { essential: false, without: [] }, names: [\"b\", \"a\"], budget: 1, \
+        reasons: false }, first: None, second: None }))",
+    ),
+    (
+        "installable --arch amd64 --essential --without a,,b --why x",
+        "Ok(Run(Call { job: Installable { arch: \"amd64\", members: All, strength: Depends, \
+        terms: Terms { essential: true, without: [\"a\", \"\", \"b\"] }, names: [], \
+        budget: 100000, reasons: true }, first: Some(\"x\"), second: None }))",
+    ),
+    (
+        "installable --arch amd64 --why --witness a --without b",
+        "Ok(Run(Call { job: Witness { arch: \"amd64\", members: All, strength: Depends, \
+        terms: Terms { essential: false, without: [\"b\"] }, names: [\"a\"], budget: 100000, \
+        reasons: true }, first: None, second: None }))",
     ),
     (
         "installable --arch amd64 --only a --witness b x",
@@ -167,8 +183,14 @@ const LINES: [(&str, &str); 52] = [
     (
         "installable --arch amd64 --profiles a,b --kind sources --index i --installed x",
         "Ok(Run(Call { job: Buildable { arch: \"amd64\", profiles: [\"a\", \"b\"], \
-        members: Installed, sources: Sources, budget: 100000 }, first: Some(\"i\"), \
-        second: Some(\"x\") }))",
+        members: Installed, sources: Sources, terms: Terms { essential: false, without: [] }, \
+        budget: 100000, reasons: false }, first: Some(\"i\"), second: Some(\"x\") }))",
+    ),
+    (
+        "installable --arch amd64 --kind source --index i --why --essential --without=b x",
+        "Ok(Run(Call { job: Buildable { arch: \"amd64\", profiles: [], members: All, \
+        sources: Source, terms: Terms { essential: true, without: [\"b\"] }, budget: 100000, \
+        reasons: true }, first: Some(\"i\"), second: Some(\"x\") }))",
     ),
     (
         "installable --arch amd64 --kind source --index i",
