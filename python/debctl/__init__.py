@@ -39,7 +39,8 @@ from ._paragraphs import Paragraph, paragraphs
 from ._refusals import Code, Refused
 from ._relations import Alternative, applies, relations, satisfies
 from ._rows import (
-    Change, Group, HealthReason, NotInstallable, NumberedPackage, Reason, UnmetGroup,
+    Change, Exclusion, Group, HealthReason, LeftOut, Need, NotInstallable, NumberedPackage, Reason,
+    UnmetGroup,
 )
 from ._versions import Parts, Version, canonical, compare, key
 
@@ -54,17 +55,19 @@ def library_version() -> str:
 
 __all__ = [
     "AllChecked", "AllExplained", "Alternative", "BuildReport", "Change", "Code", "Details",
-    "Explanation", "Group", "HealthReason", "HealthReport", "Index", "InstallReport", "Kind",
-    "NotInstallable", "NumberedPackage", "Package", "Paragraph", "Parts", "Reason", "Refused",
-    "Report", "Text", "UnmetGroup", "UnmetReport", "Version", "WitnessReport", "applies",
-    "buildable", "canonical", "check", "check_all", "compare", "diff", "explain", "explain_all",
-    "explain_relation", "explain_version", "healthy", "installable", "key", "library_version",
-    "normalise", "paragraphs", "query", "relations", "same", "satisfies", "unmet", "witness",
+    "Exclusion", "Explanation", "Group", "HealthReason", "HealthReport", "Index", "InstallReport",
+    "Kind", "LeftOut", "Need", "NotInstallable", "NumberedPackage", "Package", "Paragraph", "Parts",
+    "Reason", "Refused", "Report", "Text", "UnmetGroup", "UnmetReport", "Version", "WitnessReport",
+    "applies", "buildable", "canonical", "check", "check_all", "compare", "diff", "explain",
+    "explain_all", "explain_relation", "explain_version", "healthy", "installable", "key",
+    "library_version", "normalise", "paragraphs", "query", "relations", "same", "satisfies",
+    "unmet", "witness",
 ]
 
 for _public in (
-    AllChecked, AllExplained, Alternative, BuildReport, Change, Code, Details, Explanation, Group,
-    HealthReason, HealthReport, Index, InstallReport, NotInstallable, NumberedPackage, Package,
-    Paragraph, Parts, Reason, Refused, Report, UnmetGroup, UnmetReport, Version, WitnessReport,
+    AllChecked, AllExplained, Alternative, BuildReport, Change, Code, Details, Exclusion,
+    Explanation, Group, HealthReason, HealthReport, Index, InstallReport, LeftOut, Need,
+    NotInstallable, NumberedPackage, Package, Paragraph, Parts, Reason, Refused, Report, UnmetGroup,
+    UnmetReport, Version, WitnessReport,
 ):
     _public.__module__ = __name__

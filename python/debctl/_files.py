@@ -314,11 +314,19 @@ def installable(
     *,
     kind: Kind = "packages",
     recommends: bool = False,
+    essential: bool = False,
+    without: Iterable[Text] = (),
+    why: bool = False,
     budget: int = 100_000,
 ) -> InstallReport:
     """Finds which packages of a file can't be installed, for this architecture: no set of packages
     of the file that is healthy, as `healthy` has it, contains them. Its lines are those that the
     program `debctl installable` writes. `kind` and `recommends` are those of `healthy`.
+
+    With `essential`, a set must have a package of each name that a package of the architecture, or
+    of all, has with `Essential: yes`. No package with a name of `without` is in a set, essential,
+    or has a line, but numbers count it. With `why`, lines that begin with a space say after an
+    uninstallable package why it is.
 
         >>> import debctl
         >>> aa = "Package: aa\\nVersion: 1\\nArchitecture: all\\nDepends: bb\\nConflicts: cc\\n\\n"
@@ -329,6 +337,10 @@ def installable(
         False uninstallable 1 aa 1 all
         >>> [(it.verdict, it.number, it.package) for it in report.packages]
         [('uninstallable', 1, 'aa')]
+        >>> print(debctl.installable(bb + cc, "amd64", without=["cc"], why=True).text, end="")
+        uninstallable 1 bb 1 all
+         1 bb 1 all needs cc: 2
+         2 cc 1 all is left out
 
     The search for one package takes at most `budget` steps, from 1 to 4294967295, and all searches
     take at most so many, and 100 for each package.
@@ -337,10 +349,12 @@ def installable(
     budget.
     """
     number, (data, length), steps = kind_of(kind), text_of(index), _steps_of(budget)
+    names = texts_of(without, "names")
     call = functools.partial(
-        lib.deb_installable, number, bool(recommends), steps, *text_of(arch), data, length
+        lib.deb_installable, number, bool(recommends), bool(essential), bool(why), steps,
+        *text_of(arch), names, len(names), data, length,
     )
-    answer, lines = written(length + 1, call)
+    answer, lines = written(_search_room(length, why), call)
     if answer.status == NO_KIND:
         raise ValueError(f"there are no sets of {kind!r}")
     return InstallReport(answered_file(answer, number, data).status == YES, lines.decode())
@@ -353,14 +367,17 @@ def witness(
     *,
     kind: Kind = "packages",
     recommends: bool = False,
+    essential: bool = False,
+    without: Iterable[Text] = (),
+    why: bool = False,
     budget: int = 100_000,
 ) -> WitnessReport:
     """Finds a set of packages of a file that contains a package with this name and is healthy, as
     `healthy` has it, for this architecture: that of the first package with the name for which the
     search finds one. No architecture wildcard decides whether it is healthy. The lines are those
     that the program `debctl installable --witness` writes: those of the set or, if none is found,
-    those that `installable` has for the packages with the name. `kind`, `recommends` and `budget`
-    are those of `installable`.
+    those that `installable` has for the packages with the name. `kind`, `recommends`, `essential`,
+    `without`, `why` and `budget` are those of `installable`.
 
         >>> import debctl
         >>> aa = "Package: aa\\nVersion: 1\\nArchitecture: all\\nDepends: bb | cc\\n\\n"
@@ -380,11 +397,12 @@ def witness(
     budget.
     """
     number, (data, length), steps = kind_of(kind), text_of(index), _steps_of(budget)
+    names = texts_of(without, "names")
     call = functools.partial(
-        lib.deb_witness, number, bool(recommends), steps, *text_of(arch), *text_of(name), data,
-        length,
+        lib.deb_witness, number, bool(recommends), bool(essential), bool(why), steps,
+        *text_of(arch), *text_of(name), names, len(names), data, length,
     )
-    answer, lines = written(length + 1, call)
+    answer, lines = written(_search_room(length, why), call)
     if answer.status == NO_KIND:
         raise ValueError(f"there are no sets of {kind!r}")
     return WitnessReport(answered_file(answer, number, data).status == YES, lines.decode())
@@ -397,6 +415,9 @@ def buildable(
     profiles: Iterable[Text] = (),
     *,
     kind: Kind = "sources",
+    essential: bool = False,
+    without: Iterable[Text] = (),
+    why: bool = False,
     budget: int = 100_000,
 ) -> BuildReport:
     """Finds which source packages of a file can't be built with the packages of an index, for this
@@ -416,22 +437,29 @@ def buildable(
         >>> bool(debctl.buildable(index, sources, "amd64", ["nocheck"]))
         True
 
-    `budget` is that of `installable`, for the search for one source package.
+    `essential`, `without` and `why` are those of `installable`, and `budget` too, for the search
+    for one source package.
 
     Raises Refused if the architecture, a profile, the index or the file is refused; its `second`
     is true if the file is. Raises ValueError for another kind or budget.
     """
     number, active, steps = kind_of(kind), texts_of(profiles), _steps_of(budget)
     (data, length), (text, size) = text_of(index), text_of(file)
+    names = texts_of(without, "names")
     call = functools.partial(
-        lib.deb_buildable, number, steps, *text_of(arch), active, len(active), data, length, text,
-        size,
+        lib.deb_buildable, number, bool(essential), bool(why), steps, *text_of(arch), active,
+        len(active), names, len(names), data, length, text, size,
     )
-    answer, lines = written(2 * size + 64, call)
+    answer, lines = written(_search_room(2 * size + 63, why), call)
     if answer.status == NO_KIND:
         raise ValueError(f"there are no source packages of {kind!r}")
     refused_as = _PACKAGES if answer.status == REFUSED else number
     return BuildReport(answered_file(answer, refused_as, data, text).status == YES, lines.decode())
+
+
+def _search_room(length: int, why: bool) -> int:
+    """Returns room for the lines of a search, of that length, and for reasons, which are longer."""
+    return lines_room(8 * length) if why else length + 1
 
 
 def _steps_of(budget: int) -> int:

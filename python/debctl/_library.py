@@ -77,12 +77,13 @@ Asked = TypeVar("Asked")
 
 
 _KIND: List[Any] = [ctypes.c_uint8]
-_PROFILES: List[Any] = [ctypes.POINTER(TextAt), ctypes.c_size_t]
+_TEXTS: List[Any] = [ctypes.POINTER(TextAt), ctypes.c_size_t]
 _MEMORY: List[Any] = [ctypes.c_void_p]
 _TO_ANSWER: List[Any] = [ctypes.POINTER(Answer)]
 _NUMBER: List[Any] = [ctypes.c_uint64]
 _BUDGET: List[Any] = [ctypes.c_uint32]
-_QUERY: List[Any] = _TEXT + _PROFILES + _TEXT
+_QUERY: List[Any] = _TEXT + _TEXTS + _TEXT
+_SEARCH: List[Any] = 3 * _KIND + _BUDGET + _TEXT
 _FUNCTIONS: List[Tuple[str, Any, List[Any]]] = [
     ("deb_version_compare", Comparison, _TEXT + _TEXT),
     ("deb_version_canonical", Answer, _TEXT + _BUFFER),
@@ -98,9 +99,9 @@ _FUNCTIONS: List[Tuple[str, Any, List[Any]]] = [
     ("deb_query_why", Answer, _QUERY + _TEXT + _BUFFER),
     ("deb_unmet", Answer, _KIND + _KIND + _QUERY + _TEXT + _BUFFER),
     ("deb_healthy", Answer, _KIND + _KIND + _TEXT + _TEXT + _BUFFER),
-    ("deb_installable", Answer, _KIND + _KIND + _BUDGET + _TEXT + _TEXT + _BUFFER),
-    ("deb_witness", Answer, _KIND + _KIND + _BUDGET + _TEXT + _TEXT + _TEXT + _BUFFER),
-    ("deb_buildable", Answer, _KIND + _BUDGET + _QUERY + _TEXT + _BUFFER),
+    ("deb_installable", Answer, _KIND + _SEARCH + _TEXTS + _TEXT + _BUFFER),
+    ("deb_witness", Answer, _KIND + _SEARCH + _TEXT + _TEXTS + _TEXT + _BUFFER),
+    ("deb_buildable", Answer, _SEARCH + 2 * _TEXTS + 2 * _TEXT + _BUFFER),
     ("deb_index_size", ctypes.c_size_t, []),
     ("deb_index_read", None, _MEMORY + _TEXT + _TO_ANSWER),
     ("deb_index_free", None, _MEMORY),
@@ -157,10 +158,10 @@ def text_of(text: Text) -> Tuple[bytes, int]:
     return data, len(data)
 
 
-def texts_of(texts: Iterable[Text]) -> "ctypes.Array[TextAt]":
-    """Returns texts as the library takes them."""
+def texts_of(texts: Iterable[Text], what: str = "profiles") -> "ctypes.Array[TextAt]":
+    """Returns texts as the library takes them; `what` is what they are."""
     if isinstance(texts, (str, bytes, bytearray, memoryview)):
-        raise TypeError(f"profiles are an iterable of texts, not one {type(texts).__name__}")
+        raise TypeError(f"{what} are an iterable of texts, not one {type(texts).__name__}")
     items = [TextAt(*text_of(text)) for text in texts]
     return (TextAt * len(items))(*items)
 

@@ -2,7 +2,7 @@
 
 import functools
 import struct
-from typing import Dict, Iterator, List, Literal, NamedTuple, Optional, Tuple
+from typing import Dict, Iterator, List, Literal, NamedTuple, Optional, Tuple, Union
 
 from ._library import YES, lib, tables
 
@@ -11,8 +11,8 @@ REPORT, UNMET_LINES, DIFF_LINES, EXPLANATION, HEALTH_LINES, INSTALLABLE_LINES = 
     MET, UNMET, IGNORED, PACKAGE, REASON, PACKAGE_REASON, UNMET_GROUP, UNSURE_GROUP, REMOVED,
     CHANGED, UPGRADED, ADDED, OLD_LINE, NEW_LINE, KEY, END, OK, SUMMARY, VALID,
     DOWNGRADED, UNMET_NEED, UNSURE_NEED, CONFLICT, UNSURE_CONFLICT, DUPLICATE, STATE, UNINSTALLABLE,
-    UNSURE, UNDECIDED,
-) = range(29)
+    UNSURE, UNDECIDED, NEED, EXCLUSION, LEFT_OUT,
+) = range(32)
 _ROW = struct.Struct("@BB6x20N")  # its kind, how many cells it has, and where they are
 
 Row = Tuple[int, List[str]]
@@ -102,17 +102,54 @@ class HealthReason(NamedTuple):
     status: Optional[str] = None
 
 
+class Need(NamedTuple):
+    """That a package needs a group: the canonical text of it, and the numbers of the packages that
+    meet it. If every package needs one with an essential name, `group` is this name and
+    " (Essential)", as in the text."""
+
+    number: int
+    package: str
+    version: str
+    architecture: str
+    group: str
+    candidates: Tuple[int, ...]
+
+
+class Exclusion(NamedTuple):
+    """That a package and another one, `excluded`, aren't in one set."""
+
+    number: int
+    package: str
+    version: str
+    architecture: str
+    excluded: NumberedPackage
+
+
+class LeftOut(NamedTuple):
+    """That no set contains a package, as it was asked to be left out."""
+
+    number: int
+    package: str
+    version: str
+    architecture: str
+
+
+InstallReason = Union[Need, Exclusion, LeftOut]
+
+
 class NotInstallable(NamedTuple):
     """A package that can't be installed, or may not be: its number, its name, its canonical version
     and its architecture; or a source package that can't be built, or may not be, whose
     `architecture` is "source". An architecture wildcard decides about one that is "unsure"; of one that
-    is "undecided" the search took all its steps."""
+    is "undecided" the search took all its steps. `reasons` say together why one that is
+    "uninstallable" is so, if they were asked for."""
 
     verdict: Literal["uninstallable", "unsure", "undecided"]
     number: int
     package: str
     version: str
     architecture: str
+    reasons: Tuple[InstallReason, ...] = ()
 
 
 class Change(NamedTuple):
@@ -193,12 +230,31 @@ def health_reasons_of(text: str) -> List[HealthReason]:
     return [_health_reason(kind, cells) for kind, cells in rows_of(HEALTH_LINES, text)]
 
 
+def _install_reason(kind: int, cells: List[str]) -> InstallReason:
+    """Returns the reason that a row is."""
+    number, (package, version, architecture) = int(cells[0]), cells[1:4]
+    if kind == NEED:
+        candidates = () if cells[5] == "none" else tuple(map(int, cells[5].split(" ")))
+        return Need(number, package, version, architecture, cells[4], candidates)
+    if kind == EXCLUSION:
+        return Exclusion(number, package, version, architecture, _package(cells[4:]))
+    return LeftOut(number, package, version, architecture)
+
+
 def not_installable_of(text: str) -> List[NotInstallable]:
     """Returns the packages of a report on which ones can't be installed, or built."""
-    return [
-        NotInstallable(_INSTALLABLE[kind], int(cells[0]), *cells[1:])
-        for kind, cells in rows_of(INSTALLABLE_LINES, text)
-    ]
+    packages: List[NotInstallable] = []
+    reasons: List[List[InstallReason]] = []
+    for kind, cells in rows_of(INSTALLABLE_LINES, text):
+        if kind in _INSTALLABLE:
+            number, (package, version, architecture) = int(cells[0]), cells[1:]
+            packages.append(
+                NotInstallable(_INSTALLABLE[kind], number, package, version, architecture)
+            )
+            reasons.append([])
+        else:
+            reasons[-1].append(_install_reason(kind, cells))
+    return [it._replace(reasons=tuple(why)) for it, why in zip(packages, reasons)]
 
 
 def _change(head: Row, below: List[Row], text: str) -> Change:

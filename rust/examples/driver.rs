@@ -9,7 +9,7 @@ use debctl::{
     buildable, canonical, check, check_all, compare, diff, explain, explain_all, explain_relation,
     explain_version, healthy, installable, key, normalise, paragraphs, query, query_why, relations,
     same, spelled_relations, unmet, witness, AllChecked, Asked, Compared, Error, Explanation,
-    Index, Kind, Members, ReadError, Reader, Refusal, Report, SourceKind, Version,
+    Index, Kind, Members, ReadError, Reader, Refusal, Report, Search, SourceKind, Version,
 };
 use printed::Printed;
 use std::env::args_os;
@@ -190,9 +190,28 @@ fn of_unmet(number: usize, files: &[Vec<u8>]) -> Result<String, Error> {
     } + &differs)
 }
 
-/// What is asked of a set: the target and the file, or the target, the name and the file.
+/// The names that are left out.
+fn names_of(file: &[u8]) -> Vec<&[u8]> {
+    match file {
+        [] => Vec::new(),
+        _ => file.split(|byte| *byte == b',').collect(),
+    }
+}
+
+/// What a search asks of sets.
+fn search_of<'a>(number: usize, without: &'a [&'a [u8]]) -> Search<'a> {
+    Search {
+        essential: number / 16 % 2 == 1,
+        without,
+        why: number / 32 % 2 == 1,
+        budget: NonZeroU32::new((number / 64) as u32),
+    }
+}
+
+/// What is asked of a set: the target and the file, or the target, the name and the file; then the
+/// names that are left out, of a search.
 fn of_set(call: &str, number: usize, files: &[Vec<u8>]) -> Result<String, Error> {
-    let (target, index) = (&files[0], &files[files.len() - 1]);
+    let (target, index) = (&files[0], &files[usize::from(call == "witness") + 1]);
     let members = match KINDS[number % 8] {
         Kind::Status => Members::Installed,
         _ => Members::All,
@@ -206,16 +225,17 @@ fn of_set(call: &str, number: usize, files: &[Vec<u8>]) -> Result<String, Error>
             &report.printed(),
         ));
     }
-    let budget = NonZeroU32::new((number / 16) as u32);
+    let without = names_of(&files[files.len() - 1]);
+    let search = search_of(number, &without);
     if call == "witness" {
-        let report = witness(members, recommends, budget, target, &files[1], index)?;
+        let report = witness(members, recommends, search, target, &files[1], index)?;
         return Ok(with_rows(
             &done(report.found, 0),
             &report.text,
             &report.printed(),
         ));
     }
-    let report = installable(members, recommends, budget, target, index)?;
+    let report = installable(members, recommends, search, target, index)?;
     Ok(with_rows(
         &done(report.installable, 0),
         &report.text,
@@ -223,16 +243,18 @@ fn of_set(call: &str, number: usize, files: &[Vec<u8>]) -> Result<String, Error>
     ))
 }
 
-/// What is asked of source packages: the target, the index, the file and the profiles.
+/// What is asked of source packages: the target, the index, the file, the names that are left out and
+/// the profiles.
 fn of_sources(number: usize, files: &[Vec<u8>]) -> Result<String, Error> {
     let (target, index, file) = (&files[0], &files[1], &files[2]);
     let kind = match KINDS[number % 8] {
         Kind::Source => SourceKind::Source,
         _ => SourceKind::Sources,
     };
-    let profiles: Vec<&[u8]> = files[3..].iter().map(Vec::as_slice).collect();
-    let budget = NonZeroU32::new((number / 8) as u32);
-    let report = buildable(kind, budget, target, &profiles, index, file)?;
+    let profiles: Vec<&[u8]> = files[4..].iter().map(Vec::as_slice).collect();
+    let without = names_of(&files[3]);
+    let search = search_of(number, &without);
+    let report = buildable(kind, search, target, &profiles, index, file)?;
     Ok(with_rows(
         &done(report.buildable, 0),
         &report.text,

@@ -31,11 +31,13 @@ mod files;
 mod index;
 mod kinds;
 mod library;
+mod not_installable;
 mod paragraphs;
 mod reader;
 mod refusals;
 mod relations;
 mod reports;
+mod search;
 mod texts;
 mod versions;
 
@@ -46,15 +48,17 @@ pub use explanations::{
 pub use files::{check, check_all, normalise, same, AllChecked};
 pub use index::{Details, Index, Package};
 pub use kinds::{Asked, Compared, Kind, Members, SourceKind, UnknownKind};
+pub use not_installable::{InstallFault, InstallReason, NotInstallable};
 pub use paragraphs::{paragraphs, Field, Iter, Paragraph, Paragraphs};
 pub use reader::{ReadError, Reader};
 pub use refusals::{Code, Error, Refusal};
 pub use relations::{applies, relations, satisfies, spelled_relations, Alternative};
 pub use reports::{
     buildable, healthy, installable, query, query_why, unmet, witness, BuildReport, Group,
-    HealthFault, HealthReason, HealthReport, InstallFault, InstallReport, NotInstallable, Reason,
-    Report, UnmetGroup, UnmetReport, Verdict, WitnessReport,
+    HealthFault, HealthReason, HealthReport, InstallReport, Reason, Report, UnmetGroup,
+    UnmetReport, Verdict, WitnessReport,
 };
+pub use search::Search;
 pub use versions::{canonical, compare, key, Version};
 
 /// Returns the version of the library `libdebctl` that is linked.

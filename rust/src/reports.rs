@@ -3,11 +3,11 @@
 //! which source packages can't be built.
 
 use crate::library::{self, Answer, Text};
+use crate::not_installable::{not_installable_of, NotInstallable};
 use crate::refusals::answered_of;
 use crate::texts::{self, rows, string, written, Form, Row};
-use crate::{Asked, Error, Kind, Members, Package, SourceKind};
+use crate::{Asked, Error, Kind, Members, Package, Search, SourceKind};
 use std::fmt;
-use std::num::NonZeroU32;
 
 /// The report on a relation.
 #[derive(Clone, Debug, PartialEq, Eq, Hash)]
@@ -191,29 +191,6 @@ pub struct BuildReport {
     pub text: String,
 }
 
-/// A package that can't be installed, or may not be; or a source package that can't be built, or
-/// may not be, whose architecture is `source`.
-#[derive(Clone, Debug, PartialEq, Eq, Hash)]
-#[non_exhaustive]
-pub struct NotInstallable {
-    /// The package. The number counts the packages of the report alone.
-    pub package: Package,
-    /// What is known about it.
-    pub fault: InstallFault,
-}
-
-/// What is known about a package that isn't found to be installable, or to be buildable.
-#[derive(Clone, Copy, Debug, PartialEq, Eq, Hash)]
-#[non_exhaustive]
-pub enum InstallFault {
-    /// It can't be.
-    Uninstallable,
-    /// An architecture wildcard decides whether it can be.
-    Unsure,
-    /// The search took all its steps.
-    Undecided,
-}
-
 impl fmt::Display for Report {
     fn fmt(&self, out: &mut fmt::Formatter<'_>) -> fmt::Result {
         out.write_str(&self.text)
@@ -251,7 +228,7 @@ impl fmt::Display for BuildReport {
 }
 
 /// Returns the package in the cells of a row, of which the first is its number.
-fn package(row: &Row, first: usize) -> Package {
+pub(crate) fn package(row: &Row, first: usize) -> Package {
     Package {
         number: row.number(first),
         name: row.text(first + 1),
@@ -357,21 +334,9 @@ fn health_reason(row: Row) -> HealthReason {
     }
 }
 
-/// Returns the package that a row is.
-fn not_installable(row: Row) -> NotInstallable {
-    NotInstallable {
-        package: package(&row, 0),
-        fault: match row.kind {
-            texts::UNINSTALLABLE => InstallFault::Uninstallable,
-            texts::UNSURE => InstallFault::Unsure,
-            _ => InstallFault::Undecided,
-        },
-    }
-}
-
-/// Returns profiles as the library takes them.
-pub(crate) fn texts_of<'a>(profiles: &[&'a [u8]]) -> Vec<Text<'a>> {
-    profiles.iter().map(|profile| Text::of(profile)).collect()
+/// Returns texts as the library takes them.
+pub(crate) fn texts_of<'a>(texts: &[&'a [u8]]) -> Vec<Text<'a>> {
+    texts.iter().map(|text| Text::of(text)).collect()
 }
 
 /// Finds the packages of an index that meet a relation, for a target architecture and with these
@@ -501,18 +466,15 @@ pub fn healthy(
 
 /// Finds which packages of a file can't be installed, for a target architecture: no set of packages
 /// of the file that is healthy, as [`healthy`] has it, contains them. The lines are those that the
-/// program `debctl installable` writes.
-///
-/// The search for one package takes at most `budget` steps, 100,000 if there is none. All searches
-/// take at most so many, and 100 for each package.
+/// program `debctl installable` writes. With `recommends` a package needs what it recommends.
 ///
 /// ```
-/// use debctl::{installable, InstallFault, Members};
+/// use debctl::{installable, InstallFault, Members, Search};
 ///
 /// let index = "Package: aa\nVersion: 1\nArchitecture: all\nDepends: bb\nConflicts: cc\n\n\
 ///     Package: bb\nVersion: 1\nArchitecture: all\nDepends: cc\n\n\
 ///     Package: cc\nVersion: 1\nArchitecture: all\n";
-/// let report = installable(Members::All, false, None, "amd64", index)?;
+/// let report = installable(Members::All, false, Search::default(), "amd64", index)?;
 /// assert!(!report.installable);
 /// assert_eq!(report.text, "uninstallable 1 aa 1 all\n");
 /// assert_eq!(report.packages[0].package.name, "aa");
@@ -522,24 +484,22 @@ pub fn healthy(
 pub fn installable(
     members: Members,
     recommends: bool,
-    budget: Option<NonZeroU32>,
+    search: Search<'_>,
     target: impl AsRef<[u8]>,
     index: impl AsRef<[u8]>,
 ) -> Result<InstallReport, Error> {
     let (target, file) = (target.as_ref(), (members.kind(), index.as_ref()));
-    let steps = budget.map_or(0, NonZeroU32::get);
-    let asked = (file.0 as u8, u8::from(recommends), steps);
+    let asked = (file.0 as u8, u8::from(recommends));
+    let without = texts_of(search.without);
     let call = |out: &mut [u8], length: &mut usize| {
-        library::installable(asked, (target, file.1), out, length)
+        library::installable(asked, (&search, &without), (target, file.1), out, length)
     };
-    let (answer, text) = written(file.1.len(), call);
+    let (answer, text) = written(search.room(file.1.len()), call);
     let answer = answered_of(answer, file, file)?;
     let text = string(text);
     Ok(InstallReport {
         installable: answer.status == library::YES,
-        packages: rows(Form::InstallableLines, &text)
-            .map(not_installable)
-            .collect(),
+        packages: not_installable_of(&text),
         text,
     })
 }
@@ -548,20 +508,20 @@ pub fn installable(
 /// [`healthy`] has it, for a target architecture: that of the first package with the name for which
 /// the search finds one. No architecture wildcard decides whether it is healthy. The lines are those
 /// that the program `debctl installable --witness` writes: those of the set or, if none is found,
-/// those that [`installable`] has for the packages with the name. `budget` is that of
-/// [`installable`].
+/// those that [`installable`] has for the packages with the name.
 ///
 /// ```
-/// use debctl::{witness, InstallFault, Members};
+/// use debctl::{witness, InstallFault, Members, Search};
 ///
 /// let aa = "Package: aa\nVersion: 1\nArchitecture: all\nDepends: bb | cc\n\n\
 ///     Package: bb\nVersion: 1\nArchitecture: all\nConflicts: aa\n";
 /// let cc = "\nPackage: cc\nVersion: 1\nArchitecture: all\n";
-/// let report = witness(Members::All, false, None, "amd64", "aa", format!("{aa}{cc}"))?;
+/// let all = Members::All;
+/// let report = witness(all, false, Search::default(), "amd64", "aa", format!("{aa}{cc}"))?;
 /// assert!(report.found);
 /// assert_eq!(report.text, " 1 aa 1 all\n 3 cc 1 all\n");
 /// assert_eq!(report.packages[1].name, "cc");
-/// let report = witness(Members::All, false, None, "amd64", "aa", aa)?;
+/// let report = witness(all, false, Search::default(), "amd64", "aa", aa)?;
 /// assert!(!report.found);
 /// assert_eq!(report.not_installable[0].fault, InstallFault::Uninstallable);
 /// # Ok::<(), debctl::Error>(())
@@ -569,19 +529,25 @@ pub fn installable(
 pub fn witness(
     members: Members,
     recommends: bool,
-    budget: Option<NonZeroU32>,
+    search: Search<'_>,
     target: impl AsRef<[u8]>,
     name: impl AsRef<[u8]>,
     index: impl AsRef<[u8]>,
 ) -> Result<WitnessReport, Error> {
     let (target, name) = (target.as_ref(), name.as_ref());
     let file = (members.kind(), index.as_ref());
-    let steps = budget.map_or(0, NonZeroU32::get);
-    let asked = (file.0 as u8, u8::from(recommends), steps);
+    let asked = (file.0 as u8, u8::from(recommends));
+    let without = texts_of(search.without);
     let call = |out: &mut [u8], length: &mut usize| {
-        library::witness(asked, (target, name, file.1), out, length)
+        library::witness(
+            asked,
+            (&search, &without),
+            (target, name, file.1),
+            out,
+            length,
+        )
     };
-    let (answer, text) = written(file.1.len(), call);
+    let (answer, text) = written(search.room(file.1.len()), call);
     let found = answered_of(answer, file, file)?.status == library::YES;
     let text = string(text);
     let (set, others) = if found {
@@ -594,9 +560,7 @@ pub fn witness(
         packages: rows(Form::Report, set)
             .map(|row| package(&row, 0))
             .collect(),
-        not_installable: rows(Form::InstallableLines, others)
-            .map(not_installable)
-            .collect(),
+        not_installable: not_installable_of(others),
         text,
     })
 }
@@ -608,43 +572,51 @@ pub fn witness(
 /// installable --kind sources` writes. If the file is refused, the error is
 /// [`Error::SecondRefused`].
 ///
-/// The search for one source package takes at most `budget` steps, 100,000 if there is none.
+/// The budget of the search is for one source package. All searches take at most so many steps, and
+/// 100 for each package of both files.
 ///
 /// ```
-/// use debctl::{buildable, InstallFault, SourceKind};
+/// use debctl::{buildable, InstallFault, Search, SourceKind};
 ///
 /// let index = "Package: build-essential\nVersion: 1\nArchitecture: amd64\n";
 /// let sources = "Package: ss\nVersion: 1\nBuild-Depends: bb <!nocheck>\n";
-/// let report = buildable(SourceKind::Sources, None, "amd64", &[], index, sources)?;
+/// let ask = |profiles: &[&[u8]]| {
+///     let search = Search::default();
+///     buildable(SourceKind::Sources, search, "amd64", profiles, index, sources)
+/// };
+/// let report = ask(&[])?;
 /// assert!(!report.buildable);
 /// assert_eq!(report.text, "uninstallable 1 ss 1 source\n");
 /// assert_eq!(report.packages[0].fault, InstallFault::Uninstallable);
-/// let report = buildable(SourceKind::Sources, None, "amd64", &[b"nocheck"], index, sources)?;
-/// assert!(report.buildable);
+/// assert!(ask(&[b"nocheck"])?.buildable);
 /// # Ok::<(), debctl::Error>(())
 /// ```
 pub fn buildable(
     kind: SourceKind,
-    budget: Option<NonZeroU32>,
+    search: Search<'_>,
     target: impl AsRef<[u8]>,
     profiles: &[&[u8]],
     index: impl AsRef<[u8]>,
     file: impl AsRef<[u8]>,
 ) -> Result<BuildReport, Error> {
     let (target, index, file) = (target.as_ref(), index.as_ref(), file.as_ref());
-    let asked = (kind.kind() as u8, budget.map_or(0, NonZeroU32::get));
-    let profiles = texts_of(profiles);
+    let (profiles, without) = (texts_of(profiles), texts_of(search.without));
     let call = |out: &mut [u8], length: &mut usize| {
-        library::buildable(asked, (target, &profiles), (index, file), out, length)
+        library::buildable(
+            kind.kind() as u8,
+            (&search, &without),
+            (target, &profiles),
+            (index, file),
+            out,
+            length,
+        )
     };
-    let (answer, text) = written(2 * file.len() + 64, call);
+    let (answer, text) = written(search.room(2 * file.len() + 64), call);
     let answer = answered_of(answer, (Kind::Packages, index), (kind.kind(), file))?;
     let text = string(text);
     Ok(BuildReport {
         buildable: answer.status == library::YES,
-        packages: rows(Form::InstallableLines, &text)
-            .map(not_installable)
-            .collect(),
+        packages: not_installable_of(&text),
         text,
     })
 }

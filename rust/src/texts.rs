@@ -99,6 +99,9 @@ pub(crate) const DUPLICATE: u8 = 24;
 pub(crate) const STATE: u8 = 25;
 pub(crate) const UNINSTALLABLE: u8 = 26;
 pub(crate) const UNSURE: u8 = 27;
+pub(crate) const UNDECIDED: u8 = 28;
+pub(crate) const NEED: u8 = 29;
+pub(crate) const EXCLUSION: u8 = 30;
 
 impl Row<'_> {
     /// Returns the number in a cell.
@@ -197,6 +200,7 @@ mod tests {
         let relation: String = (0..COUNT).map(|at| format!("aa{at}|bb(<{at}),")).collect();
         let package = format!("Package: aa\nVersion: 1\nArchitecture: all\nDepends:{relation}");
         let asks = Asked::Packages { recommends: true };
+        let search = Search::default();
         match asked {
             0 => drop(normalise(Kind::Packages, old)?),
             1 => drop(normalise(Kind::Any, "a:\n\n".repeat(COUNT))?),
@@ -217,10 +221,10 @@ mod tests {
             13 => drop((loaded.package(1)?, loaded.details(1)?)),
             14 => drop((key("1:2.0~rc1-3")?, canonical("1:2.0~rc1-3")?)),
             15 => drop(healthy(Members::All, true, "amd64", old)?),
-            16 => drop(installable(Members::All, true, None, "amd64", old)?),
+            16 => drop(installable(Members::All, true, search, "amd64", old)?),
             17 => drop(buildable(
                 SourceKind::Sources,
-                None,
+                search,
                 "amd64",
                 &[],
                 old,
@@ -228,9 +232,9 @@ mod tests {
             )?),
             18 => {
                 let all = Members::All;
-                let report = witness(all, false, None, "amd64", "p0", needs())?;
+                let report = witness(all, false, search, "amd64", "p0", needs())?;
                 assert_eq!(report.packages.len(), COUNT + 1);
-                let report = witness(all, false, None, "amd64", "aa", needs())?;
+                let report = witness(all, false, search, "amd64", "aa", needs())?;
                 assert_eq!(report.not_installable.len(), COUNT);
             }
             _ => drop(relations(relation)?),

@@ -5,7 +5,7 @@
 use debctl::{
     buildable, check, check_all, compare, diff, explain, explain_all, healthy, installable, key,
     paragraphs, query, relations, unmet, witness, Asked, Code, Compared, Error, Index, Kind,
-    Members, Refusal, SourceKind, Version,
+    Members, Refusal, Search, SourceKind, Version,
 };
 use std::collections::HashSet;
 use std::num::NonZeroU32;
@@ -194,13 +194,19 @@ fn three() -> String {
 fn packages_that_cannot_be_installed_have_lines() -> Result<(), Error> {
     let index = three();
     let aa = "uninstallable 1 aa 1 all\n";
-    let report = installable(Members::All, false, None, "amd64", &index)?;
+    let report = installable(Members::All, false, Search::default(), "amd64", &index)?;
     assert_eq!((report.installable, report.text.as_str()), (false, aa));
     assert_eq!(report.to_string(), report.text);
-    let report = installable(Members::All, true, None, b"amd64", index.as_bytes())?;
+    let report = installable(
+        Members::All,
+        true,
+        Search::default(),
+        b"amd64",
+        index.as_bytes(),
+    )?;
     assert_eq!(report.text, format!("{aa}uninstallable 2 bb 1 all\n"));
     for index in ["", &package("aa", "Recommends: zz\n")] {
-        let report = installable(Members::All, false, None, "amd64", index)?;
+        let report = installable(Members::All, false, Search::default(), "amd64", index)?;
         assert!(report.installable && report.text.is_empty());
     }
     let status = [
@@ -208,20 +214,44 @@ fn packages_that_cannot_be_installed_have_lines() -> Result<(), Error> {
         package("aa", "Status: install ok installed\nDepends: bb\n"),
     ]
     .concat();
-    let report = installable(Members::Installed, false, None, "amd64", &status)?;
+    let report = installable(
+        Members::Installed,
+        false,
+        Search::default(),
+        "amd64",
+        &status,
+    )?;
     assert_eq!(report.text, aa);
-    assert!(installable(Members::All, false, None, "amd64", status)?.installable);
+    assert!(installable(Members::All, false, Search::default(), "amd64", status)?.installable);
     assert_eq!(
-        refused(installable(Members::All, true, None, "any", "x")),
+        refused(installable(
+            Members::All,
+            true,
+            Search::default(),
+            "any",
+            "x"
+        )),
         (Code::BadEnvironment, 0, None)
     );
     let wrong = index.replacen("01", "1_", 1);
     assert_eq!(
-        refused(installable(Members::All, false, None, "amd64", wrong)),
+        refused(installable(
+            Members::All,
+            false,
+            Search::default(),
+            "amd64",
+            wrong
+        )),
         (Code::BadVersion, 2, Some("Version".to_owned()))
     );
     assert_eq!(
-        refused(installable(Members::Installed, false, None, "amd64", index)),
+        refused(installable(
+            Members::Installed,
+            false,
+            Search::default(),
+            "amd64",
+            index
+        )),
         (Code::MissingField, 1, Some("Status".to_owned()))
     );
     Ok(())
@@ -230,8 +260,16 @@ fn packages_that_cannot_be_installed_have_lines() -> Result<(), Error> {
 #[test]
 fn a_set_with_a_package_has_lines() -> Result<(), Error> {
     let index = three();
-    let ask =
-        |recommends, name: &[u8]| witness(Members::All, recommends, None, "amd64", name, &index);
+    let ask = |recommends, name: &[u8]| {
+        witness(
+            Members::All,
+            recommends,
+            Search::default(),
+            "amd64",
+            name,
+            &index,
+        )
+    };
     let report = ask(false, b"bb")?;
     assert_eq!(report.text, " 2 bb 1 all\n 3 cc 1 all\n");
     assert_eq!(report.to_string(), report.text);
@@ -261,23 +299,54 @@ fn a_set_with_a_package_has_lines() -> Result<(), Error> {
         package("aa", "Status: install ok installed\n"),
     ]
     .concat();
-    let report = witness(Members::Installed, true, None, b"amd64", "aa", &status)?;
+    let report = witness(
+        Members::Installed,
+        true,
+        Search::default(),
+        b"amd64",
+        "aa",
+        &status,
+    )?;
     assert_eq!(report.text, " 1 aa 1 all\n");
-    assert!(!witness(Members::Installed, true, None, "amd64", "bb", &status)?.found);
+    assert!(
+        !witness(
+            Members::Installed,
+            true,
+            Search::default(),
+            "amd64",
+            "bb",
+            &status
+        )?
+        .found
+    );
     assert_eq!(
-        refused(witness(Members::All, true, None, "any", "aa", "x")),
+        refused(witness(
+            Members::All,
+            true,
+            Search::default(),
+            "any",
+            "aa",
+            "x"
+        )),
         (Code::BadEnvironment, 0, None)
     );
     let wrong = index.replacen("01", "1_", 1);
     assert_eq!(
-        refused(witness(Members::All, false, None, "amd64", "cc", wrong)),
+        refused(witness(
+            Members::All,
+            false,
+            Search::default(),
+            "amd64",
+            "cc",
+            wrong
+        )),
         (Code::BadVersion, 2, Some("Version".to_owned()))
     );
     assert_eq!(
         refused(witness(
             Members::Installed,
             false,
-            None,
+            Search::default(),
             "amd64",
             "aa",
             index
@@ -287,37 +356,156 @@ fn a_set_with_a_package_has_lines() -> Result<(), Error> {
     Ok(())
 }
 
+/// dd and bb are essential and exclude each other; zz is needed, and isn't there.
+fn essential() -> String {
+    [
+        package("aa", "Depends: bb\n"),
+        package("bb", "Essential: yes\nConflicts: dd\n"),
+        package("cc", "Depends: zz\n"),
+        package("dd", "Essential: yes\n"),
+    ]
+    .concat()
+}
+
+#[test]
+fn sets_have_essential_packages_and_none_that_is_left_out() -> Result<(), Error> {
+    let index = essential();
+    let cc = "uninstallable 3 cc 1 all\n";
+    let all = "uninstallable 1 aa 1 all\nuninstallable 2 bb 1 all\n\
+        uninstallable 3 cc 1 all\nuninstallable 4 dd 1 all\n";
+    let ask = |essential, without: &[&[u8]]| {
+        let search = Search {
+            essential,
+            without,
+            ..Search::default()
+        };
+        installable(Members::All, false, search, "amd64", &index).map(|it| it.text)
+    };
+    assert_eq!(ask(false, &[])?, cc);
+    assert_eq!(ask(true, &[])?, all);
+    assert_eq!(ask(true, &[b"dd"])?, cc);
+    assert_eq!(ask(true, &[b"cc", b"dd", b"none"])?, "");
+    assert_eq!(ask(false, &[b"bb", b"cc"])?, "uninstallable 1 aa 1 all\n");
+    let long = [b'c'; 1 << 20];
+    let others: [&[u8]; 9] = [
+        b"", b"c", b"cc\0", b"\0", b"\xff", b"CC", b"cc,dd", b" cc", &long,
+    ];
+    assert_eq!(ask(false, &others)?, cc);
+    let set = |essential, without: &[&[u8]], name| {
+        let search = Search {
+            essential,
+            without,
+            ..Search::default()
+        };
+        witness(Members::All, false, search, "amd64", name, &index).map(|it| it.text)
+    };
+    assert_eq!(set(false, &[], "aa")?, " 1 aa 1 all\n 2 bb 1 all\n");
+    assert_eq!(set(true, &[], "aa")?, "uninstallable 1 aa 1 all\n");
+    assert_eq!(set(true, &[b"bb"], "dd")?, " 4 dd 1 all\n");
+    assert_eq!(set(false, &[b"aa"], "aa")?, "");
+    Ok(())
+}
+
+#[test]
+fn packages_that_cannot_be_installed_have_reasons() -> Result<(), Error> {
+    let index = essential();
+    let search = Search {
+        without: &[b"bb"],
+        why: true,
+        ..Search::default()
+    };
+    let aa = "uninstallable 1 aa 1 all\n 1 aa 1 all needs bb: 2\n 2 bb 1 all is left out\n";
+    let cc = "uninstallable 3 cc 1 all\n 3 cc 1 all needs zz: none\n";
+    let report = installable(Members::All, false, search, "amd64", &index)?;
+    assert_eq!(report.text, format!("{aa}{cc}"));
+    let report = witness(Members::All, false, search, "amd64", "aa", &index)?;
+    assert_eq!((report.found, report.text.as_str()), (false, aa));
+    let report = witness(Members::All, false, search, "amd64", "dd", &index)?;
+    assert_eq!(
+        (report.found, report.text.as_str()),
+        (true, " 4 dd 1 all\n")
+    );
+    let ended = Search {
+        budget: NonZeroU32::new(1),
+        ..search
+    };
+    let report = installable(Members::All, false, ended, "amd64", package("aa", ""))?;
+    assert!(report.installable && report.text.is_empty());
+    Ok(())
+}
+
 #[test]
 fn source_packages_that_cannot_be_built_have_lines() -> Result<(), Error> {
     let index = "Package: build-essential\nVersion: 1\nArchitecture: amd64\n";
     let sources = "Package: ss\nVersion: 1.0-0\nBuild-Depends: zz <!nocheck>\n";
     let line = "uninstallable 1 ss 1.0 source\n";
     let kind = SourceKind::Sources;
-    let report = buildable(kind, None, "amd64", &[], index, sources)?;
+    let report = buildable(kind, Search::default(), "amd64", &[], index, sources)?;
     assert_eq!((report.buildable, report.text.as_str()), (false, line));
     assert_eq!(report.to_string(), report.text);
     let profiles: &[&[u8]] = &[b"cross", b"nocheck"];
-    let report = buildable(kind, None, b"amd64", profiles, index.as_bytes(), sources)?;
+    let report = buildable(
+        kind,
+        Search::default(),
+        b"amd64",
+        profiles,
+        index.as_bytes(),
+        sources,
+    )?;
     assert!(report.buildable && report.text.is_empty());
     let source = format!("Format: 1.0\n{}", sources.replace("Package", "Source"));
     for budget in [1, u32::MAX].map(NonZeroU32::new) {
-        let report = buildable(SourceKind::Source, budget, "amd64", &[], index, &source)?;
+        let search = Search {
+            budget,
+            ..Search::default()
+        };
+        let report = buildable(SourceKind::Source, search, "amd64", &[], index, &source)?;
         assert_eq!(report.text, line);
     }
-    assert!(buildable(kind, None, "amd64", &[], "", "")?.buildable);
+    for (essential, without) in [(true, &b"aa"[..]), (false, b"build-essential")] {
+        let search = Search {
+            essential,
+            without: &[without],
+            ..Search::default()
+        };
+        let report = buildable(kind, search, "amd64", profiles, index, sources)?;
+        assert_eq!(report.buildable, essential);
+    }
+    let search = Search {
+        why: true,
+        ..Search::default()
+    };
+    let report = buildable(kind, search, "amd64", &[b"cross"], index, sources)?;
+    let need = " 1 ss 1.0 source needs zz <!nocheck>: none\n";
+    assert_eq!(report.text, format!("{line}{need}"));
+    assert!(buildable(kind, Search::default(), "amd64", &[], "", "")?.buildable);
     for (target, profiles) in [("any", &[][..]), ("amd64", &[b"".as_slice()][..])] {
         assert_eq!(
-            refused(buildable(kind, None, target, profiles, "x", "x")),
+            refused(buildable(
+                kind,
+                Search::default(),
+                target,
+                profiles,
+                "x",
+                "x"
+            )),
             (Code::BadEnvironment, 0, None)
         );
     }
     let wrong = index.replacen('1', "1_", 1);
     assert_eq!(
-        refused(buildable(kind, None, "amd64", &[], wrong, "x")),
+        refused(buildable(kind, Search::default(), "amd64", &[], wrong, "x")),
         (Code::BadVersion, 2, Some("Version".to_owned()))
     );
     let nameless = format!("Format: 1.0\n{sources}");
-    let second = buildable(SourceKind::Source, None, "amd64", &[], index, nameless);
+    let second = buildable(
+        SourceKind::Source,
+        Search::default(),
+        "amd64",
+        &[],
+        index,
+        nameless,
+    );
     assert!(matches!(second, Err(Error::SecondRefused(_))));
     assert_eq!(
         refused(second),

@@ -5,7 +5,7 @@ use debctl::{
     applies, buildable, canonical, compare, diff, explain, explain_relation, explain_version,
     healthy, installable, paragraphs, query, query_why, relations, satisfies, spelled_relations,
     unmet, witness, Alternative, Asked, ChangeKind, Code, Compared, Error, Explanation,
-    HealthFault, Index, InstallFault, Kind, Members, SourceKind, Verdict, Version,
+    HealthFault, Index, InstallFault, Kind, Members, Search, SourceKind, Verdict, Version,
 };
 use std::collections::HashMap;
 use std::num::NonZeroU32;
@@ -172,6 +172,14 @@ const CHOICES: &str = "Package: aa\nVersion: 1\nArchitecture: all\nDepends: bb |
     Package: ee\nVersion: 1\nArchitecture: all\n\n\
     Package: ff\nVersion: 01\nArchitecture: i386\nDepends: zz [linux-any]\n\n";
 
+/// A search with this budget.
+fn within(budget: Option<NonZeroU32>) -> Search<'static> {
+    Search {
+        budget,
+        ..Search::default()
+    }
+}
+
 #[test]
 fn a_report_on_installable_packages_has_faults() -> Result<(), Error> {
     let index = &format!("{CHOICES}Package: gg\nVersion: 1\nArchitecture: all\nDepends: zz\n");
@@ -182,7 +190,7 @@ fn a_report_on_installable_packages_has_faults() -> Result<(), Error> {
         (NonZeroU32::new(1), InstallFault::Undecided),
         (Some(NonZeroU32::MAX), InstallFault::Uninstallable),
     ] {
-        let report = installable(Members::All, false, budget, "amd64", index)?;
+        let report = installable(Members::All, false, within(budget), "amd64", index)?;
         let found: Vec<_> = report
             .packages
             .iter()
@@ -196,7 +204,7 @@ fn a_report_on_installable_packages_has_faults() -> Result<(), Error> {
         assert_eq!(found, wanted);
         assert!(!report.installable);
     }
-    let report = installable(Members::All, true, None, "amd64", INDEX)?;
+    let report = installable(Members::All, true, Search::default(), "amd64", INDEX)?;
     assert!(report.installable && report.packages.is_empty());
     Ok(())
 }
@@ -209,11 +217,11 @@ fn a_report_on_a_set_has_packages_or_faults() -> Result<(), Error> {
     );
     let loaded = Index::read(index)?;
     let package = |number| Ok::<_, Error>(loaded.package(number)?.expect("a package"));
-    let report = witness(Members::All, false, None, "amd64", "gg", index)?;
+    let report = witness(Members::All, false, Search::default(), "amd64", "gg", index)?;
     assert!(report.found && report.not_installable.is_empty());
     assert_eq!(report.packages, [package(2)?, package(3)?, package(7)?]);
     let faults = |budget, name| -> Result<Vec<_>, Error> {
-        let report = witness(Members::All, false, budget, "amd64", name, index)?;
+        let report = witness(Members::All, false, within(budget), "amd64", name, index)?;
         assert!(!report.found && report.packages.is_empty());
         let faults = report.not_installable.into_iter();
         Ok(faults.map(|it| (it.package, it.fault)).collect())
@@ -242,7 +250,8 @@ fn a_report_on_source_packages_has_faults() -> Result<(), Error> {
     let sources = "Package: ss\nVersion: 01\nBuild-Depends: aa\nBuild-Depends-Indep: bb\n\n\
         Package: tt\nVersion: 1\nBuild-Depends: aa | bb\n\n\
         Package: uu\nVersion: 1-0\nBuild-Conflicts-Arch: build-essential [linux-any]\n";
-    let report = buildable(SourceKind::Sources, None, "amd64", &[], index, sources)?;
+    let search = Search::default();
+    let report = buildable(SourceKind::Sources, search, "amd64", &[], index, sources)?;
     let found: Vec<_> = report
         .packages
         .iter()
@@ -263,7 +272,7 @@ fn a_report_on_source_packages_has_faults() -> Result<(), Error> {
     ];
     assert_eq!(found, wanted);
     assert!(!report.buildable);
-    let report = buildable(SourceKind::Sources, None, "amd64", &[], index, "")?;
+    let report = buildable(SourceKind::Sources, search, "amd64", &[], index, "")?;
     assert!(report.buildable && report.packages.is_empty());
     Ok(())
 }

@@ -2,8 +2,8 @@
 
 use debctl::{
     AllExplained, Alternative, BuildReport, Change, ChangeKind, Explanation, HealthFault,
-    HealthReport, InstallFault, InstallReport, NotInstallable, Package, Report, UnmetReport,
-    Verdict, WitnessReport,
+    HealthReport, InstallFault, InstallReason, InstallReport, NotInstallable, Package, Report,
+    UnmetReport, Verdict, WitnessReport,
 };
 
 /// What has a text.
@@ -114,8 +114,31 @@ fn faults(packages: &[NotInstallable]) -> String {
             _ => "undecided",
         };
         text += &format!("{word} {}\n", package(&it.package));
+        text.extend(it.reasons.iter().map(reason));
     }
     text
+}
+
+/// The line of a reason why a package can't be installed.
+fn reason(reason: &InstallReason) -> String {
+    match reason {
+        InstallReason::Need {
+            package: needing,
+            group,
+            candidates,
+        } => {
+            let numbers = candidates.iter().map(|it| format!(" {it}"));
+            let numbers = numbers.reduce(|some, more| some + &more);
+            let numbers = numbers.as_deref().unwrap_or(" none");
+            format!(" {} needs {group}:{numbers}\n", package(needing))
+        }
+        InstallReason::Exclusion {
+            package: by,
+            excluded,
+        } => format!(" {} excludes {}\n", package(by), package(excluded)),
+        InstallReason::LeftOut { package: it } => format!(" {} is left out\n", package(it)),
+        _ => String::new(),
+    }
 }
 
 impl Printed for InstallReport {

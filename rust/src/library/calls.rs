@@ -4,6 +4,7 @@
 //! overlaps no other. The library keeps none of them.
 
 use super::declared::*;
+use crate::Search;
 
 pub fn version_compare(left: &[u8], right: &[u8]) -> Comparison {
     unsafe { deb_version_compare(left.as_ptr(), left.len(), right.as_ptr(), right.len()) }
@@ -199,20 +200,27 @@ pub fn healthy(
     )
 }
 
-/// `asked` is the kind of the file, whether Recommends is asked, and the budget.
+/// `asked` is the kind of the file, and whether Recommends is asked; `search` is what is asked of
+/// sets, and the names that are left out.
 pub fn installable(
-    asked: (u8, u8, u32),
+    asked: (u8, u8),
+    search: (&Search, &[Text]),
     (target, index): (&[u8], &[u8]),
     out: &mut [u8],
     length: &mut usize,
 ) -> Answer {
+    let (search, without) = search;
     written!(
         deb_installable(
             asked.0,
             asked.1,
-            asked.2,
+            u8::from(search.essential),
+            u8::from(search.why),
+            search.steps(),
             target.as_ptr(),
             target.len(),
+            without.as_ptr(),
+            without.len(),
             index.as_ptr(),
             index.len()
         ),
@@ -221,22 +229,28 @@ pub fn installable(
     )
 }
 
-/// `asked` is the kind of the file, whether Recommends is asked, and the budget.
+/// `asked` and `search` are those of `installable`.
 pub fn witness(
-    asked: (u8, u8, u32),
+    asked: (u8, u8),
+    search: (&Search, &[Text]),
     (target, name, index): (&[u8], &[u8], &[u8]),
     out: &mut [u8],
     length: &mut usize,
 ) -> Answer {
+    let (search, without) = search;
     written!(
         deb_witness(
             asked.0,
             asked.1,
-            asked.2,
+            u8::from(search.essential),
+            u8::from(search.why),
+            search.steps(),
             target.as_ptr(),
             target.len(),
             name.as_ptr(),
             name.len(),
+            without.as_ptr(),
+            without.len(),
             index.as_ptr(),
             index.len()
         ),
@@ -245,22 +259,28 @@ pub fn witness(
     )
 }
 
-/// `asked` is the kind of the file, and the budget.
+/// `search` is that of `installable`.
 pub fn buildable(
-    asked: (u8, u32),
+    kind: u8,
+    search: (&Search, &[Text]),
     (target, profiles): (&[u8], &[Text]),
     (index, text): (&[u8], &[u8]),
     out: &mut [u8],
     length: &mut usize,
 ) -> Answer {
+    let (search, without) = search;
     written!(
         deb_buildable(
-            asked.0,
-            asked.1,
+            kind,
+            u8::from(search.essential),
+            u8::from(search.why),
+            search.steps(),
             target.as_ptr(),
             target.len(),
             profiles.as_ptr(),
             profiles.len(),
+            without.as_ptr(),
+            without.len(),
             index.as_ptr(),
             index.len(),
             text.as_ptr(),
