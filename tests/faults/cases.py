@@ -272,6 +272,10 @@ def many_paragraphs():
     why = b"".join(
         b" vv (>= 1): %d p%03d 1 all is provided without a version\n" % (at, at) for at in numbers
     )
+    needs = b" 400 p400 2 all needs zz: none\n"
+    last_line = b" 400 p400 1 all is left out\n"
+    chained = b"".join(b" %d p%03d 1 all needs p%03d: %d\n" % (at, at, at + 1, at + 1) for at in numbers[:-1])
+    chained = b"uninstallable 1 p001 1 all\n" + chained + last_line
     explained = b"file: -\nline: 5\ncode: 15\nname: BadNumber\nfield: Size\nvalue: x\nrule: "
     arch = ["--arch", "amd64"]
     installed = [*arch, "--installed"]
@@ -288,6 +292,8 @@ def many_paragraphs():
         (["healthy", *arch, "new"], b"unmet 400 p400 2 all Depends zz\n", 1),
         (["healthy", *installed, "status"], b"unmet 400 p400 1 all Depends zz\n", 1),
         (["installable", *arch, "new"], b"uninstallable 400 p400 2 all\n", 1),
+        (["installable", *arch, "--why", "new"], b"uninstallable 400 p400 2 all\n" + needs, 1),
+        (["installable", *arch, "--why", "--only", "p001", "--without", "p400", "chain"], chained, 1),
         (["installable", *arch, "--witness", "p007", "chain"], met, 0),
         (["unmet", *installed, "status"], b"unmet 400 p400 1 all Depends zz\n", 1),
         (["query", *installed, "vv", "status"], b"met vv\n" + met, 0),

@@ -240,7 +240,7 @@ static void try_rows(uint8_t form, struct written it, uint8_t status) {
         REQUIRE(rows.length == 0);
     for (size_t i = 0; i < rows.length; i++) {
         const struct deb_row *row = (const struct deb_row *)rows.text + i;
-        REQUIRE(row->kind <= DEB_ROW_UNDECIDED && row->cell_count <= 10);
+        REQUIRE(row->kind <= DEB_ROW_LEFT_OUT && row->cell_count <= 10);
         for (int cell = 0; cell < 10; cell++)
             if (cell < row->cell_count) {
                 REQUIRE(row->cells[cell].start >= at && row->cells[cell].length <= it.length);
@@ -400,14 +400,31 @@ static void try_pair(uint8_t kind, struct deb_text one, struct deb_text two) {
     try_rows(DEB_DIFF_LINES, lines, DEB_YES);
 }
 
+/* Whether the lines that don't begin with a space are these. */
+static int has_heads(struct written why, struct written heads) {
+    const uint8_t *at = why.text, *end = at + why.length, *next;
+    size_t seen = 0;
+    for (; at < end; at = next) {
+        next = (const uint8_t *)memchr(at, '\n', end - at) + 1;
+        if (*at == ' ')
+            continue;
+        if ((size_t)(next - at) > heads.length - seen || memcmp(at, heads.text + seen, next - at))
+            return 0;
+        seen += next - at;
+    }
+    return seen == heads.length;
+}
+
 /* The set of a file: an index of its packages is asked about the same ones, a status file of some. */
 static void try_set(uint8_t kind, struct deb_text text, struct deb_text target) {
-    struct written lines, those;
+    struct written lines, those, why;
     struct deb_answer checked = deb_check(kind, text.bytes, text.length);
-    WRITE(those, 2, 1, deb_installable(kind, chosen >> 7, chosen % 3, target.bytes, target.length, text.bytes, text.length, out, room, length));
+    WRITE(those, 2, 1, deb_installable(kind, chosen >> 7, 0, 0, chosen % 3, target.bytes, target.length, NULL, 0, text.bytes, text.length, out, room, length));
     WRITE(lines, 1, 1, deb_healthy(kind, chosen >> 7, target.bytes, target.length, text.bytes, text.length, out, room, length));
+    WRITE(why, 3, 1, deb_installable(kind, chosen >> 7, 0, 1, chosen % 3, target.bytes, target.length, NULL, 0, text.bytes, text.length, out, room, length));
     int has_set = kind == DEB_PACKAGES || kind == DEB_STATUS;
     REQUIRE((lines.answer.status == DEB_NO_KIND) == !has_set);
+    REQUIRE(is_same(why.answer, those.answer) && has_heads(why, those));
     int is_either = lines.answer.status <= DEB_NO && (those.answer.status == DEB_YES || (chosen % 3 && those.answer.status == DEB_NO));
     REQUIRE(is_either || agrees(lines.answer, those.answer));
     if (lines.answer.status <= DEB_NO) {
@@ -416,6 +433,7 @@ static void try_set(uint8_t kind, struct deb_text text, struct deb_text target) 
         REQUIRE(those.answer.count == lines.answer.count && those.answer.status == (those.length > 0));
         try_rows(DEB_HEALTH_LINES, lines, DEB_YES);
         try_rows(DEB_INSTALLABLE_LINES, those, DEB_YES);
+        try_rows(DEB_INSTALLABLE_LINES, why, DEB_YES);
     } else if (has_set)
         REQUIRE(lines.answer.code == DEB_BAD_ENVIRONMENT || agrees(lines.answer, checked));
 }
@@ -423,8 +441,8 @@ static void try_set(uint8_t kind, struct deb_text text, struct deb_text target) 
 /* A set with a package of an index: it has such a package, and no wildcard decides whether it is healthy. */
 static void try_witness(struct deb_text name, struct deb_text text, struct deb_text target) {
     struct written set, all;
-    WRITE(set, 4, 1, deb_witness(DEB_PACKAGES, chosen >> 7, chosen % 3, target.bytes, target.length, name.bytes, name.length, text.bytes, text.length, out, room, length));
-    WRITE(all, 5, 1, deb_installable(DEB_PACKAGES, chosen >> 7, 0, target.bytes, target.length, text.bytes, text.length, out, room, length));
+    WRITE(set, 4, 1, deb_witness(DEB_PACKAGES, chosen >> 7, 0, 0, chosen % 3, target.bytes, target.length, name.bytes, name.length, NULL, 0, text.bytes, text.length, out, room, length));
+    WRITE(all, 5, 1, deb_installable(DEB_PACKAGES, chosen >> 7, 0, 0, 0, target.bytes, target.length, NULL, 0, text.bytes, text.length, out, room, length));
     if (set.answer.status > DEB_NO) {
         REQUIRE(agrees(set.answer, all.answer));
         return;
@@ -472,7 +490,7 @@ static void try_index(uint8_t kind, struct deb_text relation, struct deb_text te
     REQUIRE(!is_held || (agrees(one.answer, two.answer) && one.length == two.length));
     if (one.answer.status <= DEB_NO)
         try_rows(DEB_UNMET_LINES, one, DEB_YES);
-    WRITE(two, 2, 1, deb_buildable(kind, chosen % 3, ASK, text.bytes, text.length, relation.bytes, relation.length, out, room, length));
+    WRITE(two, 2, 1, deb_buildable(kind, 0, 0, chosen % 3, ASK, NULL, 0, text.bytes, text.length, relation.bytes, relation.length, out, room, length));
     REQUIRE((two.answer.status == DEB_NO_KIND) == (kind != DEB_SOURCE && kind != DEB_SOURCES));
     if (two.answer.status != DEB_NO_KIND) {
         WRITE(one, 1, 1, deb_unmet(kind, 0, ASK, text.bytes, text.length, relation.bytes, relation.length, out, room, length));

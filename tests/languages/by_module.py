@@ -102,6 +102,23 @@ def changes(number, texts):
     return b"%d 0 0 0\n" % bool(found) + by_rows(text, found)
 
 
+def searched(call, number, texts):
+    """The answer of a search for sets of packages."""
+    names = texts[2 if call == "installable" else 3]
+    more = {
+        "kind": KINDS[number % 8], "essential": number // 16 % 2 == 1, "why": number // 32 % 2 == 1,
+        "without": names.split(b",") if names else (),
+    }
+    if number >= 64:
+        more["budget"] = number // 64
+    if call == "buildable":
+        return debctl.buildable(texts[1], texts[2], texts[0], texts[4:], **more)
+    more["recommends"] = number // 8 % 2 == 1
+    if call == "witness":
+        return debctl.witness(texts[1], texts[2], texts[0], **more)
+    return debctl.installable(texts[1], texts[0], **more)
+
+
 def answered(call, number, texts, loaded):
     """The answer where nothing is refused."""
     if call in ("compare", "canonical", "key"):
@@ -114,23 +131,8 @@ def answered(call, number, texts, loaded):
         more = {"kind": KINDS[number % 8], "recommends": number >= 8}
         it = debctl.healthy(texts[1], texts[0], **more)
         return b"%d 0 0 0\n" % (not it) + by_rows(it.text, it)
-    if call == "installable":
-        more = {"kind": KINDS[number % 8], "recommends": number // 8 % 2 == 1}
-        if number >= 16:
-            more["budget"] = number // 16
-        it = debctl.installable(texts[1], texts[0], **more)
-        return b"%d 0 0 0\n" % (not it) + by_rows(it.text, it)
-    if call == "witness":
-        more = {"kind": KINDS[number % 8], "recommends": number // 8 % 2 == 1}
-        if number >= 16:
-            more["budget"] = number // 16
-        it = debctl.witness(texts[1], texts[2], texts[0], **more)
-        return b"%d 0 0 0\n" % (not it) + by_rows(it.text, it)
-    if call == "buildable":
-        more = {"kind": KINDS[number % 8]}
-        if number >= 8:
-            more["budget"] = number // 8
-        it = debctl.buildable(texts[1], texts[2], texts[0], texts[3:], **more)
+    if call in ("installable", "witness", "buildable"):
+        it = searched(call, number, texts)
         return b"%d 0 0 0\n" % (not it) + by_rows(it.text, it)
     if call in ("explain", "explain-relation", "explain-version"):
         return explained(call, number, texts)

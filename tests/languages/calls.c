@@ -214,24 +214,26 @@ static void try_order(void) {
         IS(is(deb_healthy(others[at], 0, any, 3, no, 1, NULL, 0, &length), DEB_NO_KIND, 0, 0, 0) &&
            length == 0);
         length = 9;
-        IS(is(deb_installable(others[at], 0, 1, any, 3, no, 1, NULL, 0, &length), DEB_NO_KIND, 0, 0,
-              0) &&
+        IS(is(deb_installable(others[at], 0, 0, 0, 1, any, 3, &profile, 1, no, 1, NULL, 0, &length),
+              DEB_NO_KIND, 0, 0, 0) &&
            length == 0);
         length = 9;
-        IS(is(deb_witness(others[at], 0, 1, any, 3, no, 1, no, 1, NULL, 0, &length), DEB_NO_KIND, 0, 0,
-              0) &&
+        IS(is(deb_witness(others[at], 0, 0, 0, 1, any, 3, no, 1, &profile, 1, no, 1, NULL, 0, &length),
+              DEB_NO_KIND, 0, 0, 0) &&
            length == 0);
     }
     for (at = 0; at < 8; at++) {
         int is_kind = at == DEB_SOURCES || at == DEB_SOURCE;
         length = 9;
-        IS(is(deb_buildable((uint8_t)at, 1, any, 3, &profile, 1, no, 1, no, 1, NULL, 0, &length),
+        IS(is(deb_buildable((uint8_t)at, 1, 1, 1, any, 3, &profile, 1, &profile, 1, no, 1, no, 1, NULL,
+                            0, &length),
               is_kind ? DEB_REFUSED : DEB_NO_KIND, is_kind ? DEB_BAD_ENVIRONMENT : 0, 0, 0) &&
            length == 0);
     }
-    IS(is(deb_buildable(DEB_SOURCE, 0, any, 2, NULL, 0, no, 1, no, 1, NULL, 0, &length), DEB_REFUSED,
-          DEB_NO_COLON, 1, 0));
-    IS(is(deb_buildable(DEB_SOURCES, 0, any, 2, NULL, 0, NULL, 0, no, 1, NULL, 0, &length),
+    IS(is(deb_buildable(DEB_SOURCE, 0, 0, 0, any, 2, NULL, 0, NULL, 0, no, 1, no, 1, NULL, 0, &length),
+          DEB_REFUSED, DEB_NO_COLON, 1, 0));
+    IS(is(deb_buildable(DEB_SOURCES, 0, 0, 0, any, 2, NULL, 0, NULL, 0, NULL, 0, no, 1, NULL, 0,
+                        &length),
           DEB_SECOND_REFUSED, DEB_NO_COLON, 1, 0));
     for (at = 0; at < sizeof sets; at++) {
         IS(is(deb_healthy(sets[at], 0, any, 3, no, 1, NULL, 0, &length), DEB_REFUSED,
@@ -239,15 +241,15 @@ static void try_order(void) {
         IS(is(deb_healthy(sets[at], 0, any, 2, no, 1, NULL, 0, &length), DEB_REFUSED, DEB_NO_COLON, 1,
               0) &&
            length == 0);
-        IS(is(deb_installable(sets[at], 0, 1, any, 3, no, 1, NULL, 0, &length), DEB_REFUSED,
-              DEB_BAD_ENVIRONMENT, 0, 0));
-        IS(is(deb_installable(sets[at], 0, 1, any, 2, no, 1, NULL, 0, &length), DEB_REFUSED,
-              DEB_NO_COLON, 1, 0) &&
+        IS(is(deb_installable(sets[at], 0, 1, 0, 1, any, 3, &profile, 1, no, 1, NULL, 0, &length),
+              DEB_REFUSED, DEB_BAD_ENVIRONMENT, 0, 0));
+        IS(is(deb_installable(sets[at], 0, 0, 1, 1, any, 2, NULL, 0, no, 1, NULL, 0, &length),
+              DEB_REFUSED, DEB_NO_COLON, 1, 0) &&
            length == 0);
-        IS(is(deb_witness(sets[at], 0, 1, any, 3, no, 1, no, 1, NULL, 0, &length), DEB_REFUSED,
-              DEB_BAD_ENVIRONMENT, 0, 0));
-        IS(is(deb_witness(sets[at], 0, 1, any, 2, NULL, 0, no, 1, NULL, 0, &length), DEB_REFUSED,
-              DEB_NO_COLON, 1, 0) &&
+        IS(is(deb_witness(sets[at], 0, 1, 0, 1, any, 3, no, 1, &profile, 1, no, 1, NULL, 0, &length),
+              DEB_REFUSED, DEB_BAD_ENVIRONMENT, 0, 0));
+        IS(is(deb_witness(sets[at], 0, 0, 1, 1, any, 2, NULL, 0, NULL, 0, no, 1, NULL, 0, &length),
+              DEB_REFUSED, DEB_NO_COLON, 1, 0) &&
            length == 0);
     }
     IS(is(deb_explain(6, no, 1, NULL, 0, &length), DEB_NO_KIND, 0, 0, 0) && length == 0);

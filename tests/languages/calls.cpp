@@ -113,21 +113,25 @@ static std::string unhealthy(const std::string &text, deb_kind kind = DEB_PACKAG
     return std::to_string(answer.status) + ' ' + std::string(out.begin(), out.begin() + length);
 }
 
-// Which packages of a text can't be installed.
-static std::string uninstallable(const std::string &text, uint32_t budget = 0) {
+// Which packages of a text can't be installed without one of this name.
+static std::string uninstallable(const std::string &text, uint32_t budget = 0,
+                                 const std::string &left_out = "", uint8_t reasons = 0) {
     std::vector<uint8_t> out(256);
     size_t length = 0;
-    deb_answer answer = deb_installable(DEB_PACKAGES, 0, budget, bytes("amd64"), 5, bytes(text),
-                                        text.size(), out.data(), out.size(), &length);
+    const deb_text without[] = {{bytes(left_out), left_out.size()}};
+    deb_answer answer = deb_installable(DEB_PACKAGES, 0, 0, reasons, budget, bytes("amd64"), 5,
+                                        without, 1, bytes(text), text.size(), out.data(),
+                                        out.size(), &length);
     return std::to_string(answer.status) + ' ' + std::string(out.begin(), out.begin() + length);
 }
 
-// A set of packages of a text that contains one with this name.
+// A set of packages of a text that contains one with this name, and the essential ones.
 static std::string sought(const std::string &text, const std::string &name) {
     std::vector<uint8_t> out(256);
     size_t length = 0;
-    deb_answer answer = deb_witness(DEB_PACKAGES, 0, 0, bytes("amd64"), 5, bytes(name), name.size(),
-                                    bytes(text), text.size(), out.data(), out.size(), &length);
+    deb_answer answer = deb_witness(DEB_PACKAGES, 0, 1, 0, 0, bytes("amd64"), 5, bytes(name),
+                                    name.size(), nullptr, 0, bytes(text), text.size(), out.data(),
+                                    out.size(), &length);
     return std::to_string(answer.status) + ' ' + std::string(out.begin(), out.begin() + length);
 }
 
@@ -135,9 +139,9 @@ static std::string sought(const std::string &text, const std::string &name) {
 static std::string unbuilt(const std::string &index, const std::string &text) {
     std::vector<uint8_t> out(256);
     size_t length = 0;
-    deb_answer answer = deb_buildable(DEB_SOURCES, 0, bytes("amd64"), 5, nullptr, 0, bytes(index),
-                                      index.size(), bytes(text), text.size(), out.data(),
-                                      out.size(), &length);
+    deb_answer answer = deb_buildable(DEB_SOURCES, 0, 0, 0, bytes("amd64"), 5, nullptr, 0, nullptr,
+                                      0, bytes(index), index.size(), bytes(text), text.size(),
+                                      out.data(), out.size(), &length);
     return std::to_string(answer.status) + ' ' + std::string(out.begin(), out.begin() + length);
 }
 
@@ -167,13 +171,18 @@ int main() {
               unhealthy(text, DEB_STATUS) != "2 " || unhealthy(text, DEB_ANY) != "6 ";
     failed += uninstallable(text) != "0 " || uninstallable(text + "\n" + text, 1) != "0 " ||
               uninstallable(text + "Depends: aa\n\n" + text) !=
-                  "1 uninstallable 1 hello 1.0 amd64\n";
+                  "1 uninstallable 1 hello 1.0 amd64\n" ||
+              uninstallable(text + "Depends: aa\n", 0, "hello") != "0 " ||
+              uninstallable(text + "Depends: aa\n", 0, "", 1) !=
+                  "1 uninstallable 1 hello 1.0 amd64\n 1 hello 1.0 amd64 needs aa: none\n";
     const std::string source = "Package: ss\nVersion: 1\n";
     failed += unbuilt(text, source) != "1 uninstallable 1 ss 1 source\n" ||
               unbuilt(text + "Provides: build-essential\n", source) != "0 " ||
               unbuilt(text, "x") != "3 " || unbuilt("x", "x") != "2 ";
     failed += sought(text, "hello") != "0  1 hello 1.0 amd64\n" || sought(text, "aa") != "1 " ||
               sought(text + "Depends: aa\n", "hello") != "1 uninstallable 1 hello 1.0 amd64\n" ||
+              sought(text + "\nPackage: aa\nVersion: 1\nArchitecture: all\nEssential: yes\n",
+                     "hello") != "0  1 hello 1.0 amd64\n 2 aa 1 all\n" ||
               sought("x", "") != "2 ";
     std::printf("cpp: %d passed, %d failed\n", 16 - failed, failed);
     return failed != 0;

@@ -91,6 +91,9 @@ TAKE_TEXT = {
     "buildable's file": lambda text: debctl.buildable(HELLO, text, "amd64"),
     "buildable's arch": lambda text: debctl.buildable(HELLO, "", text),
     "buildable's profile": lambda text: debctl.buildable(HELLO, "", "amd64", [text]),
+    "a name that installable leaves out": lambda text: debctl.installable(HELLO, "amd64", without=[text]),
+    "a name that witness leaves out": lambda text: debctl.witness("hello", HELLO, "amd64", without=[text]),
+    "a name that buildable leaves out": lambda text: debctl.buildable(HELLO, "", "amd64", without=[text]),
 }
 TAKE_KIND = {
     "check's kind": lambda kind: debctl.check(HELLO, kind),

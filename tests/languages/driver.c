@@ -9,22 +9,24 @@
 
 #include <stdio.h>
 
-enum { FILES = 3, SMALL = 1 << 20 };
+enum { FILES = 4, SMALL = 1 << 20 };
 
 struct file {
     uint8_t *bytes;
     size_t length;
 };
 
-/* What is asked: the number, three files, and all further files as profiles. The number is that of a
- * kind, and with more that is asked: 8 times a detail or whether Recommends is asked, and 16 times a
- * budget; 8 times the budget of source packages. The second file of `witness` is the name. */
+/* What is asked: the number, three files or, of `witness` and `buildable`, four, and all further files
+ * as profiles. The number is that of a kind, and with more that is asked: 8 times a detail or whether
+ * Recommends is asked, 16 times whether essential packages are, 32 times whether reasons are, and 64
+ * times a budget. The second file of `witness` is the name. The last file of a search is the names
+ * that are left out, with commas between them; there are none if it is empty. */
 struct question {
     const char *call;
     long long number;
     struct file files[FILES];
-    struct deb_text *profiles;
-    size_t profile_count;
+    struct deb_text *profiles, *without;
+    size_t profile_count, without_count;
 };
 
 static struct file read_file(const char *path) {
@@ -47,6 +49,25 @@ static struct file read_file(const char *path) {
 static int calls(const struct question *q, const char *call) { return strcmp(q->call, call) == 0; }
 
 static int is_query(const struct question *q) { return calls(q, "query") || calls(q, "why"); }
+
+/* How many files aren't profiles. */
+static int own_files(const struct question *q) {
+    return calls(q, "witness") || calls(q, "buildable") ? 4 : 3;
+}
+
+/* Splits the names that are left out. */
+static void leave_out(struct question *q) {
+    const struct file *file = &q->files[own_files(q) - 1];
+    size_t start = 0, at;
+    if (file->length == 0)
+        return;
+    for (at = 0; at <= file->length; at++)
+        if (at == file->length || file->bytes[at] == ',') {
+            q->without = realloc(q->without, (q->without_count + 1) * sizeof *q->without);
+            q->without[q->without_count++] = (struct deb_text){file->bytes + start, at - start};
+            start = at + 1;
+        }
+}
 
 /* The answer of a call about one file, or about two of a kind. */
 static struct deb_answer ask_file(const struct question *q, uint8_t *out, size_t room,
@@ -95,19 +116,31 @@ static struct deb_answer ask(const struct question *q, uint8_t *out, size_t room
     if (calls(q, "healthy"))
         return deb_healthy((uint8_t)(q->number % 8), (uint8_t)(q->number / 8), target->bytes,
                            target->length, first->bytes, first->length, out, room, length);
-    if (calls(q, "installable"))
-        return deb_installable((uint8_t)(q->number % 8), (uint8_t)(q->number / 8 % 2),
-                               (uint32_t)(q->number / 16), target->bytes, target->length,
-                               first->bytes, first->length, out, room, length);
-    if (calls(q, "witness"))
-        return deb_witness((uint8_t)(q->number % 8), (uint8_t)(q->number / 8 % 2),
-                           (uint32_t)(q->number / 16), target->bytes, target->length, first->bytes,
-                           first->length, second->bytes, second->length, out, room, length);
-    if (calls(q, "buildable"))
-        return deb_buildable((uint8_t)(q->number % 8), (uint32_t)(q->number / 8), target->bytes,
-                             target->length, q->profiles, q->profile_count, first->bytes,
-                             first->length, second->bytes, second->length, out, room, length);
     return ask_file(q, out, room, length);
+}
+
+/* The same of a search for sets of packages. */
+static struct deb_answer search(const struct question *q, uint8_t *out, size_t room,
+                                size_t *length) {
+    const struct file *target = &q->files[0], *first = &q->files[1], *second = &q->files[2];
+    uint8_t kind = (uint8_t)(q->number % 8), recommends = (uint8_t)(q->number / 8 % 2);
+    uint8_t essential = (uint8_t)(q->number / 16 % 2), reasons = (uint8_t)(q->number / 32 % 2);
+    uint32_t budget = (uint32_t)(q->number / 64);
+    *length = 0;
+    if (calls(q, "installable"))
+        return deb_installable(kind, recommends, essential, reasons, budget, target->bytes,
+                               target->length, q->without, q->without_count, first->bytes,
+                               first->length, out, room, length);
+    if (calls(q, "witness"))
+        return deb_witness(kind, recommends, essential, reasons, budget, target->bytes,
+                           target->length, first->bytes, first->length, q->without,
+                           q->without_count, second->bytes, second->length, out, room, length);
+    if (calls(q, "buildable"))
+        return deb_buildable(kind, essential, reasons, budget, target->bytes, target->length,
+                             q->profiles, q->profile_count, q->without, q->without_count,
+                             first->bytes, first->length, second->bytes, second->length, out, room,
+                             length);
+    return ask(q, out, room, length);
 }
 
 /* The same of a loaded index. */
@@ -346,10 +379,10 @@ static void write_refusals(const struct question *q) {
 static void write_answer(const struct question *q) {
     uint8_t *out = NULL;
     size_t length;
-    struct deb_answer answer = ask(q, NULL, 0, &length);
+    struct deb_answer answer = search(q, NULL, 0, &length);
     if (answer.status == DEB_NO_ROOM) {
         out = malloc(length + 1);
-        answer = ask(q, out, length, &length);
+        answer = search(q, out, length, &length);
         out[length] = '\0';
     }
     printf("%d %d %llu %llu\n", answer.status, answer.code, (unsigned long long)answer.line,
@@ -367,18 +400,21 @@ static void write_answer(const struct question *q) {
 
 int main(int count, char **words) {
     static struct question q;
-    int at;
+    int at, own;
     q.call = count > 1 ? words[1] : "";
     q.number = count > 2 ? atoll(words[2]) : 0;
-    q.profile_count = count > 3 + FILES ? (size_t)count - 3 - FILES : 0;
+    own = own_files(&q);
+    q.profile_count = count > 3 + own ? (size_t)(count - 3 - own) : 0;
     q.profiles = malloc((q.profile_count + 1) * sizeof *q.profiles);
     for (at = 3; at < count; at++) {
         struct file it = read_file(words[at]);
-        if (at < 3 + FILES)
+        if (at < 3 + own)
             q.files[at - 3] = it;
         else
-            q.profiles[at - 3 - FILES] = (struct deb_text){it.bytes, it.length};
+            q.profiles[at - 3 - own] = (struct deb_text){it.bytes, it.length};
     }
+    if (calls(&q, "installable") || own == 4)
+        leave_out(&q);
     if (calls(&q, "compare")) {
         struct deb_comparison order = deb_version_compare(q.files[0].bytes, q.files[0].length,
                                                           q.files[1].bytes, q.files[1].length);
@@ -395,5 +431,6 @@ int main(int count, char **words) {
     for (at = 0; at < (int)q.profile_count; at++)
         free((void *)q.profiles[at].bytes);
     free(q.profiles);
+    free(q.without);
     return 0;
 }

@@ -77,11 +77,11 @@ static const char *uninstallable =
     "Package: ee\nVersion: 1\nArchitecture: all\nProvides: mta (= 2), other\n\n"
     "Package: ff\nVersion: 1\nArchitecture: all\nDepends: zz [linux-any]\n";
 
-/* One choice is right. */
+/* One choice is right, of an essential package. */
 static const char *sought =
     "Package: aa\nVersion: 01\nArchitecture: all\nDepends: bb | cc, dd | mta\n\n"
     "Package: bb\nVersion: 1\nArchitecture: all\nConflicts: dd, mta\n\n"
-    "Package: cc\nVersion: 1\nArchitecture: all\nBreaks: dd (<< 2)\n\n"
+    "Package: cc\nVersion: 1\nArchitecture: all\nBreaks: dd (<< 2)\nEssential: yes\n\n"
     "Package: dd\nVersion: 1\nArchitecture: all\n\n"
     "Package: ee\nVersion: 1-0\nArchitecture: all\nProvides: mta (= 2), other\n";
 
@@ -239,21 +239,22 @@ static struct deb_answer call(int which) {
         return deb_healthy(DEB_STATUS, 1, bytes("amd64"), 5, bytes(installed), strlen(installed), out,
                            sizeof out, &length);
     case 32:
-        return deb_installable(DEB_PACKAGES, 1, 0, bytes("amd64"), 5, bytes(uninstallable),
-                               strlen(uninstallable), out, sizeof out, &length);
+        return deb_installable(DEB_PACKAGES, 1, 0, 0, 0, bytes("amd64"), 5, NULL, 0,
+                               bytes(uninstallable), strlen(uninstallable), out, sizeof out,
+                               &length);
     case 33:
-        return deb_installable(DEB_STATUS, 1, 0, bytes("amd64"), 5, bytes(installed),
-                               strlen(installed), out, sizeof out, &length);
+        return deb_installable(DEB_STATUS, 1, 1, 1, 0, bytes("amd64"), 5, &profile, 1,
+                               bytes(installed), strlen(installed), out, sizeof out, &length);
     case 34:
-        return deb_witness(DEB_PACKAGES, 0, 0, bytes("amd64"), 5, bytes("aa"), 2, bytes(sought),
-                           strlen(sought), out, sizeof out, &length);
+        return deb_witness(DEB_PACKAGES, 0, 1, 0, 0, bytes("amd64"), 5, bytes("aa"), 2, &profile, 1,
+                           bytes(sought), strlen(sought), out, sizeof out, &length);
     case 35:
-        return deb_witness(DEB_PACKAGES, 1, 0, bytes("amd64"), 5, bytes("aa"), 2,
+        return deb_witness(DEB_PACKAGES, 1, 0, 1, 0, bytes("amd64"), 5, bytes("aa"), 2, NULL, 0,
                            bytes(uninstallable), strlen(uninstallable), out, sizeof out, &length);
     case 36:
-        return deb_buildable(DEB_SOURCES, 0, bytes("amd64"), 5, &profile, 1, bytes(uninstallable),
-                             strlen(uninstallable), bytes(sources), strlen(sources), out, sizeof out,
-                             &length);
+        return deb_buildable(DEB_SOURCES, 1, 1, 0, bytes("amd64"), 5, &profile, 1, &profile, 1,
+                             bytes(uninstallable), strlen(uninstallable), bytes(sources),
+                             strlen(sources), out, sizeof out, &length);
     default:
         return deb_query(bytes("amd64"), 5, &profile, 1, bytes("hello (>= 1) | xx, mta"), 22, text,
                          size, out, sizeof out, &length);

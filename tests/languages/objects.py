@@ -8,7 +8,8 @@ from pathlib import Path
 
 import debctl
 from debctl import (
-    Alternative, HealthReason, NotInstallable, NumberedPackage, Parts, Reason, Refused, Version,
+    Alternative, BuildReport, Exclusion, HealthReason, InstallReport, LeftOut, Need, NotInstallable,
+    NumberedPackage, Parts, Reason, Refused, Version, WitnessReport,
 )
 from printed import printed
 
@@ -115,6 +116,7 @@ def not_buildable():
         for name, needs in [("ss", "aa | bb, mm"), ("tt", "cc"), ("uu", "zz [linux-any]")]
     )
     report, brief = debctl.buildable(index, sources, "amd64"), debctl.buildable(index, sources, "amd64", budget=1)
+    why = debctl.buildable(index, "Package: ss\nVersion: 1\nBuild-Depends: zz\n", "amd64", why=True)
     ss = NotInstallable("uninstallable", 1, "ss", "1:2", "source")
     uu = NotInstallable("unsure", 3, "uu", "1:2", "source")
     whole = debctl.buildable(index, "", "amd64")
@@ -122,7 +124,10 @@ def not_buildable():
         not report and not brief and bool(whole) and whole == (True, "") and whole.packages == []
         and report.packages == [ss, uu]
         and brief.packages in ([ss, uu], [ss._replace(verdict="undecided"), uu])
-        and all(printed(it) == it.text.encode() for it in (report, brief, whole))
+        and why.packages == [
+            NotInstallable("uninstallable", 1, "ss", "1", "source", (Need(1, "ss", "1", "source", "zz", ()),))
+        ]
+        and all(printed(it) == it.text.encode() for it in (report, brief, whole, why))
     )
 
 
@@ -169,6 +174,32 @@ def not_installable():
         and report.packages == [hello, ee]
         and brief.packages == [hello._replace(verdict="undecided"), ee]
         and all(printed(it) == it.text.encode() for it in (report, brief, whole))
+    )
+
+
+def reasons():
+    """Whether reasons belong to the package before them, and are printed again."""
+    text = (
+        "unsure 1 aa 1 all\nuninstallable 2 bb 1:2 amd64\n 2 bb 1:2 amd64 needs cc:any (>= 1:2) | dd: 3 12\n"
+        " 3 cc 1:3 all needs ee: none\n 3 cc 1:3 all needs ff (Essential): 7\n"
+        " 12 dd 4 i386 excludes 2 bb 1:2 amd64\n 7 ff 1 all is left out\n"
+        "uninstallable 7 ff 1 all\n 7 ff 1 all is left out\nundecided 8 gg 1 all\n"
+    )
+    bb, ff = NumberedPackage(2, "bb", "1:2", "amd64"), LeftOut(7, "ff", "1", "all")
+    wanted = [
+        NotInstallable("unsure", 1, "aa", "1", "all"),
+        NotInstallable("uninstallable", *bb, (
+            Need(*bb, "cc:any (>= 1:2) | dd", (3, 12)), Need(3, "cc", "1:3", "all", "ee", ()),
+            Need(3, "cc", "1:3", "all", "ff (Essential)", (7,)), Exclusion(12, "dd", "4", "i386", bb), ff,
+        )),
+        NotInstallable("uninstallable", *ff, (ff,)), NotInstallable("undecided", 8, "gg", "1", "all", ()),
+    ]
+    report, sought = InstallReport(False, text), WitnessReport(False, text)
+    return (
+        report.packages == BuildReport(False, text).packages == sought.not_installable == wanted
+        and [type(why) for why in wanted[1].reasons] == [type(why) for why in report.packages[1].reasons]
+        and all(printed(it) == text.encode() for it in (report, sought))
+        and InstallReport(True, "").packages == []
     )
 
 
@@ -402,7 +433,7 @@ def texts():
 
 TESTS = {
     "groups": groups(), "reports": reports(), "health": health(), "states": states(),
-    "not installable": not_installable(), "sets": sets(), "not buildable": not_buildable(), "changes": changes(), "explanations": explanations(), "parts": parts(),
+    "not installable": not_installable(), "reasons": reasons(), "sets": sets(), "not buildable": not_buildable(), "changes": changes(), "explanations": explanations(), "parts": parts(),
     "versions and texts": versions_and_texts(), "spelled": spelled(),
     "profiles": profiles(), "one alternative": one_alternative(), "details": details(),
     "pieces": pieces(), "texts": texts(),

@@ -246,6 +246,68 @@ def installable():
     )
 
 
+MARKED = "\n".join(
+    f"Package: {name}\nVersion: 01\nArchitecture: all\n{more}"
+    for name, more in [
+        ("aa", "Depends: bb\n"), ("bb", "Essential: yes\nConflicts: dd\n"), ("cc", "Depends: zz\n"),
+        ("dd", "Essential: yes\n"),
+    ]
+)
+
+
+def terms():
+    """Whether sets have the essential packages if they are asked, and none that is left out by any
+    spelling of its whole name."""
+    aa, bb, cc, dd = (f"uninstallable {at} {it} 1 all\n" for at, it in enumerate(["aa", "bb", "cc", "dd"], 1))
+    ask = functools.partial(debctl.installable, MARKED, "amd64")
+    seek = functools.partial(debctl.witness, index=MARKED, arch="amd64")
+    others = ["", "c", "ccc", "CC", "cc ", "cc\0", "\0", "\xe9", "cc,dd", b"cc\xff", b"\xff", "c" * (1 << 20)]
+    source = "Package: ss\nVersion: 1\nBuild-Depends: cc\n"
+    tool = "Package: build-essential\nVersion: 1\nArchitecture: all\n\n" + MARKED.replace("Depends: zz", "X: y")
+    build = functools.partial(debctl.buildable, tool, source, "amd64")
+    return (
+        ask() == ask(without=[]) == ask(without=others) == ask(essential=False, without=iter(())) == (False, cc)
+        and ask(essential=True) == (False, aa + bb + cc + dd)
+        and all(ask(essential=True, without=(it,)) == (False, cc) for it in spellings("dd"))
+        and ask(essential=True, without={"cc": 1, b"dd": 2, "none": 3}) == (True, "")
+        and ask(without=[bytearray(b"bb"), "cc"]) == (False, aa)
+        and seek("aa") == (True, " 1 aa 1 all\n 2 bb 1 all\n")
+        and seek("aa", essential=True) == (False, aa)
+        and seek("dd", essential=True, without=["bb"]) == (True, " 4 dd 1 all\n")
+        and seek("aa", without=["aa"]) == (False, "")
+        and bool(build()) and bool(build(essential=True, without=["dd"]))
+        and build(essential=True) == build(without=["cc"]) == build(without=["build-essential"])
+        == (False, "uninstallable 1 ss 1 source\n")
+    )
+
+
+def why():
+    """Whether lines say why a package can't be installed or a source package can't be built, and not
+    otherwise."""
+    aa = "uninstallable 1 aa 1 all\n 1 aa 1 all needs bb: 2\n 2 bb 1 all is left out\n"
+    cc = "uninstallable 3 cc 1 all\n 3 cc 1 all needs zz: none\n"
+    own = (MARKED.replace("Depends: zz", "X: y") + "Depends: yy\n").split("\n\n", 2)[2]
+    tool = "Package: build-essential\nVersion: 1\nArchitecture: all\n\n" + MARKED
+    ss = "uninstallable 1 ss 1 source\n 1 ss 1 source needs aa: 2\n 2 aa 1 all needs bb: 3\n"
+    source = "Package: ss\nVersion: 01\nBuild-Depends: aa\nBuild-Conflicts: bb <cross>\n"
+    build = functools.partial(debctl.buildable, tool, source, "amd64", why=True)
+    return (
+        debctl.installable(MARKED, "amd64", without=["bb"], why=True).text == aa + cc
+        and debctl.witness("aa", MARKED, "amd64", without=["bb"], why=True) == (False, aa)
+        and debctl.witness("dd", MARKED, "amd64", why=True) == (True, " 4 dd 1 all\n")
+        and debctl.installable(own, "amd64", essential=True, why=True).text
+        == "uninstallable 1 cc 1 all\n 1 cc 1 all needs dd (Essential): 2\n 2 dd 1 all needs yy: none\n"
+        "uninstallable 2 dd 1 all\n 2 dd 1 all needs yy: none\n"
+        and debctl.installable(SET, "amd64", why=True)
+        == (False, "uninstallable 1 aa 1 amd64\n 1 aa 1 amd64 needs bb: none\n")
+        and build() == (True, "")
+        and build(without=["bb"]) == (False, ss + " 3 bb 1 all is left out\n")
+        and build(["cross"]) == (False, ss + " 1 ss 1 source excludes 3 bb 1 all\n")
+        and debctl.buildable("", source, "amd64", why=True).text
+        == "uninstallable 1 ss 1 source\n 1 ss 1 source needs build-essential:native: none\n"
+    )
+
+
 def witness():
     """Whether each spelling of the name and of the file has the lines of a set, or of no set, and only the
     name of a package has one."""
@@ -295,6 +357,9 @@ def refused_search(call, *first):
         and isinstance(ask("x", "any", kind="installed"), ValueError)
         and [str(ask("x", "any", budget=it)) for it in budgets] == [f"no budget: {it}" for it in budgets]
         and all(isinstance(ask("x", "any", budget=it), TypeError) for it in (None, "1", 1.0))
+        and all(isinstance(ask("x", "any", without=it), TypeError) for it in ("aa", b"aa", [1], 1, None))
+        and isinstance(ask("x", "any", without=["\ud800"]), UnicodeEncodeError)
+        and str(ask("x", "any", without="aa")) == "names are an iterable of texts, not one str"
         and isinstance(ask(SET, "amd64", "packages"), TypeError)
     )
 
@@ -352,6 +417,7 @@ def refused_buildable():
         == [f"no budget: {it}" for it in budgets]
         and all(isinstance(ask("x", "x", "any", budget=it), TypeError) for it in (None, "1", 1.0))
         and all(isinstance(ask("", "", "amd64", it), TypeError) for it in ("nocheck", b"nocheck", [1], 1))
+        and all(isinstance(ask("", "", "amd64", without=it), TypeError) for it in ("aa", b"aa", [1], 1, None))
         and isinstance(ask("", "", "amd64", [], "sources"), TypeError)
         and debctl.buildable("", "", "amd64", budget=(1 << 32) - 1).buildable
     )
@@ -411,6 +477,8 @@ TESTS = {
     "healthy, no target": [error(debctl.healthy, "x", it).line for it in ("any", "all", "")] == [0] * 3,
     "installable": installable(),
     "installable, refused": refused_installable(),
+    "essential packages, and packages that are left out": terms(),
+    "why": why(),
     "witness": witness(),
     "witness, refused": refused_witness(),
     "buildable": buildable(),

@@ -1,8 +1,8 @@
 """The texts of the Python module's objects, printed again from what the objects say alone."""
 
 from debctl import (
-    AllExplained, BuildReport, Explanation, HealthReport, InstallReport, Report, UnmetReport,
-    WitnessReport,
+    AllExplained, BuildReport, Exclusion, Explanation, HealthReport, InstallReport, Need, Report,
+    UnmetReport, WitnessReport,
 )
 
 
@@ -41,9 +41,24 @@ def of_health(reason):
     return " ".join(line if reason.by is None else [*line, "by", of_package(reason.by)])
 
 
+def of_listed(it):
+    """The words of a package that has a line."""
+    return f"{it.number} {it.package} {it.version} {it.architecture}"
+
+
+def of_install_reason(why):
+    """The line of a reason why a package can't be installed."""
+    if isinstance(why, Need):
+        candidates = " ".join(map(str, why.candidates)) or "none"
+        return f" {of_listed(why)} needs {why.group}: {candidates}"
+    if isinstance(why, Exclusion):
+        return f" {of_listed(why)} excludes {of_package(why.excluded)}"
+    return f" {of_listed(why)} is left out"
+
+
 def of_not_installable(it):
-    """The line of a package that can't be installed, or may not be."""
-    return " ".join([it.verdict, str(it.number), it.package, it.version, it.architecture])
+    """The lines of a package that can't be installed, or may not be."""
+    return [f"{it.verdict} {of_listed(it)}", *map(of_install_reason, it.reasons)]
 
 
 def of_change(change):
@@ -94,10 +109,10 @@ def printed(it):
     elif isinstance(it, HealthReport):
         lines = [of_health(reason) for reason in it.reasons]
     elif isinstance(it, (BuildReport, InstallReport)):
-        lines = [of_not_installable(package) for package in it.packages]
+        lines = [line for package in it.packages for line in of_not_installable(package)]
     elif isinstance(it, WitnessReport):
         lines = [f" {of_package(package)}" for package in it.packages]
-        lines += [of_not_installable(package) for package in it.not_installable]
+        lines += [line for package in it.not_installable for line in of_not_installable(package)]
     elif isinstance(it, Explanation):
         lines = of_explanation(it)
     elif isinstance(it, AllExplained):

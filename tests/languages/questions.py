@@ -8,10 +8,10 @@ ORDERS = {
     "<<": {-1}, "<=": {-1, 0}, "=": {0}, ">=": {0, 1}, ">>": {1},
 }
 LONGEST_RELATION = 16_777_216  # in a file that the program reads; the libraries have no such limit
-FLAGS = ["--recommends", "--installed", "--all", "--why", "--values"]
+FLAGS = ["--recommends", "--installed", "--all", "--why", "--values", "--essential"]
 VALUES = [
     "--kind", "--arch", "--profiles", "--relation", "--version-text", "--relation-from", "--budget",
-    "--index", "--witness",
+    "--index", "--witness", "--without",
 ]
 
 
@@ -88,34 +88,45 @@ def healthy_question(options, others, given):
 
 def installable_question(options, others, given):
     """A question which packages can be installed: its number is that of a question whether they are
-    healthy, and 16 for each step of the budget, if there is one; its texts are the target and the file.
+    healthy, and that of the search; its texts are the target, the file and the names that are left out.
     If a set with a package is asked for, the name is before the file."""
-    budget = options.pop("--budget", "0")
-    if not budget.isdecimal() or int(budget) > 1_000_000_000:
+    search, kind = search_number(options), options.pop("--kind", "packages")
+    without = options.pop("--without", None)
+    if without == "":
         raise Unknown
-    kind = options.pop("--kind", "packages")
+    names = bytes_of(without or "")
     if kind in ("source", "sources"):
-        return buildable_question(kind, int(budget), options, others, given)
+        return buildable_question(kind, (search, names), options, others, given)
     if kind != "packages":
         raise Unknown
     name = options.pop("--witness", None)
     _, number, texts = healthy_question(options, others, given)
-    number += 16 * int(budget)
     if name is None:
-        return "installable", number, texts
+        return "installable", number + search, [*texts, names]
     if "," in name:
         raise Unknown
-    return "witness", number, [texts[0], bytes_of(name), texts[1]]
+    return "witness", number + search, [texts[0], bytes_of(name), texts[1], names]
 
 
-def buildable_question(kind, budget, options, others, given):
-    """A question which source packages can be built: its number is that of the kind, and 8 for each step
-    of the budget, if there is one; its texts are the target, the index, the file and the profiles."""
+def search_number(options):
+    """The number of a search: 16 if essential packages are asked, 32 if reasons are, and 64 for each step
+    of the budget, if there is one."""
+    budget = options.pop("--budget", "0")
+    if not budget.isdecimal() or int(budget) > 1_000_000_000:
+        raise Unknown
+    flags = [options.pop(it, None) is not None for it in ("--essential", "--why")]
+    return 16 * flags[0] + 32 * flags[1] + 64 * int(budget)
+
+
+def buildable_question(kind, asked, options, others, given):
+    """A question which source packages can be built: its number is that of the kind and of the search;
+    its texts are the target, the index, the file, the names that are left out and the profiles."""
     index = options.pop("--index")
     if len(others) != 1 or [index] == others == ["-"]:
         raise Unknown
-    texts = [bytes_of(options.pop("--arch")), read(index, given), read(others[0], given)]
-    return "buildable", KINDS.index(kind) + 8 * budget, texts + profiles_of(options)
+    search, names = asked
+    texts = [bytes_of(options.pop("--arch")), read(index, given), read(others[0], given), names]
+    return "buildable", KINDS.index(kind) + search, texts + profiles_of(options)
 
 
 def query_question(options, others, given):

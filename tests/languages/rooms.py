@@ -77,11 +77,13 @@ TESTS = {
     "installable, of a status file": (
         lambda: debctl.installable(STATUS, "amd64", kind="status", recommends=True).packages, 2,
     ),
+    "installable, why": (lambda: debctl.installable(VERSIONS, "amd64", why=True).text, 1),
     "witness": (lambda: debctl.witness("p0", CHAIN, "amd64").packages[COUNT], 2),
     "witness, none is found": (
         lambda: debctl.witness("aa", VERSIONS, "amd64").not_installable[COUNT - 1], 2,
     ),
     "buildable": (lambda: debctl.buildable(INDEX, UNBUILT, "amd64").packages, 2),
+    "buildable, why": (lambda: debctl.buildable(INDEX, UNBUILT, "amd64", why=True).text, 1),
     "Index": (lambda: debctl.Index(INDEX), 2),  # and frees it
     "Index.query": (lambda: LOADED.query(NAMES, "amd64").groups, 2),
     "Index.unmet": (lambda: LOADED.unmet(INDEX, "amd64").groups, 2),

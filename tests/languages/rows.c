@@ -61,6 +61,15 @@ static const struct lined all[] = {
      3,
      {DEB_ROW_UNINSTALLABLE, DEB_ROW_UNSURE, DEB_ROW_UNDECIDED},
      "1/aa/1:2-3/amd64/12/bb/1/all/345/by/1~/i386/"},
+    {DEB_INSTALLABLE_LINES,
+     "uninstallable 1 aa 1 all\n 1 aa 1 all needs bb:any (>= 1:2) | needs: 12 345\n"
+     " 12 bb 2 i386 needs excludes (Essential): none\n 12 bb 2 i386 excludes 1 is 1:1 all\n"
+     " 345 is 1 left is left out\nunsure 346 cc 1 all\n",
+     6,
+     {DEB_ROW_UNINSTALLABLE, DEB_ROW_NEED, DEB_ROW_NEED, DEB_ROW_EXCLUSION, DEB_ROW_LEFT_OUT,
+      DEB_ROW_UNSURE},
+     "1/aa/1/all/1/aa/1/all/bb:any (>= 1:2) | needs/12 345/12/bb/2/i386/excludes (Essential)/none/"
+     "12/bb/2/i386/1/is/1:1/all/345/is/1/left/346/cc/1/all/"},
     {DEB_EXPLANATION, "ok 12\nok\n", 2, {DEB_ROW_OK, DEB_ROW_VALID}, "12/"},
 };
 
@@ -139,6 +148,16 @@ static void try_others(void) {
         "uninstallable 1 aa 1 all Depends\n",
         "unsure x aa 1 all\n",
         "undecided 1 aa 1 all:\n",
+        " 1 aa 1 all needs bb\n",
+        " 1 aa 1 all needs bb:2\n",
+        " 1 aa 1 all: needs bb: 2\n",
+        " x aa 1 all needs bb: 2\n",
+        " 1 aa 1 all excludes 2 bb 1\n",
+        " 1 aa 1 all excludes 2 bb 1 all all\n",
+        " 1 aa 1 all excludes bb 1 all\n",
+        " 1 aa 1 is left out\n",
+        " 1 aa 1 all is left out \n",
+        " 1 aa 1 all was left out\n",
     };
     static const uint8_t forms[] = {6, 7, 128, 255};
     uint8_t form;

@@ -26,6 +26,7 @@ FIXED = {
     "healthy": lambda: debctl.healthy(INDEX, "amd64"),
     "healthy, of a status file": lambda: debctl.healthy(STATUS, "amd64", kind="status"),
     "installable": lambda: debctl.installable(INDEX, "amd64", budget=1),
+    "installable, why": lambda: debctl.installable(INDEX, "amd64", essential=True, without=["aa", "bb"], why=True),
     "witness": lambda: debctl.witness("hello", INDEX + "\n" + INDEX.replace("Depends", "X"), "amd64"),
     "buildable": lambda: debctl.buildable(INDEX, "Package: ss\nVersion: 1\n", "amd64", ["nocheck"]),
     "paragraphs": lambda: [dict(it) for it in debctl.paragraphs(INDEX)],

@@ -193,6 +193,12 @@ static const char status_file[] =
     "Package: cc\nStatus: install ok installed\nVersion: 02\nArchitecture: all\nDepends: aa, cc\n"
     "Recommends: bb\n";
 
+/* What the next searches ask of sets: whether the essential packages are in them, and reasons of what
+ * can't be installed; and the names that are left out. */
+static uint8_t essential, reasons;
+static const struct deb_text *without;
+static size_t without_count;
+
 /* What is asked of a set of packages, and the answer; no lines are written if these are NULL. */
 struct of_set {
     int kind, recommends;
@@ -215,9 +221,9 @@ static struct deb_answer ask_healthy(const struct of_set *q, uint8_t *out, size_
 static struct deb_answer ask_installable(const struct of_set *q, uint8_t *out, size_t room,
                                          size_t *length) {
     size_t target = strlen(q->target), size = strlen(q->index);
-    return deb_installable((uint8_t)q->kind, (uint8_t)q->recommends, 0,
-                           target ? bytes(q->target) : NULL, target, size ? bytes(q->index) : NULL,
-                           size, out, room, length);
+    return deb_installable((uint8_t)q->kind, (uint8_t)q->recommends, essential, reasons, 0,
+                           target ? bytes(q->target) : NULL, target, without, without_count,
+                           size ? bytes(q->index) : NULL, size, out, room, length);
 }
 
 /* Asks with a buffer that is a byte too short, one that is long enough, and a longer one. */
@@ -334,9 +340,10 @@ static const char *wanted; /* the name */
 static struct deb_answer ask_witness(const struct of_set *q, uint8_t *out, size_t room,
                                      size_t *length) {
     size_t target = strlen(q->target), name = strlen(wanted), size = strlen(q->index);
-    return deb_witness((uint8_t)q->kind, (uint8_t)q->recommends, 0, target ? bytes(q->target) : NULL,
-                       target, name ? bytes(wanted) : NULL, name, size ? bytes(q->index) : NULL, size,
-                       out, room, length);
+    return deb_witness((uint8_t)q->kind, (uint8_t)q->recommends, essential, reasons, 0,
+                       target ? bytes(q->target) : NULL, target, name ? bytes(wanted) : NULL, name,
+                       without, without_count, size ? bytes(q->index) : NULL, size, out, room,
+                       length);
 }
 
 /* Three versions of one package; the first needs zz, and the last two aren't in one set. */
@@ -399,14 +406,15 @@ static void try_names(void) {
     memset(name, 'a', LONG);
     for (at = 0; at <= LONG; at += at < 4 ? 1 : at == 4 ? LONG - 4 : LONG) {
         length = 99;
-        IS(is(deb_witness(DEB_PACKAGES, 0, 0, bytes("amd64"), 5, name, at, bytes(index), strlen(index),
-                          out, sizeof out, &length),
+        IS(is(deb_witness(DEB_PACKAGES, 0, 0, 0, 0, bytes("amd64"), 5, name, at, NULL, 0,
+                          bytes(index), strlen(index), out, sizeof out, &length),
               at == 2 ? DEB_YES : DEB_NO, 0, 0, 1) &&
            length == (at == 2 ? 12 : 0));
     }
     for (at = 0; at < sizeof others / sizeof *others; at++)
-        IS(is(deb_witness(DEB_PACKAGES, 0, 0, bytes("amd64"), 5, bytes(others[at]), lengths[at],
-                          bytes(index), strlen(index), out, sizeof out, &length),
+        IS(is(deb_witness(DEB_PACKAGES, 0, 0, 0, 0, bytes("amd64"), 5, bytes(others[at]),
+                          lengths[at], NULL, 0, bytes(index), strlen(index), out, sizeof out,
+                          &length),
               DEB_NO, 0, 0, 1) &&
            length == 0);
     free(name);
@@ -443,10 +451,10 @@ static struct deb_answer ask_buildable(const struct of_sources *q, uint8_t *out,
         profile.bytes = bytes(q->profile);
         profile.length = strlen(q->profile);
     }
-    return deb_buildable((uint8_t)q->kind, 0, bytes(q->target), strlen(q->target),
-                         q->profile ? &profile : NULL, q->profile != NULL,
-                         index ? bytes(q->index) : NULL, index, text ? bytes(q->text) : NULL, text,
-                         out, room, length);
+    return deb_buildable((uint8_t)q->kind, essential, reasons, 0, bytes(q->target),
+                         strlen(q->target), q->profile ? &profile : NULL, q->profile != NULL,
+                         without, without_count, index ? bytes(q->index) : NULL, index,
+                         text ? bytes(q->text) : NULL, text, out, room, length);
 }
 
 static void try_sources(const struct of_sources *q) {
@@ -501,6 +509,28 @@ static void try_buildable(void) {
         try_sources(&all[at]);
 }
 
+/* Reasons follow the line of a source package that can't be built, and no other. */
+static void try_unbuilt(void) {
+    static const struct of_sources all[] = {
+        {3, "amd64", NULL, toolchain, built, DEB_NO, 0, 0, 4,
+         "uninstallable 1 ss 1 source\n 1 ss 1 source needs aa: 2\n"
+         " 1 ss 1 source needs mm <!nodoc>: 3\n 2 aa 2 all excludes 3 bb 1 amd64\n"
+         "unsure 3 uu 3 source\n"},
+        {3, "amd64", "nodoc", toolchain, built, DEB_NO, 0, 0, 4,
+         "unsure 3 uu 3 source\nuninstallable 4 vv 4 source\n"
+         " 4 vv 4 source needs build-essential:native: 1\n"
+         " 4 vv 4 source excludes 1 build-essential 1 amd64\n"},
+        {2, "amd64", NULL, toolchain, described, DEB_NO, 0, 0, 1,
+         "uninstallable 1 ss 1.0 source\n 1 ss 1.0 source needs zz: none\n"},
+        {3, "amd64", NULL, toolchain, "Package: ss\nVersion: 1\n", DEB_YES, 0, 0, 1, ""},
+    };
+    size_t at;
+    reasons = 1;
+    for (at = 0; at < sizeof all / sizeof *all; at++)
+        try_sources(&all[at]);
+    reasons = 0;
+}
+
 /* aa needs one of bb and cc, and one of dd and ee; neither of the first goes with one of the others. So
  * no choice is the right one. */
 static const char choices[] =
@@ -513,8 +543,9 @@ static const char choices[] =
 static int has_lines_within(uint32_t budget, const char *index, const char *lines) {
     uint8_t out[256];
     size_t length = 0;
-    struct deb_answer answer = deb_installable(DEB_PACKAGES, 0, budget, bytes("amd64"), 5,
-                                               bytes(index), strlen(index), out, sizeof out, &length);
+    struct deb_answer answer = deb_installable(DEB_PACKAGES, 0, 0, reasons, budget,
+                                               bytes("amd64"), 5, NULL, 0, bytes(index),
+                                               strlen(index), out, sizeof out, &length);
     return answer.status == (*lines ? DEB_NO : DEB_YES) && length == strlen(lines) &&
            memcmp(out, lines, length) == 0;
 }
@@ -523,8 +554,8 @@ static int seeks_within(uint32_t budget, const char *index, int status, const ch
     uint8_t out[256];
     size_t length = 0;
     struct deb_answer answer =
-        deb_witness(DEB_PACKAGES, 0, budget, bytes("amd64"), 5, bytes("aa"), 2, bytes(index),
-                    strlen(index), out, sizeof out, &length);
+        deb_witness(DEB_PACKAGES, 0, 0, reasons, budget, bytes("amd64"), 5, bytes("aa"), 2, NULL, 0,
+                    bytes(index), strlen(index), out, sizeof out, &length);
     return answer.status == status && length == strlen(lines) && memcmp(out, lines, length) == 0;
 }
 
@@ -546,6 +577,107 @@ static void try_budgets(void) {
     IS(seeks_within(1, choices, DEB_NO, "undecided 1 aa 1 all\n"));
     IS(seeks_within(4294967295, choices, DEB_NO, "uninstallable 1 aa 1 all\n"));
     IS(seeks_within(1, versions, DEB_YES, " 1 aa 1 all\n"));
+    reasons = 1;
+    IS(has_lines_within(1, choices, "undecided 1 aa 1 all\n"));
+    IS(seeks_within(1, choices, DEB_NO, "undecided 1 aa 1 all\n"));
+    IS(seeks_within(1, versions, DEB_YES, " 1 aa 1 all\n"));
+    reasons = 0;
+}
+
+/* ---- essential packages, packages that are left out, and reasons */
+
+/* bb and dd are essential on amd64, and the first bb excludes dd; ee is marked too, but of another
+ * architecture. cc needs what isn't there, and the second bb excludes aa. */
+static const char marked[] =
+    "Package: aa\nVersion: 01\nArchitecture: all\nDepends: bb (<< 3) | ff\n\n"
+    "Package: bb\nVersion: 2\nArchitecture: amd64\nEssential: yes\nConflicts: dd\n\n"
+    "Package: cc\nVersion: 1\nArchitecture: all\nDepends: zz (>= 01)\nEssential: no\n\n"
+    "Package: dd\nVersion: 1-0\nArchitecture: all\nEssential: yes\n\n"
+    "Package: ee\nVersion: 1\nArchitecture: i386\nEssential: yes\n\n"
+    "Package: bb\nVersion: 3\nArchitecture: all\nConflicts: aa\n";
+
+#define CC "uninstallable 3 cc 1 all\n"
+#define CC_NEEDS " 3 cc 1 all needs zz (>= 1): none\n"
+#define WITHOUT_BB                                                                                 \
+    "uninstallable 1 aa 1 all\n 1 aa 1 all needs bb (<< 3) | ff: 2\n 2 bb 2 amd64 is left out\n"
+
+static void try_terms(void) {
+    const struct deb_text names[] = {
+        {bytes("dd"), 2}, {bytes("cc"), 2}, {bytes("bb"), 2}, {bytes("bb\0"), 3},
+        {bytes("\xff"), 1}, {NULL, 0}, {bytes("cc,dd"), 5}, {bytes(" cc"), 3},
+    };
+    static const struct {
+        uint8_t essential, reasons;
+        size_t first, count;
+        const char *lines, *wanted, *set;
+    } all[] = {
+        {0, 0, 0, 0, CC, "bb", " 2 bb 2 amd64\n"},
+        {0, 0, 3, 5, CC, "aa", " 1 aa 1 all\n 2 bb 2 amd64\n"},
+        {0, 0, 1, 1, "", "cc", ""},
+        {0, 0, 0, 3, "uninstallable 1 aa 1 all\n", "dd", ""},
+        {0, 0, 0, 8, "uninstallable 1 aa 1 all\n", "aa", "uninstallable 1 aa 1 all\n"},
+        {255, 0, 1, 1, "uninstallable 1 aa 1 all\nuninstallable 2 bb 2 amd64\n", "ee",
+         " 4 dd 1 all\n 5 ee 1 i386\n 6 bb 3 all\n"},
+        {1, 0, 0, 1, CC, "aa", " 1 aa 1 all\n 2 bb 2 amd64\n"},
+        {0, 1, 0, 0, CC CC_NEEDS, "cc", CC CC_NEEDS},
+        {0, 255, 1, 2, WITHOUT_BB, "aa", WITHOUT_BB},
+        {1, 1, 0, 1, CC CC_NEEDS, "dd", ""},
+    };
+    size_t at;
+    for (at = 0; at < sizeof all / sizeof *all; at++) {
+        struct of_set q = {1, 0, "amd64", marked, DEB_NO, 0, 0, 6, NULL};
+        essential = all[at].essential;
+        reasons = all[at].reasons;
+        without = all[at].count ? &names[all[at].first] : NULL;
+        without_count = all[at].count;
+        q.lines = all[at].lines;
+        q.status = *q.lines ? DEB_NO : DEB_YES;
+        try_set(ask_installable, &q);
+        wanted = all[at].wanted;
+        q.lines = all[at].set;
+        q.status = *q.lines == ' ' ? DEB_YES : DEB_NO;
+        try_set(ask_witness, &q);
+    }
+    essential = reasons = 0;
+    without_count = 0;
+}
+
+/* No set has two essential packages of which one excludes the other, or one that can't be installed.
+ * That of a source package has the essential ones too. */
+static void try_marked_toolchain(void) {
+    const struct deb_text names[] = {{bytes("aa"), 2}, {bytes("build-essential"), 15}};
+    static const struct of_set none = {
+        1, 0, "amd64", "Package: aa\nVersion: 1\nArchitecture: all\nEssential: yes\nConflicts: bb\n\n"
+        "Package: bb\nVersion: 1\nArchitecture: all\nEssential: yes\n", DEB_NO, 0, 0, 2,
+        "uninstallable 1 aa 1 all\nuninstallable 2 bb 1 all\n"};
+    static const struct of_set needed = {
+        1, 0, "amd64", "Package: aa\nVersion: 1\nArchitecture: all\nEssential: yes\nDepends: zz\n\n"
+        "Package: bb\nVersion: 1\nArchitecture: all\n", DEB_NO, 0, 0, 2,
+        "uninstallable 1 aa 1 all\n 1 aa 1 all needs zz: none\n"
+        "uninstallable 2 bb 1 all\n 2 bb 1 all needs aa (Essential): 1\n"
+        " 1 aa 1 all needs zz: none\n"};
+    static const struct of_sources unbuilt = {
+        3, "amd64", NULL,
+        "Package: build-essential\nVersion: 1\nArchitecture: amd64\nConflicts: aa\n\n"
+        "Package: aa\nVersion: 1\nArchitecture: all\nEssential: yes\n",
+        "Package: ss\nVersion: 01\n", DEB_NO, 0, 0, 1, "uninstallable 1 ss 1 source\n"};
+    struct of_sources built_of = unbuilt;
+    built_of.status = DEB_YES;
+    built_of.lines = "";
+    try_sources(&built_of);
+    essential = 1;
+    try_set(ask_installable, &none);
+    reasons = 1;
+    try_set(ask_installable, &needed);
+    reasons = 0;
+    try_sources(&unbuilt);
+    without = names;
+    without_count = 1;
+    try_sources(&built_of);
+    without_count = 2;
+    try_sources(&unbuilt);
+    essential = 0;
+    without_count = 0;
 }
 
 /* ---- fields */
@@ -730,6 +862,9 @@ int main(void) {
     try_witness();
     try_names();
     try_buildable();
+    try_unbuilt();
+    try_terms();
+    try_marked_toolchain();
     try_budgets();
     try_fields();
     try_refusals();

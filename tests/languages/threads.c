@@ -58,6 +58,7 @@ static void *run(void *wrong) {
         size_t length;
         const uint8_t *text = bytes(hello);
         const char *source = "Package: aa\nVersion: 1-2\n";
+        struct deb_text without = {bytes("aa"), 2};
         size_t size = strlen(hello);
         struct deb_comparison order = deb_version_compare(bytes("1~"), 2, bytes("1"), 1);
         *(int *)wrong += order.status != DEB_YES || order.order >= 0;
@@ -89,15 +90,16 @@ static void *run(void *wrong) {
         *(int *)wrong += deb_healthy(DEB_PACKAGES, 0, bytes("amd64"), 5, text, size, out, sizeof out,
                                      &length)
                              .status != DEB_YES;
-        *(int *)wrong += deb_installable(DEB_PACKAGES, 0, 0, bytes("amd64"), 5, text, size, out,
-                                         sizeof out, &length)
+        *(int *)wrong += deb_installable(DEB_PACKAGES, 0, 0, 1, 0, bytes("amd64"), 5, &without, 1,
+                                         text, size, out, sizeof out, &length)
                              .status != DEB_YES;
-        *(int *)wrong += deb_witness(DEB_PACKAGES, 0, 0, bytes("amd64"), 5, bytes("hello"), 5, text,
-                                     size, out, sizeof out, &length)
+        *(int *)wrong += deb_witness(DEB_PACKAGES, 0, 1, 0, 0, bytes("amd64"), 5, bytes("hello"), 5,
+                                     &without, 1, text, size, out, sizeof out, &length)
                                  .status != DEB_YES ||
                          length != 19 || memcmp(out, " 1 hello 1.0 amd64\n", 19) != 0;
-        *(int *)wrong += deb_buildable(DEB_SOURCES, 0, bytes("amd64"), 5, NULL, 0, text, size,
-                                       bytes(source), strlen(source), out, sizeof out, &length)
+        *(int *)wrong += deb_buildable(DEB_SOURCES, 1, 0, 0, bytes("amd64"), 5, NULL, 0, &without, 1,
+                                       text, size, bytes(source), strlen(source), out, sizeof out,
+                                       &length)
                                  .status != DEB_NO ||
                          length != 30;
         *(int *)wrong += ask_more(text, size);

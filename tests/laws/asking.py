@@ -9,6 +9,7 @@ from typing import Iterator, NamedTuple
 from laws.changes import changed, lines_with
 from laws.documents import OPERATORS, REQUIRED, SINGLE, SPACES, VERSIONS
 from laws.documents import alternative, made, mistaken, read, text_of
+from laws.explained import HEAD, Explained, cut
 from laws.reasons import FIELDS, Fault, fault_of, nearly
 from laws.refusals import REFUSAL, AllRefusals
 from laws.spelling import planted, respelled, spoiled
@@ -18,12 +19,15 @@ SECONDS = 10
 REASON_LINE = re.compile(rb"^(name|place|reason): (.*)$", re.M)
 GROUP_LINE = re.compile(rb"^(?:met|unmet|ignored) (.+)$", re.M)
 LINE = re.compile(rb"[^\n]*\n")
+NUMBER = re.compile(rb"(?m)^(\w+ )(\d+)")
 MEMBER = re.compile(rb" (\d+) [^\n]*\n")
 STATUS = re.compile(rb"^status:(.*(?:\n[ \t].*)*)", re.M | re.I)
 KINDS = tuple(REQUIRED)
 # What a package is that isn't installable in every reading, and what any is.
 MAYBE = {b"uninstallable", b"unsure"}
 ANY = {b"", *MAYBE}
+# What it may be if more is asked of a set.
+LATER = {b"uninstallable": {b"uninstallable"}, b"unsure": MAYBE}
 
 
 class Answer(NamedTuple):
@@ -301,6 +305,30 @@ class Asked:
             yield f"installable: {shown(answer)}; of normal text {shown(again)}"
         yield from self.of_other_lines(self.case.text, arch, words_of(answer.out))
         yield from self.of_names(self.case.text, arch, paragraphs_of(normal.out), answer.out)
+        yield from self.of_options(arch, paragraphs_of(normal.out), answer)
+
+    def of_options(self, words, paragraphs, answer):
+        """With `--why` each line `uninstallable`, and no other one, has lines below it. With `--essential`
+        no more packages are installable. With `--without` the lines are those of the file without the
+        paragraphs of these names, but for the numbers."""
+        random, text = self.case.random, file_of(paragraphs)
+        heads, below = cut(self.installable(text, *words, "--why").out)
+        ruled_out = {at for at, word in words_of(answer.out).items() if word == b"uninstallable"}
+        if heads != answer.out or {at for at, lines in below.items() if lines} != ruled_out:
+            yield f"installable --why of {text!r}: {below!r} below {heads!r}, and not {answer.out!r}"
+        with_all = words_of(self.installable(text, *words, "--essential").out)
+        if any(with_all.get(at) not in LATER[word] for at, word in words_of(answer.out).items()):
+            yield f"installable --essential of {text!r}: {with_all!r}, and not {answer.out!r}"
+        all_names = [*map(name_of, paragraphs), b"zz"]
+        names = sorted({random.choice(all_names), random.choice(all_names)})
+        kept = [at for at, it in enumerate(paragraphs, 1) if name_of(it) not in names]
+        options = [*words, *random.choice(([], ["--essential"], ["--recommends"]))]
+        rest = self.installable(file_of([paragraphs[at - 1] for at in kept]), *options)
+        wanted = rest._replace(out=NUMBER.sub(lambda it: it[1] + b"%d" % kept[int(it[2]) - 1], rest.out))
+        left = self.installable(text, *options, "--without", b",".join(names))
+        if left != wanted:
+            told = f"installable {options} --without {names} of {text!r}"
+            yield f"{told}: {shown(left)}, and not {shown(wanted)}"
 
     def of_other_lines(self, text, words, found):
         """No package of a healthy set has a word of `installable`. One with a line `unmet` is
@@ -365,8 +393,8 @@ class Asked:
         if (healthy.status, healthy.out == b"") != (int(not is_healthy), is_healthy):
             yield f"healthy {made.words} of {made.text!r}: {shown(healthy)}, and not {is_healthy}"
         yield from self.of_other_lines(made.text, made.words, words_of(lines))
-        laws = self.of_order, self.of_budget, self.of_more, self.of_states, self.of_members
-        yield from random.choice(laws)(made, words)
+        laws = self.of_order, self.of_budget, self.of_more, self.of_states, self.of_members, self.of_terms
+        yield from random.choice((*laws, self.of_reasons))(made, words)
 
     def of_order(self, made, words):
         """In another spelling the lines are the same, in another order they come in that."""
@@ -422,6 +450,67 @@ class Asked:
             if later not in {b"": {b""}, b"unsure": {b"", b"unsure"}}.get(word, ANY):
                 yield f"installable of {there.text!r}: {found!r}; without package {at + 1} {words!r}"
 
+    def with_terms(self, made):
+        """The universe with the essential packages, without some, or both."""
+        random = self.case.random
+        names = {random.choice(made.packages).name, random.choice((*NAMES, b"zz"))}
+        without = tuple(sorted(names)) * random.choice((0, 1))
+        return replace(made, essential=not without or random.random() < 0.3, without=without)
+
+    def of_terms(self, made, _):
+        """With the essential packages, and without some, the lines are what trying each set says, and so is
+        whether there is a set. That has the essential packages, and none that is left out."""
+        there = self.with_terms(made)
+        options = [*there.words, *there.terms]
+        words, _ = there.solved()
+        lines = there.lines(words)
+        answer = self.installable(there.text, *options)
+        if answer != Answer(lines, b"", int(bool(lines))):
+            yield f"installable {options} of {there.text!r}: {shown(answer)}, and not {lines!r}"
+        name = self.case.random.choice(there.packages).name
+        answer = self.installable(there.text, *options, "--witness", name)
+        told = f"installable {options} --witness {name!r} of {there.text!r}: {shown(answer)}"
+        asked = [at for at, it in enumerate(there.packages) if name == it.name not in there.without]
+        able = [at + 1 for at in asked if not words[at]]
+        if not able:
+            if answer != Answer(of_some([name], lines), b"", 1):
+                yield f"{told}, and not {of_some([name], lines)!r}"
+            return
+        paragraphs = [it.paragraph().rstrip(b"\n") for it in there.packages]
+        yield from self.of_set(told, answer, there.words, paragraphs, able[:1])
+        members = {line.split(b" ")[2] for line in LINE.findall(answer.out)}
+        if not {*there.essential_names()} <= members or members & {*there.without}:
+            yield f"{told}, but {there.essential_names()} are essential"
+
+    def of_reasons(self, made, words):
+        """With `--why` the lines are the same, and each `uninstallable` one has lines below it that are true
+        and rule the package out, each of which is needed for that. With `--only` and, if there is no set,
+        with `--witness`, they are those of the packages with these names."""
+        there = self.case.random.choice((made, self.with_terms(made)))
+        options = [*there.words, *there.terms]
+        answer = self.installable(there.text, *options, "--why")
+        heads, below = cut(answer.out)
+        told = f"installable {options} --why of {there.text!r}: {shown(answer)}"
+        if answer._replace(out=heads) != self.installable(there.text, *options):
+            yield f"{told}; without --why other lines"
+        yield from self.of_lines_below(told, words_of(heads), below, lambda _: Explained(there))
+        name = self.case.random.choice(there.packages).name
+        wanted = b"".join(it[0] for it in HEAD.finditer(answer.out) if it[0].split(b" ")[2] == name)
+        only = self.installable(there.text, *options, "--why", "--only", name)
+        if only != Answer(wanted, b"", int(bool(wanted))):
+            yield f"{told}; with --only {name!r} {shown(only)}"
+        sought = self.installable(there.text, *options, "--witness", name, "--why")
+        if sought.status and sought != Answer(wanted, b"", 1):
+            yield f"{told}; with --witness {name!r} {shown(sought)}"
+
+    def of_lines_below(self, told, words, below, explained):
+        """Only `uninstallable` lines have lines below them, and these explain them. `explained` has what is
+        true, by the number of a line."""
+        for number, lines in below.items():
+            if words.get(number) != b"uninstallable":
+                yield f"{told}; {number} has {lines!r}"
+            yield from (f"{told}; {why}" for why in explained(number).wrong(number, lines))
+
     def of_states(self, made, words):
         """As installed packages of a status file they have the same lines, whatever others there are."""
         random, paragraphs = self.case.random, []
@@ -472,8 +561,25 @@ class Asked:
         if answer != Answer(lines, b"", int(bool(lines))):
             told = f"installable {made.words} of {index!r} and {made.text!r}"
             yield f"{told}: {shown(answer)}, and not {lines!r}"
-        law = random.choice((self.of_sources_in_order, self.of_sources_budget, self.of_sources_with_more))
-        yield from law(made, words)
+        laws = self.of_sources_in_order, self.of_sources_budget, self.of_sources_with_more
+        yield from random.choice((*laws, self.of_sources_by_terms))(made, words)
+
+    def of_sources_by_terms(self, made, _):
+        """With the essential packages, and without some, the lines are what trying each set says. With
+        `--why` each `uninstallable` one has lines below it that are true and rule the source package out."""
+        there = replace(made, universe=self.with_terms(made.universe)) if made.universe.packages else made
+        index, lines = there.universe.text, there.lines(there.solved())
+        told = f"installable {there.words} of {index!r} and {there.text!r}"
+        answer = self.buildable(index, there.text, *there.words)
+        if answer != Answer(lines, b"", int(bool(lines))):
+            yield f"{told}: {shown(answer)}, and not {lines!r}"
+        answer = self.buildable(index, there.text, "--why", *there.words)
+        heads, below = cut(answer.out)
+        if answer._replace(out=heads) != Answer(lines, b"", int(bool(lines))):
+            yield f"{told} with --why: {shown(answer)}, and not {lines!r}"
+        of_number = lambda at: Explained(there.universe, there.sources[at - 1], at)
+        told = f"{told} with --why: {shown(answer)}"
+        yield from self.of_lines_below(told, words_of(heads), below, of_number)
 
     def of_sources_in_order(self, made, words):
         """In another spelling the lines are the same, in another order they come in that."""

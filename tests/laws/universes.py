@@ -76,6 +76,10 @@ class Alternative(NamedTuple):
         return target not in names and any(name == b"any" or b"-" in name for name in names)
 
 
+# What each source package needs, though it doesn't say so.
+IMPLIED = Alternative(b"build-essential", b"native", None, None, b"")
+
+
 @dataclass
 class Package:
     """A package, with the groups of its relations by the names of the fields."""
@@ -86,6 +90,7 @@ class Package:
     multi_arch: bytes
     provides: List[Tuple[bytes, bytes]]
     relations: Dict[bytes, List[Tuple[Alternative, ...]]] = field(default_factory=dict)
+    essential: bytes = b""
 
     def paragraph(self, *more: bytes) -> bytes:
         """Its paragraph, with more lines."""
@@ -93,6 +98,8 @@ class Package:
         fields = [(b"Provides", b", ".join(provided))] if provided else []
         if self.multi_arch:
             fields.append((b"Multi-Arch", self.multi_arch))
+        if self.essential:
+            fields.append((b"Essential", self.essential))
         for name, groups in self.relations.items():
             fields.append((name, b", ".join(b" | ".join(it.text for it in group) for group in groups)))
         lines = [b"Package: " + self.name, b"Version: " + self.version]
@@ -178,12 +185,15 @@ def meets(version: bytes, bound: Optional[Tuple[bytes, bytes]]) -> bool:
 
 @dataclass
 class Universe:
-    """Packages, and the architecture, the fields and the profile that are asked."""
+    """Packages, and the architecture, the fields and the profile that are asked; and whether a set has to
+    contain the essential packages, and the names that it may not contain."""
 
     packages: List[Package]
     native: bytes
     recommends: bool
     nocheck: bool = False
+    essential: bool = False
+    without: Tuple[bytes, ...] = ()
 
     @property
     def text(self) -> bytes:
@@ -194,6 +204,12 @@ class Universe:
     def words(self) -> List[str]:
         """The options that ask for it."""
         return ["--arch", self.native.decode(), *["--recommends"] * self.recommends]
+
+    @property
+    def terms(self) -> List[str]:
+        """The options that `installable` alone has."""
+        names = b",".join(self.without).decode()
+        return [*["--essential"] * self.essential, *["--without", names] * bool(names)]
 
     @property
     def needed(self) -> Tuple[bytes, ...]:
@@ -267,20 +283,37 @@ class Universe:
         """The packages for which a test holds."""
         return sum(1 << at for at, it in enumerate(self.packages) if are(it))
 
+    def essential_names(self) -> List[bytes]:
+        """The names of which a set has to contain a package."""
+        return [
+            it.name for it in self.packages
+            if self.essential and it.essential == b"yes" and it.name not in self.without
+            and it.architecture in (b"all", self.native)
+        ]
+
     def found(self) -> Tuple[Set[int], Set[int]]:
-        """The sets that are healthy in every reading, and those that are in one."""
-        found = [{*self.healthy_sets(held)} for held in readings(self.open_lists())]
+        """The sets that are healthy in every reading, and those that are in one. They contain what is asked
+        for, and nothing that is left out."""
+        wanted = [self.those(lambda it, name=name: it.name == name) for name in self.essential_names()]
+        unwanted = self.those(lambda it: it.name in self.without)
+        found = [
+            {
+                them for them in self.healthy_sets(held)
+                if not them & unwanted and all(it & them for it in wanted)
+            }
+            for held in readings(self.open_lists())
+        ]
         return set.intersection(*found), set.union(*found)
 
     def solved(self) -> Tuple[List[bytes], bool]:
-        """The word of each package, which is empty if it can be installed, and whether all of them
-        are a healthy set."""
+        """The word of each package, which is empty if it can be installed or is left out, and whether all
+        of them are a healthy set."""
         in_every, in_one = self.found()
         words = [
-            b"" if any(them >> at & 1 for them in in_every)
+            b"" if it.name in self.without or any(them >> at & 1 for them in in_every)
             else b"unsure" if any(them >> at & 1 for them in in_one)
             else b"uninstallable"
-            for at in range(len(self.packages))
+            for at, it in enumerate(self.packages)
         ]
         return words, (1 << len(self.packages)) - 1 in in_every
 
@@ -318,14 +351,13 @@ class Sources:
         """The options that ask for them; the index comes next, and then their file."""
         profiles = ["--profiles", "nocheck"] * self.universe.nocheck
         arch = self.universe.native.decode()
-        return ["--arch", arch, *profiles, "--kind", "sources", "--index"]
+        return ["--arch", arch, *self.universe.terms, *profiles, "--kind", "sources", "--index"]
 
     def sets_with(self, source: Package, sets: Set[int], held) -> Set[int]:
         """Those of some sets that can build a source package, if these open lists hold the target. It
         has no name among packages."""
-        implied = Alternative(b"build-essential", b"native", None, None, b"")
         asked, native = self.universe, self.universe.native
-        needs = [asked.those(lambda it: it.fits(implied, native, native))]
+        needs = [asked.those(lambda it: it.fits(IMPLIED, native, native))]
         needs += asked.needs(-1, source, BUILT_WITH, held)
         excluded = asked.excluded(-1, replace(source, name=b""), BUILT_WITHOUT, held)
         return {them for them in sets if not excluded & them and all(mask & them for mask in needs)}
@@ -372,6 +404,7 @@ def package(random, names: List[bytes]) -> Package:
         provided,
     )
     made.relations = relations(random, names, COUNTS)
+    made.essential = random.choice((*[b""] * 12, b"yes", b"yes", b"no"))
     return made
 
 
