@@ -65,13 +65,14 @@ _debctl() {
         [healthy:options]='--arch --recommends --installed --help'
         [healthy:0]=files
         [healthy:--arch]='$(dpkg-architecture -L 2>/dev/null)'
-        [installable:options]='--arch --profiles --kind --index --recommends --installed --budget --only --witness --help'
+        [installable:options]='--arch --profiles --kind --index --recommends --essential --without --installed --budget --only --witness --why --help'
         [installable:0]=files
         [installable:--arch]='$(dpkg-architecture -L 2>/dev/null)'
         [installable:--profiles]=''
         [installable:-k]='packages source sources'
         [installable:--kind]='packages source sources'
         [installable:--index]=files
+        [installable:--without]=''
         [installable:--budget]=''
         [installable:--only]=''
         [installable:--witness]=''
@@ -86,7 +87,7 @@ _debctl() {
         fi
         case ${words[i]} in
             --) ended=yes ;;
-            -k | --kind | --least | --arch | --profiles | --index | --budget | --only | --witness) ((i++)) ;;
+            -k | --kind | --least | --arch | --profiles | --index | --without | --budget | --only | --witness) ((i++)) ;;
             # The value is in place of a word, as it is if it is a word of its own.
             --code=* | --relation=* | --version-text=* | --files0-from=* | --relation-from=*) ((given++)) ;;
         esac

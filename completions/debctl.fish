@@ -9,7 +9,7 @@ function __debctl_arguments
             case --
                 string join -- \n $words[2..]
                 return
-            case -k --kind --least --arch --profiles --index --budget --only --witness
+            case -k --kind --least --arch --profiles --index --without --budget --only --witness
                 set words $words[2..]
             case - '--code=*' '--relation=*' '--version-text=*' '--files0-from=*' '--relation-from=*'
                 printf '%s\n' $words[1]
@@ -115,10 +115,13 @@ complete -c debctl -n '__debctl_at installable' -l profiles -x -d 'The active bu
 complete -c debctl -n '__debctl_at installable' -s k -l kind -x -a 'packages source sources' -d 'The kind of PATH'
 complete -c debctl -n '__debctl_at installable' -l index -r -F -d 'The index with which source packages are built'
 complete -c debctl -n '__debctl_at installable' -l recommends -d 'Try the groups of Recommends too'
+complete -c debctl -n '__debctl_at installable' -l essential -d 'Accept only sets that contain the Essential packages'
+complete -c debctl -n '__debctl_at installable' -l without -x -d 'Leave out the packages with one of these names, as if they weren'"'"'t listed'
 complete -c debctl -n '__debctl_at installable' -l installed -d 'Read a status file such as /var/lib/dpkg/status'
 complete -c debctl -n '__debctl_at installable' -l budget -x -d 'Search at most N steps for each package'
 complete -c debctl -n '__debctl_at installable' -l only -x -d 'Print lines only for packages with one of these names'
 complete -c debctl -n '__debctl_at installable' -l witness -x -d 'Print a healthy set that contains a package with one of these names'
+complete -c debctl -n '__debctl_at installable' -l why -d 'Say below each uninstallable package why it is'
 complete -c debctl -n '__debctl_at installable' -s h -l help -d 'Print help'
 complete -c debctl -n '__debctl_at help 0' -a 'check explain audit normalise same diff compare canon-version version-key sort query unmet healthy installable help kinds'
 complete -c debctl -n '__debctl_at help' -s h -l help -d 'Print help'
