@@ -1,4 +1,4 @@
-//! Calls one function on files, and writes what it answers, as `tests/languages/driver.c` does.
+//! Answers one question after another, as `tests/languages/driver.c` does.
 //! What an answer has as values is printed again from them; where that isn't its text, a line says
 //! so.
 
@@ -12,9 +12,7 @@ use debctl::{
     Index, Kind, Members, ReadError, Reader, Refusal, Report, Search, SourceKind, Version,
 };
 use printed::Printed;
-use std::env::args_os;
-use std::fs::read;
-use std::io::{stdout, Read, Write};
+use std::io::{stdin, stdout, BufRead, Read, Write};
 use std::num::NonZeroU32;
 
 const KINDS: [Kind; 6] = [
@@ -340,17 +338,32 @@ fn answer(call: &str, number: usize, files: &[Vec<u8>]) -> Result<Vec<u8>, Error
     Ok(text.into_bytes())
 }
 
+/// The next line of a file, without its end; `None` at the end of the file.
+fn next_line(file: &mut impl BufRead) -> Option<String> {
+    let line = file.lines().next()?;
+    Some(line.expect("standard input can be read"))
+}
+
+/// A text after a line with its length.
+fn next_text(file: &mut impl BufRead) -> Vec<u8> {
+    let line = next_line(file).expect("a length");
+    let mut text = vec![0; line.parse().expect("a length")];
+    file.read_exact(&mut text).expect("a text");
+    text
+}
+
 fn main() {
-    let words: Vec<_> = args_os().skip(1).collect();
-    let call = words[0].to_str().expect("a function");
-    let number = words[1].to_str().and_then(|word| word.parse().ok());
-    let files: Vec<_> = words[2..]
-        .iter()
-        .map(|path| read(path).expect("a file"))
-        .collect();
-    let bytes = answer(call, number.expect("a number"), &files)
-        .unwrap_or_else(|error| told(&error).into_bytes());
-    stdout()
-        .write_all(&bytes)
-        .expect("standard output takes all");
+    let (mut questions, mut answers) = (stdin().lock(), stdout().lock());
+    while let Some(line) = next_line(&mut questions) {
+        let words: Vec<&str> = line.split(' ').collect();
+        let number = words[1].parse().expect("a number");
+        let count = words[2].parse().expect("a count");
+        let texts: Vec<_> = (0..count).map(|_| next_text(&mut questions)).collect();
+        let bytes = answer(words[0], number, &texts)
+            .unwrap_or_else(|error| told(&error).into_bytes());
+        let written = write!(answers, "{}\n", bytes.len())
+            .and_then(|()| answers.write_all(&bytes))
+            .and_then(|()| answers.flush());
+        written.expect("standard output takes all");
+    }
 }

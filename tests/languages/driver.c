@@ -1,9 +1,10 @@
-/* Calls one function on files, and writes what it answers: `STATUS CODE LINE COUNT`, or `STATUS
- * CODE ORDER` of a comparison, and in the lines below the text that is given, or `LINE CODE` of
- * each refusal. The words are the function and its arguments; each but a number is a file. A line
- * such as `rows differ` is added if the same answer isn't returned in another way: by the rows of
- * the text, by the parts of a version or relation put together again, by a loaded index, or by a
- * reader. */
+/* Answers one question after another, until standard input ends. A question is a line `FUNCTION
+ * NUMBER COUNT`, and so many texts, each after a line with its length. The answer is a text after its
+ * length too: `STATUS CODE LINE COUNT`, or `STATUS CODE ORDER` of a comparison, and in the lines
+ * below the text that is returned, or `LINE CODE` of each refusal. A line such as `rows differ` is
+ * added if the same answer isn't returned in another way: by the rows of the text, by the parts of a
+ * version or relation put together again, by a loaded index, or by a reader. */
+#define _POSIX_C_SOURCE 200809L
 #include "fed.h"
 #include "printed.h"
 
@@ -17,32 +18,27 @@ struct file {
 };
 
 /* What is asked: the number, three files or, of `witness` and `buildable`, four, and all further files
- * as profiles. The number is that of a kind, and with more that is asked: 8 times a detail or whether
+ * as profiles. `out` gathers the answer. The number is that of a kind, and with more that is asked: 8 times a detail or whether
  * Recommends is asked, 16 times whether essential packages are, 32 times whether reasons are, and 64
  * times a budget. The second file of `witness` is the name. The last file of a search is the names
  * that are left out, with commas between them; there are none if it is empty. */
 struct question {
-    const char *call;
+    char call[32];
     long long number;
     struct file files[FILES];
     struct deb_text *profiles, *without;
     size_t profile_count, without_count;
+    FILE *out;
 };
 
-static struct file read_file(const char *path) {
-    struct file it = {NULL, 0};
-    FILE *from = fopen(path, "rb");
-    size_t got;
-    if (!from)
+/* Reads a text, in memory that ends where it does, so that a sanitiser sees each byte read past it. */
+static struct file read_text(void) {
+    struct file it;
+    if (scanf("%zu", &it.length) != 1 || getchar() != '\n')
         exit(100);
-    do {
-        it.bytes = realloc(it.bytes, it.length + 65536);
-        if (!it.bytes)
-            exit(100);
-        got = fread(it.bytes + it.length, 1, 65536, from);
-        it.length += got;
-    } while (got > 0);
-    fclose(from);
+    it.bytes = malloc(it.length);
+    if ((!it.bytes && it.length > 0) || fread(it.bytes, 1, it.length, stdin) != it.length)
+        exit(100);
     return it;
 }
 
@@ -368,10 +364,10 @@ static void write_refusals(const struct question *q) {
         refusals = malloc(count * sizeof *refusals);
         answer = deb_check_all(kind, file->bytes, file->length, refusals, count, &count);
     }
-    printf("%d %d %llu %llu\n", answer.status, answer.code, (unsigned long long)answer.line,
+    fprintf(q->out, "%d %d %llu %llu\n", answer.status, answer.code, (unsigned long long)answer.line,
            (unsigned long long)answer.count);
     for (at = 0; at < count; at++)
-        printf("%llu %d\n", (unsigned long long)refusals[at].line, refusals[at].code);
+        fprintf(q->out, "%llu %d\n", (unsigned long long)refusals[at].line, refusals[at].code);
     free(refusals);
 }
 
@@ -385,52 +381,81 @@ static void write_answer(const struct question *q) {
         answer = search(q, out, length, &length);
         out[length] = '\0';
     }
-    printf("%d %d %llu %llu\n", answer.status, answer.code, (unsigned long long)answer.line,
+    fprintf(q->out, "%d %d %llu %llu\n", answer.status, answer.code, (unsigned long long)answer.line,
            (unsigned long long)answer.count);
     if (out)
-        fwrite(out, 1, length, stdout);
+        fwrite(out, 1, length, q->out);
     if (!rows_agree(q, answer, out, length))
-        printf("rows differ\n");
+        fprintf(q->out, "rows differ\n");
     if (!index_agrees(q, answer, out, length))
-        printf("index differs\n");
+        fprintf(q->out, "index differs\n");
     if (!reader_agrees(q))
-        printf("reader differs\n");
+        fprintf(q->out, "reader differs\n");
     free(out);
 }
 
-int main(int count, char **words) {
-    static struct question q;
-    int at, own;
-    q.call = count > 1 ? words[1] : "";
-    q.number = count > 2 ? atoll(words[2]) : 0;
-    own = own_files(&q);
-    q.profile_count = count > 3 + own ? (size_t)(count - 3 - own) : 0;
-    q.profiles = malloc((q.profile_count + 1) * sizeof *q.profiles);
-    for (at = 3; at < count; at++) {
-        struct file it = read_file(words[at]);
-        if (at < 3 + own)
-            q.files[at - 3] = it;
+/* Reads a question; whether there is one. */
+static int read_question(struct question *q) {
+    size_t count, at, own;
+    memset(q, 0, sizeof *q);
+    if (scanf("%31s %lld %zu", q->call, &q->number, &count) != 3)
+        return 0;
+    getchar();
+    own = (size_t)own_files(q);
+    q->profile_count = count > own ? count - own : 0;
+    q->profiles = malloc((q->profile_count + 1) * sizeof *q->profiles);
+    for (at = 0; at < count; at++) {
+        struct file it = read_text();
+        if (at < own)
+            q->files[at] = it;
         else
-            q.profiles[at - 3 - own] = (struct deb_text){it.bytes, it.length};
+            q->profiles[at - own] = (struct deb_text){it.bytes, it.length};
     }
-    if (calls(&q, "installable") || own == 4)
-        leave_out(&q);
-    if (calls(&q, "compare")) {
-        struct deb_comparison order = deb_version_compare(q.files[0].bytes, q.files[0].length,
-                                                          q.files[1].bytes, q.files[1].length);
-        printf("%d %d %d\n", order.status, order.code, order.order);
-    } else if (calls(&q, "check-all")) {
-        write_refusals(&q);
-    } else {
-        write_answer(&q);
-    }
-    if (!parts_agree(&q))
-        printf("parts differ\n");
+    if (calls(q, "installable") || own == 4)
+        leave_out(q);
+    return 1;
+}
+
+static void free_question(struct question *q) {
+    size_t at;
     for (at = 0; at < FILES; at++)
-        free(q.files[at].bytes);
-    for (at = 0; at < (int)q.profile_count; at++)
-        free((void *)q.profiles[at].bytes);
-    free(q.profiles);
-    free(q.without);
+        free(q->files[at].bytes);
+    for (at = 0; at < q->profile_count; at++)
+        free((void *)q->profiles[at].bytes);
+    free(q->profiles);
+    free(q->without);
+}
+
+static void write_question(const struct question *q) {
+    const struct file *first = &q->files[0], *second = &q->files[1];
+    if (calls(q, "compare")) {
+        struct deb_comparison order =
+            deb_version_compare(first->bytes, first->length, second->bytes, second->length);
+        fprintf(q->out, "%d %d %d\n", order.status, order.code, order.order);
+    } else if (calls(q, "check-all")) {
+        write_refusals(q);
+    } else {
+        write_answer(q);
+    }
+    if (!parts_agree(q))
+        fprintf(q->out, "parts differ\n");
+}
+
+int main(void) {
+    struct question q;
+    while (read_question(&q)) {
+        char *text;
+        size_t length;
+        q.out = open_memstream(&text, &length);
+        if (!q.out)
+            exit(100);
+        write_question(&q);
+        fclose(q.out);
+        printf("%zu\n", length);
+        fwrite(text, 1, length, stdout);
+        fflush(stdout);
+        free(text);
+        free_question(&q);
+    }
     return 0;
 }
