@@ -198,8 +198,9 @@ static void try_long_line(uint8_t kind, const char *front, char byte, size_t len
     free(text);
 }
 
-/* Each text with each length; kinds, bytes of the line and pieces in turn. */
-static void try_long_lines(void) {
+/* Each text with each length; kinds, bytes of the line and pieces in turn. `pairs` leaves out what
+ * has the rest of another one: each two of front, length and rest are still tried together. */
+static void try_long_lines(int pairs) {
     enum { LONGEST = 1 << 24, PIECE = 1 << 20 };
     static const char *fronts[] = {"", "a: 1\n", "a: 1\n\n", "x\n", "x\n\n"};
     static const char *rests[] = {"", "\n", "\n\nx\n"};
@@ -208,13 +209,16 @@ static void try_long_lines(void) {
     for (front = 0; front < sizeof fronts / sizeof *fronts; front++)
         for (more = 0; more < 4; more++)
             for (rest = 0; rest < sizeof rests / sizeof *rests; rest++, turn++)
-                try_long_line((uint8_t)(turn % 2 ? DEB_ANY : DEB_BINARY + turn / 2 % 4),
-                              fronts[front], "a #"[turn / 3 % 3],
-                              (more < 3 ? LONGEST - 1 : LONGEST + LONGEST / 4) + more, rests[rest],
-                              sizes[turn % 4]);
+                if (!pairs || rest == (front + more) % 3)
+                    try_long_line((uint8_t)(turn % 2 ? DEB_ANY : DEB_BINARY + turn / 2 % 4),
+                                  fronts[front], "a #"[turn / 3 % 3],
+                                  (more < 3 ? LONGEST - 1 : LONGEST + LONGEST / 4) + more,
+                                  rests[rest], sizes[turn % 4]);
 }
 
-int main(void) {
+/* With an argument, as under memcheck, it tries fewer long lines. */
+int main(int count, char **words) {
+    (void)words;
     try_pieces();
     try_steps();
     try_errors();
@@ -222,6 +226,6 @@ int main(void) {
     try_long();
     try_longest(0);
     try_longest(1);
-    try_long_lines();
+    try_long_lines(count > 1);
     return counted("reader");
 }
