@@ -359,8 +359,8 @@ fn main() {
         let number = words[1].parse().expect("a number");
         let count = words[2].parse().expect("a count");
         let texts: Vec<_> = (0..count).map(|_| next_text(&mut questions)).collect();
-        let bytes = answer(words[0], number, &texts)
-            .unwrap_or_else(|error| told(&error).into_bytes());
+        let bytes =
+            answer(words[0], number, &texts).unwrap_or_else(|error| told(&error).into_bytes());
         let written = write!(answers, "{}\n", bytes.len())
             .and_then(|()| answers.write_all(&bytes))
             .and_then(|()| answers.flush());

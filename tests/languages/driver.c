@@ -1,9 +1,9 @@
 /* Answers one question after another, until standard input ends. A question is a line `FUNCTION
- * NUMBER COUNT`, and so many texts, each after a line with its length. The answer is a text after its
- * length too: `STATUS CODE LINE COUNT`, or `STATUS CODE ORDER` of a comparison, and in the lines
+ * NUMBER COUNT`, and so many texts, each after a line with its length. The answer is a text after
+ * its length too: `STATUS CODE LINE COUNT`, or `STATUS CODE ORDER` of a comparison, and in the lines
  * below the text that is returned, or `LINE CODE` of each refusal. A line such as `rows differ` is
- * added if the same answer isn't returned in another way: by the rows of the text, by the parts of a
- * version or relation put together again, by a loaded index, or by a reader. */
+ * added if the same answer isn't returned in another way: by the rows of the text, by the parts of
+ * a version or relation put together again, by a loaded index, or by a reader. */
 #define _POSIX_C_SOURCE 200809L
 #include "fed.h"
 #include "printed.h"
@@ -353,6 +353,11 @@ static int reader_agrees(const struct question *q) {
            reads_alike((uint8_t)q->number, file->bytes, file->length, file->length / 100 + 1);
 }
 
+static void write_head(const struct question *q, struct deb_answer answer) {
+    fprintf(q->out, "%d %d %llu %llu\n", answer.status, answer.code,
+            (unsigned long long)answer.line, (unsigned long long)answer.count);
+}
+
 /* Writes all refusals of a file: `LINE CODE` of each. */
 static void write_refusals(const struct question *q) {
     const struct file *file = &q->files[0];
@@ -364,8 +369,7 @@ static void write_refusals(const struct question *q) {
         refusals = malloc(count * sizeof *refusals);
         answer = deb_check_all(kind, file->bytes, file->length, refusals, count, &count);
     }
-    fprintf(q->out, "%d %d %llu %llu\n", answer.status, answer.code, (unsigned long long)answer.line,
-           (unsigned long long)answer.count);
+    write_head(q, answer);
     for (at = 0; at < count; at++)
         fprintf(q->out, "%llu %d\n", (unsigned long long)refusals[at].line, refusals[at].code);
     free(refusals);
@@ -381,8 +385,7 @@ static void write_answer(const struct question *q) {
         answer = search(q, out, length, &length);
         out[length] = '\0';
     }
-    fprintf(q->out, "%d %d %llu %llu\n", answer.status, answer.code, (unsigned long long)answer.line,
-           (unsigned long long)answer.count);
+    write_head(q, answer);
     if (out)
         fwrite(out, 1, length, q->out);
     if (!rows_agree(q, answer, out, length))
