@@ -39,7 +39,7 @@ class Case:
     err: bytes = b""
     status: int = 0
     open_ended: tuple = ()
-    growths: Dict[str, int] = field(default_factory=dict)
+    records: Dict[str, Dict[str, int]] = field(default_factory=dict)
 
     @property
     def command(self):
@@ -82,10 +82,13 @@ class Case:
         texts = {name: getattr(answer, name) for name in self.open_ended}
         return replace(self, open_ended=(), **texts)
 
-    def with_growths(self, records):
-        """The case with the count of growths of its first runs, by how slow their devices were."""
-        growths = {pace: record.get("growths", 0) for pace, record in records.items()}
-        return replace(self, growths=growths)
+    def with_records(self, records):
+        """The case with the records of its first runs, by how slow their devices were."""
+        return replace(self, records=records)
+
+    def growths(self, pace):
+        """How many growths it has where devices are so slow."""
+        return self.records.get(pace, {}).get("growths", 0)
 
 
 @dataclass
@@ -273,9 +276,6 @@ def many_paragraphs():
         b" vv (>= 1): %d p%03d 1 all is provided without a version\n" % (at, at) for at in numbers
     )
     needs = b" 400 p400 2 all needs zz: none\n"
-    last_line = b" 400 p400 1 all is left out\n"
-    chained = b"".join(b" %d p%03d 1 all needs p%03d: %d\n" % (at, at, at + 1, at + 1) for at in numbers[:-1])
-    chained = b"uninstallable 1 p001 1 all\n" + chained + last_line
     explained = b"file: -\nline: 5\ncode: 15\nname: BadNumber\nfield: Size\nvalue: x\nrule: "
     arch = ["--arch", "amd64"]
     installed = [*arch, "--installed"]
@@ -293,7 +293,6 @@ def many_paragraphs():
         (["healthy", *installed, "status"], b"unmet 400 p400 1 all Depends zz\n", 1),
         (["installable", *arch, "new"], b"uninstallable 400 p400 2 all\n", 1),
         (["installable", *arch, "--why", "new"], b"uninstallable 400 p400 2 all\n" + needs, 1),
-        (["installable", *arch, "--why", "--only", "p001", "--without", "p400", "chain"], chained, 1),
         (["installable", *arch, "--witness", "p007", "chain"], met, 0),
         (["unmet", *installed, "status"], b"unmet 400 p400 1 all Depends zz\n", 1),
         (["query", *installed, "vv", "status"], b"met vv\n" + met, 0),

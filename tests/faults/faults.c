@@ -14,6 +14,11 @@
  *                   NAME=NUMBER, of all names in `write_record`
  *   FAULTS_STACK    the number of an open descriptor, to which the stack of the first growth that is
  *                   refused is written, from the address to which that call returns
+ *   FAULTS_RUNS     the number of a socket, on which runs are asked for in place of the first six:
+ *                   each `struct asked` is one run, of a process that is forked off before `main`;
+ *                   behind it the status with which `waitpid` ends is written there. A run begins with
+ *                   empty outputs, record and stack, at the start of its input, and a signal ends it
+ *                   after 10 seconds.
  *
  * growth: malloc, calloc, realloc, aligned_alloc, memalign and posix_memalign; their errno is
  * always ENOMEM. A realloc to a smaller size is none: a program may go on without it.
@@ -38,6 +43,7 @@
 #include <sys/stat.h>
 #include <sys/syscall.h>
 #include <sys/uio.h>
+#include <sys/wait.h>
 #include <unistd.h>
 
 /* The C library's own, behind the names that this library takes. */
@@ -52,14 +58,12 @@ static const char *const names[KINDS] = {"growth", "read", "write", "open", "sta
 /* What becomes of a call. */
 enum fate { PASSES, MOVES_FEW_BYTES, FAILS };
 
-/* What the environment asks for. */
-static int touched = KINDS;
-static int slow = KINDS;
-static long first = 1;
-static long last = LONG_MAX;
-static size_t few = 1;
-static int is_failing;
-static int error;
+enum { SECONDS = 10 };
+
+/* What is asked for, by the environment or for one of several runs. */
+static struct asked {
+    int64_t calls, slow, first, last, bytes, is_failing, error;
+} asked = {KINDS, KINDS, 1, LONG_MAX, 1, 0, 0};
 
 /* What is written down. */
 static int is_counting;
@@ -94,15 +98,55 @@ static long number_in(const char *variable, long without)
     return word == NULL ? without : strtol(word, NULL, 10);
 }
 
+/* Empties a file, or goes to the start of one that is read. */
+static void begin_again(int descriptor, int is_read)
+{
+    if (descriptor < 0)
+        return;
+    if (!is_read && ftruncate(descriptor, 0) < 0)
+        _exit(EXIT_FAILURE);
+    lseek(descriptor, 0, SEEK_SET);
+}
+
+/* Forks off a process for each run that is asked for on a socket, and tells there how it ended. Only
+ * these processes return. */
+static void serve_runs(int socket)
+{
+    pid_t child;
+    int status;
+
+    while (syscall(SYS_read, socket, &asked, sizeof asked) == sizeof asked) {
+        begin_again(STDIN_FILENO, 1);
+        begin_again(STDOUT_FILENO, 0);
+        begin_again(STDERR_FILENO, 0);
+        begin_again((int)number_in("FAULTS_RECORD", -1), 0);
+        begin_again((int)number_in("FAULTS_STACK", -1), 0);
+        child = fork();
+        if (child == 0) {
+            close(socket);
+            alarm(SECONDS);
+            return;
+        }
+        if (child < 0 || waitpid(child, &status, 0) != child)
+            break;
+        syscall(SYS_write, socket, &status, sizeof status);
+    }
+    _exit(EXIT_SUCCESS);
+}
+
 __attribute__((constructor)) static void begin(void)
 {
-    touched = kind_in("FAULTS_CALLS");
-    slow = kind_in("FAULTS_SLOW");
-    first = number_in("FAULTS_FIRST", 1);
-    last = number_in("FAULTS_LAST", LONG_MAX);
-    few = (size_t)number_in("FAULTS_BYTES", 1);
-    is_failing = getenv("FAULTS_ERROR") != NULL;
-    error = (int)number_in("FAULTS_ERROR", 0);
+    int socket = (int)number_in("FAULTS_RUNS", -1);
+
+    asked.calls = kind_in("FAULTS_CALLS");
+    asked.slow = kind_in("FAULTS_SLOW");
+    asked.first = number_in("FAULTS_FIRST", 1);
+    asked.last = number_in("FAULTS_LAST", LONG_MAX);
+    asked.bytes = number_in("FAULTS_BYTES", 1);
+    asked.is_failing = getenv("FAULTS_ERROR") != NULL;
+    asked.error = number_in("FAULTS_ERROR", 0);
+    if (socket >= 0)
+        serve_runs(socket);
     is_counting = 1;
 }
 
@@ -128,17 +172,17 @@ __attribute__((destructor)) static void write_record(void)
 /* Counts a call, and says what becomes of it. */
 static enum fate fate_of(int kind)
 {
-    enum fate usual = kind == slow ? MOVES_FEW_BYTES : PASSES;
+    enum fate usual = kind == asked.slow ? MOVES_FEW_BYTES : PASSES;
 
     if (!is_counting)
         return PASSES;
     calls[kind]++;
-    if (kind != touched || calls[kind] < first || calls[kind] > last)
+    if (kind != asked.calls || calls[kind] < asked.first || calls[kind] > asked.last)
         return usual;
     if (met == 0)
         opens_at_met = calls[OPEN];
     met++;
-    return is_failing ? FAILS : MOVES_FEW_BYTES;
+    return asked.is_failing ? FAILS : MOVES_FEW_BYTES;
 }
 
 /* Writes the stack above a frame of this library: of its caller, and of all those before it, up to
@@ -168,20 +212,20 @@ static int is_refused(const char *frame)
 static struct {
     void *at;
     size_t size;
-} asked[65536];
+} blocks[65536];
 
 static size_t place_of(void *at) { return ((uintptr_t)at >> 4) % 65536; }
 
 static void *noted(void *at, size_t size)
 {
-    asked[place_of(at)].at = at;
-    asked[place_of(at)].size = size;
+    blocks[place_of(at)].at = at;
+    blocks[place_of(at)].size = size;
     return at;
 }
 
 static int is_smaller(void *old, size_t size)
 {
-    return old != NULL && asked[place_of(old)].at == old && size < asked[place_of(old)].size;
+    return old != NULL && blocks[place_of(old)].at == old && size < blocks[place_of(old)].size;
 }
 
 void *malloc(size_t size)
@@ -242,13 +286,13 @@ static void ask(int descriptor)
 }
 
 /* Notes the answer of a call that was to move bytes. Without a byte a write has failed. */
-static ssize_t tell(int descriptor, int kind, size_t asked, ssize_t moved)
+static ssize_t tell(int descriptor, int kind, size_t wanted, ssize_t moved)
 {
     if (!is_known(descriptor))
         return moved;
-    if (moved < 0 || (moved == 0 && asked > 0 && kind == WRITE))
+    if (moved < 0 || (moved == 0 && wanted > 0 && kind == WRITE))
         has_failed[descriptor] = 1;
-    if (moved == 0 && asked > 0 && kind == READ)
+    if (moved == 0 && wanted > 0 && kind == READ)
         has_ended[descriptor] = 1;
     if (moved > 0 && kind == READ)
         bytes_read += moved;
@@ -259,9 +303,9 @@ static ssize_t tell(int descriptor, int kind, size_t asked, ssize_t moved)
 static ssize_t refuse(int descriptor)
 {
     met_on_stderr += descriptor == STDERR_FILENO;
-    if (error == 0)
+    if (asked.error == 0)
         return 0;
-    errno = error;
+    errno = (int)asked.error;
     return -1;
 }
 
@@ -269,6 +313,7 @@ static ssize_t refuse(int descriptor)
 static ssize_t move(int kind, long call, int descriptor, void *bytes, size_t size, off_t place)
 {
     enum fate fate = fate_of(kind);
+    size_t few = (size_t)asked.bytes;
     size_t moving = fate == MOVES_FEW_BYTES && size > few ? few : size;
     ssize_t moved;
 
@@ -283,6 +328,7 @@ static ssize_t move_pieces(int kind, long call, int descriptor, const struct iov
 {
     enum fate fate = fate_of(kind);
     struct iovec piece = {NULL, 0};
+    size_t few = (size_t)asked.bytes;
     size_t size = 0;
     ssize_t moved;
     int i;
@@ -339,7 +385,7 @@ static int open_at(int folder, const char *path, int flags, mode_t mode)
     int descriptor;
 
     if (fate_of(OPEN) == FAILS) {
-        errno = error;
+        errno = (int)asked.error;
         return -1;
     }
     descriptor = (int)syscall(SYS_openat, folder, path, flags, mode);
@@ -384,7 +430,7 @@ int statx(int folder, const char *restrict path, int flags, unsigned int mask,
           struct statx *restrict found)
 {
     if (fate_of(STAT) == FAILS) {
-        errno = error;
+        errno = (int)asked.error;
         return -1;
     }
     return (int)syscall(SYS_statx, folder, path, flags, mask, found);

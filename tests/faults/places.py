@@ -14,6 +14,8 @@ from collections import Counter, defaultdict
 
 TAKES = {"malloc", "realloc", "calloc", "aligned_alloc", "memalign", "posix_memalign"}
 OWN = re.compile(r"deb(ctl)?(_\w+)?::")
+# Stands for the address behind a call that isn't known.
+LOST = -1
 LEAVES = {"jmp", "ret", "ud2", "hlt"}
 INSTRUCTION = re.compile(
     r"^ *([0-9a-f]+):\t(?:(?:notrack|bnd|repz?) )?(\S+) *([^#\n]*)", re.M
@@ -93,9 +95,9 @@ class Places:
         found = re.findall(r"(?m)^([0-9a-f]+) [tTwW] (.*)$", output("nm", "-n", program))
         self.starts = [int(address, 16) for address, _ in found]
         self.names = [plain(name) for _, name in found]
+        self.entry = dict(zip(self.names, self.starts)).get("_start", 0)
         # By the address behind each: its function, what is called, and the bytes on the stack.
         self.calls = {}
-        self.refused, self.lost = Counter(), 0
         code = output("objdump", "-d", "--no-show-raw-insn", program) if found else ""
         for function in re.split(r"(?m)^[0-9a-f]+ <.*>:$", code)[1:]:
             self.read(INSTRUCTION.findall(function))
@@ -127,32 +129,32 @@ class Places:
             more = {it for it, called in calls.items() if called & taking} - taking
         return taking
 
-    def count(self, stack, entry):
-        """Counts a growth that was refused, by its stack and the address of the program's entry."""
+    def behind(self, stack, entry):
+        """The addresses behind the calls in which a growth was refused, by its stack and the address of
+        the program's entry, and LOST if they end before `main`."""
         if not self.calls:
-            return
+            return []
         words = struct.unpack(f"{len(stack) // 8}Q", stack[: len(stack) // 8 * 8])
-        base = entry - dict(zip(self.names, self.starts)).get("_start", 0)
-        at, behind = 0, None
+        base, at, found = entry - self.entry, 0, []
         while at < len(words) and words[at] - base in self.calls:
-            behind = words[at] - base
-            self.refused[behind] += 1
-            at += 1 + self.calls[behind][2] // 8
-        self.lost += behind is None or "main" not in self.calls[behind][0]
+            found.append(words[at] - base)
+            at += 1 + self.calls[found[-1]][2] // 8
+        is_lost = not found or "main" not in self.calls[found[-1]][0]
+        return [*found, LOST] if is_lost else found
 
-    def rows(self):
+    def rows(self, refused):
         """For each function with places: how many it has, how many of them were refused memory, and
-        how often."""
+        how often, by how often it was refused behind each address."""
         rows = defaultdict(lambda: [0, 0, 0])
         for behind, (function, called, _) in self.calls.items():
             if OWN.match(function) and called in self.taking:
-                row, times = rows[function], self.refused[behind]
+                row, times = rows[function], refused[behind]
                 rows[function] = [row[0] + 1, row[1] + (times > 0), row[2] + times]
         return rows
 
-    def wrong(self):
+    def wrong(self, refused):
         """What is wrong: functions that take memory and were never refused it, and lost stacks."""
-        without = {it for it, row in self.rows().items() if not row[1]} - READS_NO_RELATION
+        without = {it for it, row in self.rows(refused).items() if not row[1]} - READS_NO_RELATION
         wrong = [f"no run refuses memory to {it}" for it in sorted(without)]
-        lost = [f"{self.lost} stacks of refused growths end before main"]
-        return wrong + lost * bool(self.lost)
+        lost = [f"{refused[LOST]} stacks of refused growths end before main"]
+        return wrong + lost * bool(refused[LOST])

@@ -3,6 +3,9 @@ import errno
 import itertools
 import os
 import re
+import signal
+import socket
+import struct
 import subprocess
 from dataclasses import dataclass
 from typing import Dict, Optional, Tuple
@@ -11,6 +14,8 @@ from faults.cases import STAND_INS, Case
 
 SECONDS = 10
 FAULT_STATUS = 3
+# The calls that the library counts, in its order.
+KINDS = ["growth", "read", "write", "open", "stat"]
 FAULT_LINES = {
     "growth": b"fault: memory\n",
     "read": b"fault: read\n",
@@ -50,18 +55,13 @@ class Fault:
         words = {errno.EACCES: b"permission denied"}
         return words.get(self.error, b"os error %d" % self.error)
 
-    def environment(self, k):
-        """The variables that ask the library for it."""
-        asked = {"FAULTS_CALLS": self.calls, "FAULTS_FIRST": str(k)}
-        if not self.is_lasting:
-            asked["FAULTS_LAST"] = str(k)
-        if self.error is not None:
-            asked["FAULTS_ERROR"] = str(self.error)
-        if self.slow:
-            asked["FAULTS_SLOW"] = self.slow
-        if self.few != 1:
-            asked["FAULTS_BYTES"] = str(self.few)
-        return asked
+    def asked(self, k):
+        """What the library is asked for, as the bytes of its `struct asked`."""
+        kinds = [self.calls, self.slow]
+        calls, slow = (KINDS.index(it) if it else len(KINDS) for it in kinds)
+        last = 2**63 - 1 if self.is_lasting else k
+        is_failing = self.error is not None
+        return struct.pack("7q", calls, slow, k, last, self.few, is_failing, self.error or 0)
 
 
 # Those of which one run of a case is enough.
@@ -131,33 +131,56 @@ class Wanted:
     outs: Tuple[bytes, ...] = ()
 
 
-def run(program, library, case: Case, folder, fault: Fault, k=1):
-    """Runs a case in the folder that holds its files, with a fault at a call."""
-    record, stack = os.memfd_create("record"), os.memfd_create("stack")
-    stdin = os.open(folder / case.stdin if case.stdin else os.devnull, os.O_RDONLY)
-    asked = {"LD_PRELOAD": library, "FAULTS_RECORD": str(record), "FAULTS_STACK": str(stack)}
-    try:
-        ran = subprocess.run(
-            # The name of the program takes memory too: so the counts are the same wherever it lies.
-            ["debctl", *case.words],
-            executable=program,
-            stdin=stdin,
-            capture_output=True,
-            cwd=folder,
-            env={**asked, **fault.environment(k)},
-            pass_fds=[record, stack],
-            timeout=SECONDS,
-            check=False,
-        )
-        pairs = os.pread(record, 4096, 0).decode().split()
-        numbers = {name: int(number) for name, _, number in (it.partition("=") for it in pairs)}
-        refused = os.pread(stack, os.fstat(stack).st_size, 0)
-        return Answer(ran.stdout, ran.stderr, ran.returncode, numbers, refused)
-    except subprocess.TimeoutExpired as late:
-        return Answer(late.stdout or b"", late.stderr or b"", None, {})
-    finally:
-        for descriptor in (record, stack, stdin):
+class Runs:
+    """The runs of a case in the folder that contains its files: the program waits before `main`, and each
+    run is a process that is forked off there. A context, which ends the program."""
+
+    def __init__(self, program, library, case: Case, folder):
+        texts = ["out", "err", "record", "stack"]
+        self.out, self.err, self.record, self.stack = map(os.memfd_create, texts)
+        self.socket, theirs = socket.socketpair()
+        passed = [self.record, self.stack, theirs.fileno()]
+        names = ["FAULTS_RECORD", "FAULTS_STACK", "FAULTS_RUNS"]
+        with theirs, open(folder / case.stdin if case.stdin else os.devnull, "rb") as stdin:
+            self.process = subprocess.Popen(
+                # The name of the program takes memory too: so the counts are the same wherever it lies.
+                ["debctl", *case.words],
+                executable=program,
+                stdin=stdin,
+                stdout=self.out,
+                stderr=self.err,
+                cwd=folder,
+                env={"LD_PRELOAD": library, **dict(zip(names, map(str, passed)))},
+                pass_fds=passed,
+            )
+
+    def __enter__(self):
+        return self
+
+    def __exit__(self, *_):
+        self.socket.close()
+        self.process.wait()
+        for descriptor in (self.out, self.err, self.record, self.stack):
             os.close(descriptor)
+
+    def run(self, fault: Fault, k=1):
+        """Makes a run with a fault at a call."""
+        try:
+            self.socket.sendall(fault.asked(k))
+            status = os.waitstatus_to_exitcode(*struct.unpack("i", self.socket.recv(4)))
+        except (OSError, struct.error):
+            # It hasn't loaded the library, and was the one run itself.
+            status = self.process.wait()
+        pairs = read_all(self.record).decode().split()
+        numbers = {name: int(number) for name, _, number in (it.partition("=") for it in pairs)}
+        is_late = status == -signal.SIGALRM
+        texts = map(read_all, (self.out, self.err))
+        return Answer(*texts, None if is_late else status, numbers, read_all(self.stack))
+
+
+def read_all(descriptor):
+    """The bytes of a file in memory."""
+    return os.pread(descriptor, os.fstat(descriptor).st_size, 0)
 
 
 def run_on_streams(program, case: Case, folder, redirections):
@@ -221,7 +244,7 @@ def is_asked_for_less(case: Case, fault: Fault, answer: Answer):
     if fault.calls != "growth" or fault.is_lasting or not has_collect:
         return False
     growths = answer.record.get("growths", 0) - asks_for_hint(case, answer.status)
-    return growths > case.growths.get(fault.pace, 0) - asks_for_hint(case, case.status)
+    return growths > case.growths(fault.pace) - asks_for_hint(case, case.status)
 
 
 def is_gone_without(fault: Fault, record):
@@ -232,7 +255,7 @@ def is_gone_without(fault: Fault, record):
 def is_hint_left_out(case: Case, fault: Fault, k):
     """Whether the growth was the last one, with which the program looks for DEBCTL_HINTS. If it is
     refused, there is no hint."""
-    is_last = fault.calls == "growth" and k == case.growths.get(fault.pace)
+    is_last = fault.calls == "growth" and k == case.growths(fault.pace)
     return is_last and asks_for_hint(case, case.status)
 
 
