@@ -63,7 +63,7 @@ enum { SECONDS = 10 };
 /* What is asked for, by the environment or for one of several runs. */
 static struct asked {
     int64_t calls, slow, first, last, bytes, is_failing, error;
-} asked = {KINDS, KINDS, 1, LONG_MAX, 1, 0, 0};
+} asked;
 
 /* What is written down. */
 static int is_counting;
