@@ -18,10 +18,10 @@ struct file {
 };
 
 /* What is asked: the number, three files or, of `witness` and `buildable`, four, and all further files
- * as profiles. `out` gathers the answer. The number is that of a kind, and with more that is asked: 8 times a detail or whether
- * Recommends is asked, 16 times whether essential packages are, 32 times whether reasons are, and 64
- * times a budget. The second file of `witness` is the name. The last file of a search is the names
- * that are left out, with commas between them; there are none if it is empty. */
+ * as profiles; `out` gathers the answer. The number is that of a kind, and with more that is asked: 8
+ * times a detail or whether Recommends is asked, 16 times whether essential packages are, 32 times
+ * whether reasons are, and 64 times a budget. The second file of `witness` is the name. The last file of
+ * a search is the names that are left out, with commas between them; there are none if it is empty. */
 struct question {
     char call[32];
     long long number;
