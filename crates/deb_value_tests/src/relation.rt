@@ -1,10 +1,10 @@
-//! Tests of relations: the first step that fails and its offset, the parts of a relation, canonical
-//! text of short and long ones; and environments.
+//! Tests of relations: the first step that fails and its offset, and canonical text of short and
+//! long ones; and a long environment.
 
-use deb_relation::{Alternative, Env, EnvFault, Group, Op, Reason, Relation, RelationFault};
+use crate::appended::is_appended;
+use deb_relation::{Env, Group, Reason, Relation, RelationFault};
 use deb_version::BadVersion;
-use std::alloc::Global;
-use std::process::Abort;
+use std::alloc::{AllocError, Global};
 use std::test::Fail;
 
 /// A text, and the reason and the offset of the step that fails.
@@ -147,10 +147,13 @@ fn prefixes_of_a_relation(rt: HostRuntime) {
 /// Whether a relation has this canonical text, after what is there; None where a call fails.
 fn has_text(alloc: Global, text: &[u8], canonical: &[u8]) -> Option<bool> {
     let relation = Relation::parse(alloc, text).ok()?;
+    is_text_of(alloc, &relation, canonical)
+}
+
+fn is_text_of(alloc: Global, relation: &Relation<'_>, canonical: &[u8]) -> Option<bool> {
     let mut out = vec![in alloc; b'='; 2_000].ok()?;
     relation.canon_into(&mut out).ok()?;
-    let has_len = relation.canon_len() == canonical.len() as u64;
-    Some(has_len && out.get(2_000..) == Some(canonical))
+    Some(is_appended(&out, canonical, relation.canon_len()))
 }
 
 #[test]
@@ -160,191 +163,141 @@ fn canonical_text(rt: HostRuntime) {
     assert!(rt; has_text(rt.alloc(), b" , ,", b"") == Some(true));
 }
 
-/// The same of a group.
+/// The same of the groups of a relation.
+fn groups_have_texts(alloc: Global, text: &[u8], canonical: [&[u8]; 2]) -> Option<bool> {
+    let relation = Relation::parse(alloc, text).ok()?;
+    match relation.groups() {
+        [first, second] => are_texts_of(alloc, first, second, canonical),
+        _ => None,
+    }
+}
+
+fn are_texts_of(
+    alloc: Global,
+    first: &Group<'_>,
+    second: &Group<'_>,
+    canonical: [&[u8]; 2],
+) -> Option<bool> {
+    let is_first = group_has_text(alloc, first, canonical[0])?;
+    let is_second = group_has_text(alloc, second, canonical[1])?;
+    Some(is_first && is_second)
+}
+
 fn group_has_text(alloc: Global, group: &Group<'_>, canonical: &[u8]) -> Option<bool> {
     let mut out = vec![in alloc; b'='; 2_000].ok()?;
     group.canon_into(&mut out).ok()?;
-    let has_len = group.canon_len() == canonical.len() as u64;
-    Some(has_len && out.get(2_000..) == Some(canonical))
+    Some(is_appended(&out, canonical, group.canon_len()))
 }
 
 #[test]
-fn groups_in_the_order_of_their_texts(rt: HostRuntime) -> Result<(), Fail> {
-    let relation = Relation::parse(rt.alloc(), LONGEST)?;
-    let [first, second] = relation.groups() else {
-        return Err(Fail::from("not two groups"));
-    };
-    assert!(rt; group_has_text(rt.alloc(), first, b"bb (>= 1.0) | aa") == Some(true));
-    assert!(rt; group_has_text(rt.alloc(), second, b"cc [amd64 i386] <!x y> <z>") == Some(true));
-    Ok(())
-}
-
-#[test]
-fn parts_of_alternatives(rt: HostRuntime) -> Result<(), Fail> {
-    let relation = Relation::parse(rt.alloc(), b"aa:any(>=1.)[!i386 !amd64]<y !x><z> | bb")?;
-    let [group] = relation.groups() else {
-        return Err(Fail::from("not one group"));
-    };
-    let [a, b] = group.alternatives() else {
-        return Err(Fail::from("not two alternatives"));
-    };
-    assert_parts(&rt, a);
-    assert_plain(&rt, b);
-    Ok(())
-}
-
-/// The alternative is `aa:any (>= 1.0) [!amd64 !i386] <!x y> <z>`.
-fn assert_parts(rt: &impl Abort, alternative: &Alternative<'_>) {
-    assert!(rt; alternative.name() == b"aa".as_slice());
-    assert!(rt; alternative.qualifier() == Some(b"any".as_slice()));
-    let bound = alternative.bound();
-    assert!(rt; matches!(bound, Some((Op::LaterEqual, version)) if version.canon_len() == 3));
-    let architectures = alternative.architectures();
-    assert!(rt; matches!(architectures, Some((true, [b"amd64", b"i386"]))));
-    let formula = alternative.formula();
-    assert!(rt; formula.len() == 2);
-    let first = formula.first().and_then(|list| list.first().copied());
-    assert!(rt; first == Some((true, b"x".as_slice())));
-}
-
-/// The alternative is `bb`.
-fn assert_plain(rt: &impl Abort, alternative: &Alternative<'_>) {
-    assert!(rt; alternative.name() == b"bb".as_slice());
-    assert!(rt; alternative.qualifier().is_none());
-    assert!(rt; alternative.bound().is_none());
-    assert!(rt; alternative.architectures().is_none());
-    assert!(rt; alternative.formula().is_empty());
-}
-
-/// A text, and whether some group has two alternatives, whether there is a wildcard, and whether
-/// each bound is `=`.
-struct Asked(&'static str, bool, bool, bool);
-
-const ASKED: [Asked; 5] = [
-    Asked("", false, false, true),
-    Asked("aa [linux-any]", false, true, true),
-    Asked("bb, cc [amd64] | aa [!any-i386]", true, true, true),
-    Asked("aa:any (= 1), bb [all]", false, false, true),
-    Asked("aa (= 1) | bb (<< 1), cc", true, false, false),
-];
-
-#[test]
-fn tests_of_relations(rt: HostRuntime) -> Result<(), Fail> {
-    for Asked(text, alternatives, wildcard, equals) in &ASKED {
-        let relation = Relation::parse(rt.alloc(), text.as_bytes())?;
-        assert!(rt; relation.has_alternatives() == *alternatives, "{text}");
-        assert!(rt; relation.has_wildcard() == *wildcard, "{text}");
-        assert!(rt; relation.only_equals() == *equals, "{text}");
-    }
-    Ok(())
+fn groups_in_the_order_of_their_texts(rt: HostRuntime) {
+    let texts: [&[u8]; 2] = [b"bb (>= 1.0) | aa", b"cc [amd64 i386] <!x y> <z>"];
+    assert!(rt; groups_have_texts(rt.alloc(), LONGEST, texts) == Some(true));
 }
 
 /// All 17,576 names of three letters, each at the index of its distance from this number.
 fn names(alloc: Global, from: u32, between: &[u8]) -> Option<Vec<u8>> {
     let mut text = Vec::new(alloc);
     for n in 0..17_576u32 {
-        if n > 0 {
-            text.extend_from_slice(between).ok()?;
-        }
-        let n = from.abs_diff(n);
-        for letter in [n / 676 % 26, n / 26 % 26, n % 26] {
-            text.push(b'a'.wrapping_add(letter as u8)).ok()?;
-        }
+        let front: &[u8] = if n > 0 { between } else { b"" };
+        append_name(&mut text, front, from.abs_diff(n)).ok()?;
     }
     Some(text)
 }
 
+fn append_name(text: &mut Vec<u8>, front: &[u8], n: u32) -> Result<(), AllocError> {
+    text.extend_from_slice(front)?;
+    text.extend_from_slice(&[letter(n / 676), letter(n / 26), letter(n)])
+}
+
+fn letter(n: u32) -> u8 {
+    b'a'.wrapping_add((n % 26) as u8)
+}
+
 /// Each group is twice, in descending order and then in ascending order.
 #[test]
-fn many_groups(rt: HostRuntime) -> Result<(), Fail> {
-    let canonical = names(rt.alloc(), 0, b", ").ok_or("memory")?;
-    let mut text = names(rt.alloc(), 17_575, b",").ok_or("memory")?;
-    text.push(b',')?;
-    text.extend_from_slice(&canonical)?;
-    assert!(rt; has_text(rt.alloc(), &text, &canonical) == Some(true));
-    Ok(())
+fn many_groups(rt: HostRuntime) {
+    assert!(rt; are_many_groups(rt.alloc()) == Some(true));
+}
+
+fn are_many_groups(alloc: Global) -> Option<bool> {
+    let canonical = names(alloc, 0, b", ")?;
+    let text = twice(alloc, &canonical)?;
+    has_text(alloc, &text, &canonical)
+}
+
+/// The names in descending order, and then a text.
+fn twice(alloc: Global, ascending: &[u8]) -> Option<Vec<u8>> {
+    let mut text = names(alloc, 17_575, b",")?;
+    append_after(&mut text, b",", ascending).ok()?;
+    Some(text)
+}
+
+fn append_after(text: &mut Vec<u8>, front: &[u8], end: &[u8]) -> Result<(), AllocError> {
+    text.extend_from_slice(front)?;
+    text.extend_from_slice(end)
 }
 
 #[test]
-fn many_alternatives(rt: HostRuntime) -> Result<(), Fail> {
-    let text = names(rt.alloc(), 17_575, b" | ").ok_or("memory")?;
-    assert!(rt; has_text(rt.alloc(), &text, &text) == Some(true));
-    Ok(())
+fn many_alternatives(rt: HostRuntime) {
+    assert!(rt; are_many_alternatives(rt.alloc()) == Some(true));
+}
+
+fn are_many_alternatives(alloc: Global) -> Option<bool> {
+    let text = names(alloc, 17_575, b" | ")?;
+    has_text(alloc, &text, &text)
+}
+
+/// Appends what opens a list, all names and what ends it.
+fn append_list(
+    text: &mut Vec<u8>,
+    alloc: Global,
+    front: &[u8],
+    between: &[u8],
+    end: &[u8],
+) -> Option<()> {
+    let names = names(alloc, 0, between)?;
+    text.extend_from_slice(front).ok()?;
+    append_after(text, &names, end).ok()
 }
 
 /// A list of all names as architectures, one of all as profiles, and as many of one profile.
 fn long_lists(alloc: Global) -> Option<Vec<u8>> {
     let mut text = Vec::new(alloc);
-    text.extend_from_slice(b"aa [").ok()?;
-    text.extend_from_slice(&names(alloc, 0, b" ")?).ok()?;
-    text.extend_from_slice(b"] <").ok()?;
-    text.extend_from_slice(&names(alloc, 0, b" ")?).ok()?;
-    text.extend_from_slice(b"> <").ok()?;
-    text.extend_from_slice(&names(alloc, 0, b"> <")?).ok()?;
-    text.push(b'>').ok()?;
+    append_list(&mut text, alloc, b"aa [", b" ", b"]")?;
+    append_list(&mut text, alloc, b" <", b" ", b"> <")?;
+    append_list(&mut text, alloc, b"", b"> <", b">")?;
     Some(text)
 }
 
 #[test]
-fn an_alternative_of_long_lists(rt: HostRuntime) -> Result<(), Fail> {
-    let text = long_lists(rt.alloc()).ok_or("memory")?;
-    assert!(rt; has_text(rt.alloc(), &text, &text) == Some(true));
-    Ok(())
+fn an_alternative_of_long_lists(rt: HostRuntime) {
+    assert!(rt; are_long_lists(rt.alloc()) == Some(true));
 }
 
-/// A relation whose one alternative applies for amd64 with the profile nocheck, or doesn't.
-const APPLY: [(&str, bool); 4] = [
-    ("bb [i386 amd64] <nocheck !nodoc>", true),
-    ("cc <!nocheck> <nocheck>", true),
-    ("bb [!amd64]", false),
-    ("bb [amd64] <!nocheck>", false),
-];
-
-/// Whether the first alternative applies.
-fn first_applies(alloc: Global, text: &str, environment: &Env) -> Option<bool> {
-    let relation = Relation::parse(alloc, text.as_bytes()).ok()?;
-    let alternative = relation.groups().first()?.alternatives().first()?;
-    Some(alternative.applies(environment))
-}
-
-#[test]
-fn alternatives_that_apply(rt: HostRuntime) -> Result<(), Fail> {
-    let environment = Env::new(rt.alloc(), b"amd64", &[b"nocheck"])?;
-    for (text, wanted) in APPLY {
-        assert!(rt;
-            first_applies(rt.alloc(), text, &environment) == Some(wanted),
-            "{text}"
-        );
-    }
-    Ok(())
-}
-
-#[test]
-fn parts_of_an_environment(rt: HostRuntime) -> Result<(), Fail> {
-    assert!(rt; Env::new(rt.alloc(), b"amd64", &[]).is_ok());
-    let environment = Env::new(rt.alloc(), b"amd64", &[b"nocheck"])?;
-    assert!(rt; environment.target() == b"amd64".as_slice());
-    assert!(rt; environment.active(b"nocheck") && !environment.active(b"nodoc"));
-    Ok(())
+fn are_long_lists(alloc: Global) -> Option<bool> {
+    let text = long_lists(alloc)?;
+    has_text(alloc, &text, &text)
 }
 
 /// A target of ten thousand bytes, and a thousand profiles.
 #[test]
 fn a_long_environment(rt: HostRuntime) -> Result<(), Fail> {
     let name = vec![in rt.alloc(); b'a'; 10_000]?;
-    let mut profiles = [b"nodoc".as_slice(); 1_000];
-    profiles[999] = &name;
-    let environment = Env::new(rt.alloc(), &name, &profiles)?;
-    assert!(rt; environment.target() == name.as_slice());
-    assert!(rt; environment.active(b"nodoc") && environment.active(&name));
+    assert!(rt; is_long(rt.alloc(), &name));
     Ok(())
 }
 
-#[test]
-fn no_environments(rt: HostRuntime) {
-    let bad = Some(EnvFault::BadEnvironment);
-    assert!(rt; Env::new(rt.alloc(), b"any", &[]).err() == bad);
-    assert!(rt; Env::new(rt.alloc(), b"amd64", &[b"nocheck", b"+x"]).err() == bad);
+/// Whether an environment has this name as its target, and as its last profile of a thousand.
+fn is_long(alloc: Global, name: &[u8]) -> bool {
+    let mut profiles = [b"nodoc".as_slice(); 1_000];
+    profiles[999] = name;
+    match Env::new(alloc, name, &profiles) {
+        Ok(environment) => {
+            environment.target() == name && environment.active(b"nodoc") && environment.active(name)
+        }
+        Err(_) => false,
+    }
 }
 
 /// Appends the canonical text twice to a list without room. Whether the list has after each call
@@ -372,10 +325,17 @@ fn text_of(first: bool, second: bool) -> &'static [u8] {
 #[test]
 fn want_of_memory_leaves_what_stands_before_a_relation(rt: HostRuntime) -> Result<(), Fail> {
     let relation = Relation::parse(rt.alloc(), b"bb|aa")?;
-    for _ in 0..150 {
-        assert!(rt; has_all_or_none(rt.alloc(), &relation));
-    }
+    assert!(rt; have_all_or_none(rt.alloc(), &relation));
     Ok(())
+}
+
+fn have_all_or_none(alloc: Global, relation: &Relation<'_>) -> bool {
+    for _ in 0..150 {
+        if !has_all_or_none(alloc, relation) {
+            return false;
+        }
+    }
+    true
 }
 
 /// The same of a group.
@@ -392,9 +352,18 @@ fn group_has_all_or_none(alloc: Global, group: &Group<'_>) -> bool {
 #[test]
 fn want_of_memory_leaves_what_stands_before_a_group(rt: HostRuntime) -> Result<(), Fail> {
     let relation = Relation::parse(rt.alloc(), b"bb|aa")?;
-    let group = relation.groups().first().ok_or("no group")?;
-    for _ in 0..150 {
-        assert!(rt; group_has_all_or_none(rt.alloc(), group));
-    }
+    assert!(rt; groups_have_all_or_none(rt.alloc(), relation.groups()));
     Ok(())
+}
+
+fn groups_have_all_or_none(alloc: Global, groups: &[Group<'_>]) -> bool {
+    let [group] = groups else {
+        return false;
+    };
+    for _ in 0..150 {
+        if !group_has_all_or_none(alloc, group) {
+            return false;
+        }
+    }
+    true
 }
