@@ -24,6 +24,7 @@ pub mod Listing
 pub mod Keeping
 pub mod Installed
 pub mod Members
+pub mod Files
 pub mod Indexes
 pub mod AnswerStores
 pub mod Reported

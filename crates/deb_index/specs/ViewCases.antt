@@ -17,7 +17,7 @@ use Rattle.deb_field.specs.declared.flag.MultiArch.TheVariants.{Foreign}
 use Rattle.deb_index.specs.AnswerStores.{answers_in, numbered, span_of}
 use Rattle.deb_index.specs.Crowds.{comes_first, passes}
 use Rattle.deb_index.specs.Entries.{IsFaultless, Places, entry_name}
-use Rattle.deb_index.specs.Indexes.{lines_of, packages_of, spellings_of, number_in}
+use Rattle.deb_index.specs.Indexes.{counts_of, lines_of, number_in, packages_of, spellings_of}
 use Rattle.deb_index.specs.Kept.{line_of, listed_of, spelling_of}
 use Rattle.deb_index.specs.Listed.{Listed, Provision}
 use Rattle.deb_index.specs.Named.{AreNumbers}
@@ -68,6 +68,7 @@ two_packages =
           ∷ record { start = 25; name_end = 27; version = 31; end = 32; number = 2 } ∷ [])
           refl;
       records = vector (record_of 0 6 0 2 1 ∷ record_of 18 25 2 3 7 ∷ []) refl;
+      files = vector (1 ∷ 1 ∷ []) refl;
     }
 
 -- the own versions of aa and bb, vv in version 3, ww, vv in version 4, and what is no offer
@@ -264,16 +265,23 @@ bb = record {
   provisions = record { name = codes "vv"; version = Some (version_in (codes "4")) } ∷ [];
 }
 
--- the packages, their lines and spelled versions, and the packages of two offers
+-- the packages, their lines and spelled versions, how many each file has, and the packages of two
+-- offers
 worked-packages : (index : Index) → index.store ≡ two_packages
-    → ◌≡◌ {A = List Listed × List ℕ × List (List ℕ) × List ℕ}
-    (packages_of index, lines_of index, spellings_of index, map (number_in index) (0 ∷ 4 ∷ []))
-    (aa ∷ bb ∷ [], 1 ∷ 7 ∷ [], codes "1" ∷ codes "2" ∷ [], 1 ∷ 2 ∷ [])
+    → ◌≡◌ {A = List Listed × List ℕ × List (List ℕ) × List ℕ × List ℕ}
+    (
+      packages_of index,
+      lines_of index,
+      spellings_of index,
+      counts_of index,
+      map (number_in index) (0 ∷ 4 ∷ []),
+    ) (aa ∷ bb ∷ [], 1 ∷ 7 ∷ [], codes "1" ∷ codes "2" ∷ [], 1 ∷ 1 ∷ [], 1 ∷ 2 ∷ [])
 worked-packages index =
     ap (λ store. (
       listed_in store,
       lines_in store,
       spellings_in store,
+      store.files.items,
       map (number_of store) (0 ∷ 4 ∷ []),
     ))
 

@@ -1,0 +1,50 @@
+-- An index of several files: what a further file adds to it, how many packages each file has, and
+-- the file of a package. The rules are this project's own.
+use Rattle.std.specs.Prelude.{◌≡◌, ℕ, ◌+◌, ◌-◌, nat_eq, nat_le, if◌then◌else◌, length, List, [], ◌∷◌, ◌++◌, map, Option, None, Some, refl}
+use Rattle.deb_index.specs.Listed.{Listed}
+use Rattle.deb_index.specs.Members.{ListsMembers, member_lines, member_spellings}
+use Rattle.deb_index.specs.Stores.{lines_in, listed_in, spellings_in}
+use Rattle.deb_index.specs.declared.members.Members.{Members}
+use Rattle.deb_index.specs.declared.store.Store.{Store}
+
+-- The file is accepted, and all packages are those before followed by those that it lists, in its
+-- order.
+pub record ListsAfter (members : Members) (text : List ℕ) (before all : List Listed) : Type 0 where
+  pub packages : List Listed
+  pub lists : ListsMembers members text packages
+  pub follow : all ≡ before ++ packages
+
+-- A store has after its own packages those that the file lists, with their lines and the texts of
+-- their versions.
+pub record StoresFile (members : Members) (text : List ℕ) (old new : Store) : Type 0 where
+  pub listed : ListsAfter members text (listed_in old) (listed_in new)
+  pub lines : lines_in new ≡ lines_in old ++ member_lines members text
+  pub spellings : spellings_in new ≡ spellings_in old ++ member_spellings members text
+
+-- Where files have so many packages, the file that has the package with a number, from 1: its place
+-- among them, where the first has this one; none if they have fewer packages.
+abbrev pub file_from : ℕ → List ℕ → ℕ → Option ℕ
+file_from place [] number = None
+file_from place (count ∷ counts) number =
+    if nat_le number count
+    then Some place
+    else file_from (place + 1) counts (number - count)
+
+-- the place, from 1
+abbrev pub file_of : List ℕ → ℕ → Option ℕ
+file_of counts number = if nat_eq number 0 then None else file_from 1 counts number
+
+-- two packages, none, three, and none: the first and the last of each file, and none
+worked-files : map (file_of (2 ∷ 0 ∷ 3 ∷ 0 ∷ [])) (0 ∷ 1 ∷ 2 ∷ 3 ∷ 5 ∷ 6 ∷ [])
+    ≡ None ∷ Some 1 ∷ Some 1 ∷ Some 3 ∷ Some 3 ∷ None ∷ []
+worked-files = refl
+
+-- an empty file first, a file of one package, and no file
+worked-first : map (file_of (0 ∷ 1 ∷ [])) (0 ∷ 1 ∷ 2 ∷ []) ≡ None ∷ Some 2 ∷ None ∷ []
+worked-first = refl
+
+worked-one : map (file_of (2 ∷ [])) (0 ∷ 1 ∷ 2 ∷ 3 ∷ []) ≡ None ∷ Some 1 ∷ Some 1 ∷ None ∷ []
+worked-one = refl
+
+worked-no-file : map (file_of []) (0 ∷ 1 ∷ []) ≡ None ∷ None ∷ []
+worked-no-file = refl
