@@ -135,7 +135,7 @@ impl Index {
         ensures fault_iff_read_failed { ReadFaultIffFailed (R.failures reader.old)
             (R.failures reader.new) result }
     {
-        append_file(alloc, Store::new(alloc), reader, members, keeper)
+        Index::append_file(alloc, Store::new(alloc), reader, members, keeper)
     }
 
     /// Reads one more file as an index of packages, whose packages follow those of the index:
@@ -146,13 +146,13 @@ impl Index {
     /// Those of [`Index::read`] for this file.
     pub fn read_more<R: Source>(self, alloc: Global, reader: &mut R) -> Result<Index, Fault>
         ensures ok { (text : List ℕ) → R.left reader.old ≡ Some text → IfOk result
-            (λ index. ListsAfter Members.All text (packages_of self.entry) (packages_of index)) }
+            (λ index. ListsAfter Members.All text (packages_of self) (packages_of index)) }
         ensures lines { (text : List ℕ) → R.left reader.old ≡ Some text
-            → IfOk result (λ index. lines_of index ≡ lines_of self.entry ++ first_lines text) }
+            → IfOk result (λ index. lines_of index ≡ lines_of self ++ first_lines text) }
         ensures spellings { (text : List ℕ) → R.left reader.old ≡ Some text → IfOk result
-            (λ index. spellings_of index ≡ spellings_of self.entry ++ version_spellings text) }
-        ensures counts { IfOk result (λ index. counts_of index ≡ counts_of self.entry
-            ++ (length (packages_of index) - length (packages_of self.entry)) ∷ []) }
+            (λ index. spellings_of index ≡ spellings_of self ++ version_spellings text) }
+        ensures counts { IfOk result (λ index. counts_of index ≡ counts_of self
+            ++ (length (packages_of index) - length (packages_of self)) ∷ []) }
         ensures refused { (text : List ℕ) → R.left reader.old ≡ Some text
             → IfRefused result (λ refusal. refusal_of Doc.Packages text ≡ Some refusal) }
         ensures reads_at_most { (text : List ℕ) → R.left reader.old ≡ Some text
@@ -183,14 +183,14 @@ impl Index {
         keeper: &mut K,
     ) -> Result<Index, Fault>
         ensures ok { (text : List ℕ) → R.left reader.old ≡ Some text → IfOk result
-            (λ index. ListsAfter members text (packages_of self.entry) (packages_of index)) }
+            (λ index. ListsAfter members text (packages_of self) (packages_of index)) }
         ensures lines { (text : List ℕ) → R.left reader.old ≡ Some text → IfOk result
-            (λ index. lines_of index ≡ lines_of self.entry ++ member_lines members text) }
+            (λ index. lines_of index ≡ lines_of self ++ member_lines members text) }
         ensures spellings { (text : List ℕ) → R.left reader.old ≡ Some text → IfOk result
             (λ index. spellings_of index
-            ≡ spellings_of self.entry ++ member_spellings members text) }
-        ensures counts { IfOk result (λ index. counts_of index ≡ counts_of self.entry
-            ++ (length (packages_of index) - length (packages_of self.entry)) ∷ []) }
+            ≡ spellings_of self ++ member_spellings members text) }
+        ensures counts { IfOk result (λ index. counts_of index ≡ counts_of self
+            ++ (length (packages_of index) - length (packages_of self)) ∷ []) }
         ensures refused { (text : List ℕ) → R.left reader.old ≡ Some text
             → IfRefused result (λ refusal. refusal_of (doc_of members) text ≡ Some refusal) }
         ensures reads_at_most { (text : List ℕ) → R.left reader.old ≡ Some text
@@ -206,15 +206,63 @@ impl Index {
         ensures fault_iff_read_failed { ReadFaultIffFailed (R.failures reader.old)
             (R.failures reader.new) result }
     {
-        append_file(alloc, self.into_store(), reader, members, keeper)
+        Index::append_file(alloc, self.into_store(), reader, members, keeper)
     }
 
     /// What the index keeps, without the maps.
     fn into_store(self) -> Store
-        ensures store { result ≡ self.entry.store }
+        ensures store { result ≡ self.store }
         ensures kept { IsStore result }
     {
         self.store
+    }
+
+    /// Reads one more file into a store, and makes its index.
+    fn append_file<R: Source, K: Keeper>(
+        alloc: Global,
+        mut store: Store,
+        reader: &mut R,
+        members: Members,
+        keeper: &mut K,
+    ) -> Result<Index, Fault>
+        requires kept { IsStore store }
+        ensures ok { (text : List ℕ) → R.left reader.old ≡ Some text → IfOk result
+            (λ index. ListsAfter members text (listed_in store) (packages_of index)) }
+        ensures lines { (text : List ℕ) → R.left reader.old ≡ Some text → IfOk result
+            (λ index. lines_of index ≡ lines_in store ++ member_lines members text) }
+        ensures spellings { (text : List ℕ) → R.left reader.old ≡ Some text → IfOk result
+            (λ index. spellings_of index ≡ spellings_in store ++ member_spellings members text) }
+        ensures counts { IfOk result (λ index. counts_of index ≡ store.files.items
+            ++ (length (packages_of index) - length (listed_in store)) ∷ []) }
+        ensures refused { (text : List ℕ) → R.left reader.old ≡ Some text
+            → IfRefused result (λ refusal. refusal_of (doc_of members) text ≡ Some refusal) }
+        ensures reads_at_most { (text : List ℕ) → R.left reader.old ≡ Some text
+            → TakesNoMore text file_limit (R.left reader.new) }
+        ensures keeps { (text : List ℕ) (before : List Seen) → R.left reader.old ≡ Some text
+            → K.Keeps members keeper.old before → IfOk result (λ _. KeepsMembers members
+            (λ given. K.Keeps members keeper.new (before ++ given)) text) }
+        ensures fault { IfErr result (λ fault. IsReadersFault fault IsRefusalOfDocument) }
+        ensures counts_read_failure { R.failures reader.new ≡ read_failures_after
+            (R.failures reader.old) result }
+        ensures fault_iff_read_failed { ReadFaultIffFailed (R.failures reader.old)
+            (R.failures reader.new) result }
+    {
+        let before = store.records.len();
+        read_into(alloc, members, reader, keeper, &mut store)?;
+        Ok(Index::with_file(alloc, before, store)?)
+    }
+
+    /// Ends a file, before which there were so many packages, and makes the index of all packages.
+    fn with_file(alloc: Global, before: usize, mut store: Store) -> Result<Index, AllocError>
+        requires { IsStore store }
+        ensures packages { IfOk result (λ index. packages_of index ≡ listed_in store) }
+        ensures lines { IfOk result (λ index. lines_of index ≡ lines_in store) }
+        ensures spellings { IfOk result (λ index. spellings_of index ≡ spellings_in store) }
+        ensures counts { IfOk result (λ index. counts_of index
+            ≡ store.files.items ++ (length (listed_in store) - before) ∷ []) }
+    {
+        store.end_file(before)?;
+        Index::of(alloc, store)
     }
 
     /// The index of packages.
@@ -323,54 +371,6 @@ impl Index {
     {
         self.store.records.len()
     }
-}
-
-/// Reads one more file into a store, and makes its index.
-fn append_file<R: Source, K: Keeper>(
-    alloc: Global,
-    mut store: Store,
-    reader: &mut R,
-    members: Members,
-    keeper: &mut K,
-) -> Result<Index, Fault>
-    requires kept { IsStore store.entry }
-    ensures ok { (text : List ℕ) → R.left reader.old ≡ Some text → IfOk result
-        (λ index. ListsAfter members text (listed_in store.entry) (packages_of index)) }
-    ensures lines { (text : List ℕ) → R.left reader.old ≡ Some text → IfOk result
-        (λ index. lines_of index ≡ lines_in store.entry ++ member_lines members text) }
-    ensures spellings { (text : List ℕ) → R.left reader.old ≡ Some text → IfOk result
-        (λ index. spellings_of index ≡ spellings_in store.entry ++ member_spellings members text) }
-    ensures counts { IfOk result (λ index. counts_of index ≡ store.entry.files.items
-        ++ (length (packages_of index) - length (listed_in store.entry)) ∷ []) }
-    ensures refused { (text : List ℕ) → R.left reader.old ≡ Some text
-        → IfRefused result (λ refusal. refusal_of (doc_of members) text ≡ Some refusal) }
-    ensures reads_at_most { (text : List ℕ) → R.left reader.old ≡ Some text
-        → TakesNoMore text file_limit (R.left reader.new) }
-    ensures keeps { (text : List ℕ) (before : List Seen) → R.left reader.old ≡ Some text
-        → K.Keeps members keeper.old before → IfOk result (λ _. KeepsMembers members
-        (λ given. K.Keeps members keeper.new (before ++ given)) text) }
-    ensures fault { IfErr result (λ fault. IsReadersFault fault IsRefusalOfDocument) }
-    ensures counts_read_failure { R.failures reader.new ≡ read_failures_after
-        (R.failures reader.old) result }
-    ensures fault_iff_read_failed { ReadFaultIffFailed (R.failures reader.old)
-        (R.failures reader.new) result }
-{
-    let before = store.records.len();
-    read_into(alloc, members, reader, keeper, &mut store)?;
-    Ok(index_with(alloc, before, store)?)
-}
-
-/// Ends a file, before which there were so many packages, and makes the index of all packages.
-fn index_with(alloc: Global, before: usize, mut store: Store) -> Result<Index, AllocError>
-    requires { IsStore store.entry }
-    ensures packages { IfOk result (λ index. packages_of index ≡ listed_in store.entry) }
-    ensures lines { IfOk result (λ index. lines_of index ≡ lines_in store.entry) }
-    ensures spellings { IfOk result (λ index. spellings_of index ≡ spellings_in store.entry) }
-    ensures counts { IfOk result (λ index. counts_of index
-        ≡ store.entry.files.items ++ (length (listed_in store.entry) - before) ∷ []) }
-{
-    store.end_file(before)?;
-    Index::of(alloc, store)
 }
 
 /// Appends the packages of a file to a store.

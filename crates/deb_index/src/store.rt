@@ -51,8 +51,10 @@ pub(crate) struct Store {
 impl Store {
     /// No package, and no file.
     pub(crate) fn new(alloc: Global) -> Store
-        ensures entries { result.entries.items ≡ [] }
-        ensures records { result.records.items ≡ [] }
+        ensures kept { IsStore result }
+        ensures listed { listed_in result ≡ [] }
+        ensures lines { lines_in result ≡ [] }
+        ensures spellings { spellings_in result ≡ [] }
         ensures files { result.files.items ≡ [] }
     {
         Store {
