@@ -1,5 +1,5 @@
 -- The index of two files is that of the file in which the second follows the first after two newlines.
-use Rattle.std.proofs.Common.{◌≡◌, ℕ, ◌+◌, ◌==◌, ◌||◌, Bool, true, false, cond, IsFalse, List, [], ◌∷◌, ◌++◌, length, map, append_assoc, append-nil, refl, sym, ap, ◌∙◌, subst}
+use Rattle.std.proofs.Common.{◌≡◌, ℕ, ◌+◌, ◌==◌, ◌||◌, Bool, true, false, cond, IsFalse, List, [], ◌∷◌, ◌++◌, length, map, append_assoc, refl, sym, ap, ◌∙◌, subst}
 use Rattle.std.specs.BTreeMap.{insert_entry}
 use Rattle.std.specs.List.{filter}
 use Rattle.std.specs.Str.{bytes_eq}
@@ -14,17 +14,15 @@ use Rattle.deb_syntax.proofs.Boundaries.{ends_line-append, lines_of-append}
 use Rattle.deb_syntax.proofs.NextParagraph.{ends_blank-append, paragraphs_from-append}
 use Rattle.deb_field.specs.ValueLaws.{value_law}
 use Rattle.deb_field.specs.Values.{SpellsValue, ValueMeaning, value_text}
-use Rattle.deb_control.specs.Documents.{Accepted, Meaning, Means as FileMeans}
+use Rattle.deb_control.specs.Documents.{Accepted, Meaning}
 use Rattle.deb_control.specs.Pairs.{Pairwise}
-use Rattle.deb_control.specs.ValueFiles.{SpellsEntry, ValueEntries}
+use Rattle.deb_control.specs.ValueFiles.{SpellsEntry}
 use Rattle.deb_control.proofs.FileText.{is_blank-nil}
 use Rattle.deb_control.proofs.ValueFiles.{text_means_one_thing}
 use Rattle.deb_index.specs.Installed.{is_member}
 use Rattle.deb_index.specs.Laws.{FurtherFileJoins, two_newlines}
 use Rattle.deb_index.specs.Listed.{Listed}
 use Rattle.deb_index.specs.Listing.{Lists}
-use Rattle.deb_index.specs.Members.{ListsMembers, doc_of, has_values}
-use Rattle.deb_index.specs.declared.members.Members.{Members}
 use Rattle.deb_index.specs.declared.members.Members.TheVariants.{All, Installed}
 use Rattle.deb_index.proofs.ListedOnce.{all-same}
 
@@ -52,11 +50,11 @@ module _ (text : List ℕ) where
   abbrev closed : List ℕ
   closed = text ++ two_newlines
 
-  one_line : lines_of (text ++ newline ∷ []) ≡ lines_of text ++ [] → lines_of closed ≡ lines_of text ++ [] ∷ []
+  one_line : lines_of (text ++ newline ∷ []) ≡ lines_of text → lines_of closed ≡ lines_of text ++ [] ∷ []
   one_line is =
       ap lines_of (sym (append_assoc text (newline ∷ []) (newline ∷ [])))
       ∙ lines_of-append (text ++ newline ∷ []) (newline ∷ []) (ends_line-append text [])
-      ∙ ap (λ lines. lines ++ [] ∷ []) (is ∙ append-nil (lines_of text))
+      ∙ ap (λ lines. lines ++ [] ∷ []) is
 
   -- the lines with one empty line or two
   closed_lines : (lines : List Line) × (lines_of closed ≡ lines ++ [] ∷ []) × (paragraphs_from 1 lines ≡ paragraphs_of text)
@@ -68,7 +66,7 @@ module _ (text : List ℕ) where
         lines_of-append text two_newlines is ∙ sym (append_assoc (lines_of text) ([] ∷ []) ([] ∷ [])),
         no_more 1 (lines_of text),
       )
-      go false is = (lines_of text, one_line (ended text is ∙ sym (append-nil (lines_of text))), refl)
+      go false is = (lines_of text, one_line (ended text is), refl)
 
   closed_paragraphs : paragraphs_of closed ≡ paragraphs_of text
   closed_paragraphs = ap (paragraphs_from 1) closed_lines.1 ∙ no_more 1 closed_lines.0 ∙ closed_lines.2
@@ -83,7 +81,7 @@ module _ (text : List ℕ) where
 -- ---- numbers of lines
 
 -- the same fields at other lines
-SameFields : List Field → List Field → Type 0
+abbrev SameFields : List Field → List Field → Type 0
 SameFields [] [] = Unit {0}
 SameFields [] (g ∷ gs) = ⊥
 SameFields (f ∷ fs) [] = ⊥
@@ -141,7 +139,7 @@ moved a b lines (field ∷ fields) spells =
     )
 
 -- paragraphs with the same lines have the same meanings
-SameLines : List Paragraph → List Paragraph → Type 0
+abbrev SameLines : List Paragraph → List Paragraph → Type 0
 SameLines [] [] = Unit {0}
 SameLines [] (q ∷ qs) = ⊥
 SameLines (p ∷ ps) [] = ⊥
