@@ -9,7 +9,7 @@ use Rattle.deb_index.proofs.index.read_into.Goals as goal
 pub loop-count-init : goal.loop-count-init
 loop-count-init g c =
     let keeps = g.K.Keeper.Keeps c.args.members in
-    shows-none (ReadGiven c.args.members keeps _ _ c.args.store.now c.args.store.now) (none_read c.args.members keeps c.args.keeper.now c.args.store.now c.requires) (c.new-checked.ensures.doc ∙ c.doc.ensures) c.new-checked.ensures.sound c.new-checked.ensures.none (rw c.doc.ensures at c.new-checked.ensures.fits)
+    shows-none (ReadGiven c.args.members keeps _ _ c.args.store.now c.args.store.now) (none_read c.args.members keeps c.args.keeper.now c.args.store.now c.requires.kept) (c.new-checked.ensures.doc ∙ c.doc.ensures) c.new-checked.ensures.sound c.new-checked.ensures.none (rw c.doc.ensures at c.new-checked.ensures.fits)
 
 pub returns-in_err-advance-clause-refused : goal.returns-in_err-advance-clause-refused
 returns-in_err-advance-clause-refused g c =

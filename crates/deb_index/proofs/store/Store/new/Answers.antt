@@ -4,13 +4,13 @@ use Rattle.deb_index.proofs.Stored.{no_packages}
 use Rattle.deb_index.proofs.store.Store.new.Goals as goal
 
 pub returns-clause-kept : goal.returns-clause-kept
-returns-clause-kept c = no_packages _ c.new-entries.ensures c.new-records.ensures
+returns-clause-kept c = no_packages _ c.new-2.ensures c.new-3.ensures
 
 pub returns-clause-listed : goal.returns-clause-listed
-returns-clause-listed c = ap (map (listed_by c.new-bytes.result.items c.new-entries.result.items)) c.new-records.ensures
+returns-clause-listed c = ap (map (listed_by c.new.result.items c.new-2.result.items)) c.new-3.ensures
 
 pub returns-clause-lines : goal.returns-clause-lines
-returns-clause-lines c = ap (map line_by) c.new-records.ensures
+returns-clause-lines c = ap (map line_by) c.new-3.ensures
 
 pub returns-clause-spellings : goal.returns-clause-spellings
-returns-clause-spellings c = ap (map (spelling_by c.new-bytes.result.items)) c.new-records.ensures
+returns-clause-spellings c = ap (map (spelling_by c.new.result.items)) c.new-3.ensures
