@@ -7,6 +7,7 @@ pub mod Installed
 pub mod Indexed
 pub mod ReadLines
 pub mod ListedOnce
+pub mod FilesJoined
 pub mod WrittenParts
 pub mod Lookups
 pub mod PutLast

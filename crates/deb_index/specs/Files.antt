@@ -1,6 +1,7 @@
 -- An index of several files: what a further file adds to it, how many packages each file has, and
 -- the file of a package. The rules are this project's own.
-use Rattle.std.specs.Prelude.{◌≡◌, ℕ, ◌+◌, ◌-◌, nat_eq, nat_le, if◌then◌else◌, length, List, [], ◌∷◌, ◌++◌, map, Option, None, Some, refl}
+use Rattle.std.specs.Prelude.{◌≡◌, ℕ, ◌+◌, ◌-◌, nat_eq, nat_le, nat_lt, cond, if◌then◌else◌, length, List, [], ◌∷◌, ◌++◌, map, Option, None, Some, codes, refl}
+use Rattle.std.specs.Fmt.{decimal, digits}
 use Rattle.deb_index.specs.Listed.{Listed}
 use Rattle.deb_index.specs.Members.{ListsMembers, member_lines, member_spellings}
 use Rattle.deb_index.specs.Stores.{lines_in, listed_in, spellings_in}
@@ -34,6 +35,19 @@ file_from place (count ∷ counts) number =
 abbrev pub file_of : List ℕ → ℕ → Option ℕ
 file_of counts number = if nat_eq number 0 then None else file_from 1 counts number
 
+-- the file that the line of a package names: none where there is only one
+abbrev pub file_shown : List ℕ → ℕ → Option ℕ
+file_shown counts number = cond (nat_lt 1 (length counts)) (file_of counts number) None
+
+-- and the word at the end of the line, in two parts: ` @K`, or nothing
+abbrev pub file_mark : Option ℕ → List ℕ
+file_mark None = []
+file_mark (Some place) = codes " @"
+
+abbrev pub file_place : Option ℕ → List ℕ
+file_place None = []
+file_place (Some place) = decimal place
+
 -- two packages, none, three, and none: the first and the last of each file, and none
 worked-files : map (file_of (2 ∷ 0 ∷ 3 ∷ 0 ∷ [])) (0 ∷ 1 ∷ 2 ∷ 3 ∷ 5 ∷ 6 ∷ [])
     ≡ None ∷ Some 1 ∷ Some 1 ∷ Some 3 ∷ Some 3 ∷ None ∷ []
@@ -48,3 +62,13 @@ worked-one = refl
 
 worked-no-file : map (file_of []) (0 ∷ 1 ∷ []) ≡ None ∷ None ∷ []
 worked-no-file = refl
+
+-- no file is named of one, nor of a package that isn't there
+worked-shown : (map (file_shown (2 ∷ [])) (1 ∷ 2 ∷ 3 ∷ []) ≡ None ∷ None ∷ None ∷ [])
+    × (map (file_shown (2 ∷ 1 ∷ [])) (1 ∷ 2 ∷ 3 ∷ 4 ∷ []) ≡ Some 1 ∷ Some 1 ∷ Some 2 ∷ None ∷ [])
+worked-shown = (refl, refl)
+
+worked-words : (map file_mark (None ∷ Some 12 ∷ []) ≡ [] ∷ codes " @" ∷ [])
+    × (map file_place (None ∷ Some 12 ∷ []) ≡ [] ∷ codes "12" ∷ [])
+unfolding digits
+worked-words = (refl, refl)

@@ -1,6 +1,6 @@
 -- Worked cases of what the contracts see of the code's values, which are written out here: each
 -- field under its own name, and lists in their order.
-use Rattle.std.specs.Prelude.{◌≡◌, ℕ, ◌+◌, ◌==◌, ◌&&◌, true, false, List, [], ◌∷◌, map, None, Some, codes, refl, zero, suc, ◌<◌}
+use Rattle.std.specs.Prelude.{◌≡◌, ℕ, ◌+◌, ◌==◌, ◌&&◌, true, false, cond, List, [], ◌∷◌, map, None, Some, codes, refl, zero, suc, ◌<◌}
 use Rattle.std.specs.Option.{option_map}
 use Rattle.std.specs.List.{All, AllPairs}
 use Rattle.std.specs.Map.{lookup}
@@ -17,6 +17,7 @@ use Rattle.deb_field.specs.declared.flag.MultiArch.TheVariants.{Foreign}
 use Rattle.deb_index.specs.AnswerStores.{answers_in, numbered, span_of}
 use Rattle.deb_index.specs.Crowds.{comes_first, passes}
 use Rattle.deb_index.specs.Entries.{IsFaultless, Places, entry_name}
+use Rattle.deb_index.specs.Files.{file_shown}
 use Rattle.deb_index.specs.Indexes.{counts_of, lines_of, number_in, packages_of, spellings_of}
 use Rattle.deb_index.specs.Kept.{line_of, listed_of, spelling_of}
 use Rattle.deb_index.specs.Listed.{Listed, Provision}
@@ -39,7 +40,7 @@ use Rattle.deb_base.specs.declared.version_text.VersionText.TheVariants.{Canonic
 use Rattle.deb_index.specs.Detailed.{detailed_of, details_cut, details_left, details_of}
 use Rattle.deb_index.specs.ReportText.{version_shown}
 use Rattle.deb_index.specs.Reports.{Answer}
-use Rattle.deb_index.specs.ShownVersions.{shown_by, spellings_detailed}
+use Rattle.deb_index.specs.ShownVersions.{counts_detailed, shown_by, spellings_detailed}
 use Rattle.deb_index.specs.declared.answer_store.AnswerSpan.{AnswerSpan}
 
 -- aa in version 1, which provides vv in version 3 and ww without one; and bb in version 2, which
@@ -287,12 +288,23 @@ worked-packages index =
 
 -- the canonical version of a package, and that of a number as the file spells it
 worked-versions : (index : Index) → index.store ≡ two_packages
-    → map (λ chosen. shown_by (record { index = lent index; chosen = chosen }) (1, bb))
-    (Canonical ∷ Spelled ∷ [])
+    → map
+    (λ chosen. (shown_by (record { index = lent index; chosen = chosen; files = true })).version
+    (1, bb)) (Canonical ∷ Spelled ∷ [])
     ≡ codes "2" ∷ codes "1" ∷ []
 worked-versions index =
-    ap (λ store. map (λ chosen. version_shown chosen (spellings_in store) (1, bb))
+    ap (λ store. map (λ chosen. (version_shown chosen (spellings_in store)).version (1, bb))
     (Canonical ∷ Spelled ∷ []))
+
+-- the file of a number, if files are named
+worked-files : (index : Index) → index.store ≡ two_packages
+    → map
+    (λ files. (shown_by (record { index = lent index; chosen = Spelled; files = files })).file
+    (2, bb)) (true ∷ false ∷ [])
+    ≡ Some 2 ∷ None ∷ []
+worked-files index =
+    ap (λ store. map (λ files. cond files (file_shown store.files.items 2) None)
+    (true ∷ false ∷ []))
 
 -- what is kept of three answers: none meets the first group, both meet the second, and the third is
 -- ignored
@@ -361,6 +373,15 @@ worked-answer index listed = ap (λ kept. record {
       record { text = codes "bb"; verdict = Met; packages = numbered (listed_in kept) (2 ∷ []) };
   reasons = codes "x";
 })
+
+worked-counts : (index : Index) (listed : AreNumbers (packages_of index) (1 ∷ 2 ∷ []))
+    → index.store ≡ two_packages
+    → counts_detailed (record {
+      report = record { index = lent index; answers = store; listed = listed };
+      reasons = vector [] refl;
+      lens = vector [] refl;
+    }) ≡ 1 ∷ 1 ∷ []
+worked-counts index listed = ap (λ kept. kept.files.items)
 
 worked-reported : (index : Index) (listed : AreNumbers (packages_of index) (1 ∷ 2 ∷ []))
     → index.store ≡ two_packages

@@ -3,13 +3,13 @@
 ghost use Rattle.std.specs.Prelude.{◌≡◌, IfErr};
 ghost use Rattle.std.specs.List.{flat_map};
 ghost use Rattle.deb_base.specs.Devices.{write_failures_after, Puts, WriteFaultIffFailed};
-ghost use Rattle.deb_index.specs.ReportText.{answer_text, group_line, package_line, report_text, report_text_by, verdict_word, version_shown};
+ghost use Rattle.deb_index.specs.ReportText.{answer_text, group_line, package_line, report_text, report_text_by, verdict_word, version_shown, with_files};
 ghost use Rattle.deb_index.specs.Reported.{answer_of, answers_left, found_left, found_of, report_of};
-ghost use Rattle.deb_index.specs.ShownVersions.{shown_by, spellings_reported};
+ghost use Rattle.deb_index.specs.ShownVersions.{counts_reported, shown_by, spellings_reported};
 
 use crate::answer::{Answer, Answers, Found, FoundPackages};
 use crate::report::Report;
-use crate::shown::Versions;
+use crate::shown::{Versions, file_mark, file_place};
 use crate::verdict::Verdict;
 use deb_base::{Fault, Sink, VersionText, put_pieces};
 use itoa::Buffer;
@@ -55,6 +55,37 @@ impl Report<'_> {
         let versions = Versions {
             index: self.index,
             chosen: versions,
+            files: false,
+        };
+        write_answers(self.answers(), versions, out)
+    }
+
+    /// Writes the report as [`Report::write_with`] does. If the index has more than one file, the
+    /// line of a package ends with its file, such as ` 2 aa 1.0 all @1`: 1 is the file that was
+    /// read first.
+    ///
+    /// # Errors
+    ///
+    /// `Fault::Write` only: a write failed in this call, and a prefix of the report was written
+    /// before it.
+    pub fn write_with_files<W: Sink>(
+        &self,
+        versions: VersionText,
+        out: &mut W,
+    ) -> Result<(), Fault>
+        ensures written { Puts (W.held out.old) (W.held out.new) result
+            (report_text_by (with_files (counts_reported self.now)
+            (version_shown versions (spellings_reported self.now))) (report_of self.now)) }
+        ensures fault { IfErr result (λ fault. fault ≡ Fault.Write) }
+        ensures counts_failure { W.failures out.new ≡ write_failures_after (W.failures out.old)
+            result }
+        ensures fault_iff_write_failed { WriteFaultIffFailed (W.failures out.old)
+            (W.failures out.new) result }
+    {
+        let versions = Versions {
+            index: self.index,
+            chosen: versions,
+            files: true,
         };
         write_answers(self.answers(), versions, out)
     }
@@ -133,7 +164,9 @@ fn write_package<'a, W: Sink>(
     ensures counts_failure { W.failures out.new ≡ write_failures_after (W.failures out.old) result }
 {
     let mut number = Buffer::new();
+    let mut place = Buffer::new();
     let package = found.package;
+    let file = versions.file(found);
     put_pieces(
         out,
         &[
@@ -145,6 +178,8 @@ fn write_package<'a, W: Sink>(
             versions.of(found),
             b" ",
             package.architecture(),
+            file_mark(file),
+            file_place(file, &mut place),
             b"\n",
         ],
     )

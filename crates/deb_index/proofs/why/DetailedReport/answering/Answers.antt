@@ -1,7 +1,7 @@
 use Rattle.std.proofs.Common.{sym, ◌∙◌}
 use Rattle.deb_index.specs.Asked.{relation_asked}
 use Rattle.deb_index.proofs.TextPieces.{canonical, text_regular}
-use Rattle.deb_index.proofs.index.Index.ask_why_with.Goals as goal
+use Rattle.deb_index.proofs.why.DetailedReport.answering.Goals as goal
 
 pub of-requires : goal.of-requires
 of-requires c = canonical c.deref.result.now (relation_asked c.args.question.now) (text_regular c.args.question.now.relation) (c.deref.ensures.value ∙ c.in_ok-text.ensures)
