@@ -30,9 +30,9 @@ use Rattle.deb_index.proofs.ListedOnce.{all-same}
 
 -- a newline at the end of a last line adds none
 ended : (text : List ℕ) → ends_line text ≡ false → lines_of (text ++ newline ∷ []) ≡ lines_of text
-ended [] open = absurd (cc)
-ended (b ∷ []) open = rw open refl
-ended (b ∷ c ∷ bs) open = ap (λ lines. cond (b == newline) ([] ∷ lines) (with_byte b lines)) (ended (c ∷ bs) open)
+ended [] more = absurd (cc)
+ended (b ∷ []) more = rw more refl
+ended (b ∷ c ∷ bs) more = ap (λ lines. cond (b == newline) ([] ∷ lines) (with_byte b lines)) (ended (c ∷ bs) more)
 
 -- an empty line at the end, and so begins what is blank
 blank_last : (lines : List Line) → begins_blank (lines ++ [] ∷ []) ≡ begins_blank lines
@@ -154,11 +154,11 @@ same_with_line n m line false (p ∷ ps) (q ∷ qs) same = (ap (λ lines. line �
 
 same_lines : (n m : ℕ) (lines : List Line) → SameLines (paragraphs_from n lines) (paragraphs_from m lines)
 same_lines n m [] = tt
-same_lines n m (line ∷ lines) = go (is_blank line)
+same_lines n m (line ∷ lines) = go (is_blank line) (same_lines (n + 1) (m + 1) lines)
   where
-    go : (t : Bool) → SameLines (cond t (paragraphs_from (n + 1) lines) (with_line n line (begins_blank lines) (paragraphs_from (n + 1) lines))) (cond t (paragraphs_from (m + 1) lines) (with_line m line (begins_blank lines) (paragraphs_from (m + 1) lines)))
-    go true = same_lines (n + 1) (m + 1) lines
-    go false = same_with_line n m line (begins_blank lines) _ _ (same_lines (n + 1) (m + 1) lines)
+    go : (t : Bool) → SameLines (paragraphs_from (n + 1) lines) (paragraphs_from (m + 1) lines) → SameLines (cond t (paragraphs_from (n + 1) lines) (with_line n line (begins_blank lines) (paragraphs_from (n + 1) lines))) (cond t (paragraphs_from (m + 1) lines) (with_line m line (begins_blank lines) (paragraphs_from (m + 1) lines)))
+    go true same = same
+    go false same = same_with_line n m line (begins_blank lines) _ _ same
 
 moved_paragraph : (p q : Paragraph) → p.lines ≡ q.lines → (entries : Entries) → (fields : List Field) × SpellsParagraph p fields × (entries ≡ entries_of fields) → (fields : List Field) × SpellsParagraph q fields × (entries ≡ entries_of fields)
 moved_paragraph p q same entries has =

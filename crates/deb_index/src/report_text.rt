@@ -167,22 +167,20 @@ fn write_package<'a, W: Sink>(
     let mut place = Buffer::new();
     let package = found.package;
     let file = versions.file(found);
-    put_pieces(
-        out,
-        &[
-            b" ",
-            number.format(found.number).as_bytes(),
-            b" ",
-            package.name(),
-            b" ",
-            versions.of(found),
-            b" ",
-            package.architecture(),
-            file_mark(file),
-            file_place(file, &mut place),
-            b"\n",
-        ],
-    )
+    let pieces = [
+        b" ",
+        number.format(found.number).as_bytes(),
+        b" ",
+        package.name(),
+        b" ",
+        versions.of(found),
+        b" ",
+        package.architecture(),
+        file_mark(file),
+        file_place(file, &mut place),
+        b"\n",
+    ];
+    put_pieces(out, &pieces)
 }
 
 fn verdict_word<'a>(verdict: Verdict) -> &'a [u8]
