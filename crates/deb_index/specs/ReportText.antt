@@ -60,12 +60,18 @@ abbrev pub group_line : Answer → List ℕ
 group_line reported =
     concat (verdict_word reported.verdict ∷ codes " " ∷ reported.text ∷ codes "\n" ∷ [])
 
--- ` NUMBER PACKAGE VERSION ARCHITECTURE`, and ` @FILE` where a file is named
+-- what the line of a package has before its end; and its end, with ` @FILE` where a file is named
+abbrev pub package_pieces : VersionShown → Numbered → List (List ℕ)
+package_pieces shown p =
+    codes " " ∷ decimal p.0 ∷ codes " " ∷ p.1.name ∷ codes " " ∷ shown.version p ∷ codes " "
+    ∷ p.1.architecture ∷ []
+
+abbrev pub end_pieces : Option ℕ → List (List ℕ)
+end_pieces file = file_mark file ∷ file_place file ∷ codes "\n" ∷ []
+
+-- ` NUMBER PACKAGE VERSION ARCHITECTURE`, perhaps with the file
 abbrev pub package_line : VersionShown → Numbered → List ℕ
-package_line shown p =
-    concat (codes " " ∷ decimal p.0 ∷ codes " " ∷ p.1.name ∷ codes " " ∷ shown.version p
-    ∷ codes " " ∷ p.1.architecture ∷ file_mark (shown.file p) ∷ file_place (shown.file p)
-    ∷ codes "\n" ∷ [])
+package_line shown p = concat (package_pieces shown p ++ end_pieces (shown.file p))
 
 -- what is written of a group, and of all of them
 abbrev pub answer_text : VersionShown → Answer → List ℕ

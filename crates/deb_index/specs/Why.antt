@@ -12,12 +12,11 @@ use Rattle.deb_relation.specs.Meaning.{Alternative, Group, Relation}
 use Rattle.deb_relation.specs.Texts.{alternative_text, group_text}
 use Rattle.deb_relation.specs.declared.operator.Op.TheVariants.{LaterEqual}
 use Rattle.deb_index.specs.Alternatives.{alone, with_bound, with_formula, with_list, with_qualifier}
-use Rattle.deb_index.specs.Files.{file_mark, file_place}
 use Rattle.deb_index.specs.Listed.{Listed, Provision}
 use Rattle.deb_index.specs.Named.{has_name, provides}
 use Rattle.deb_index.specs.Reasons.{reason}
 use Rattle.deb_index.specs.Reports.{Answer, Numbered, answer, group_verdict, passing_from, report}
-use Rattle.deb_index.specs.ReportText.{VersionShown, answer_text, canonical_version, version_shown, with_files}
+use Rattle.deb_index.specs.ReportText.{VersionShown, answer_text, canonical_version, end_pieces, package_pieces, version_shown, with_files}
 use Rattle.deb_index.specs.declared.reason.Reason.{Reason}
 use Rattle.deb_index.specs.declared.reason.Reason.TheVariants.{IsEarlier, IsLater, IsAnother, IsNotLater, IsNotEarlier, HasNoVersion, IsOfAnotherArchitecture, IsNotAllowed}
 use Rattle.deb_index.specs.declared.verdict.Verdict.{Verdict}
@@ -39,9 +38,8 @@ reason_words IsNotAllowed = codes "isn't Multi-Arch: allowed"
 -- ` @FILE` where a file is named
 abbrev pub reason_line : VersionShown → List ℕ → Numbered → Reason → List ℕ
 reason_line shown text p why =
-    concat (codes " " ∷ text ∷ codes ": " ∷ decimal p.0 ∷ codes " " ∷ p.1.name ∷ codes " "
-    ∷ shown.version p ∷ codes " " ∷ p.1.architecture ∷ codes " " ∷ reason_words why
-    ∷ file_mark (shown.file p) ∷ file_place (shown.file p) ∷ codes "\n" ∷ [])
+    concat ((codes " " ∷ text ∷ codes ":" ∷ package_pieces shown p)
+    ++ (codes " " ∷ reason_words why ∷ end_pieces (shown.file p)))
 
 -- a package that meets the alternative has no line
 abbrev pub line_unless_met : VersionShown → List ℕ → Numbered → Option Reason → List ℕ

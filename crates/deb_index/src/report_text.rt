@@ -1,17 +1,17 @@
 //! Writes a report as text.
 
 ghost use Rattle.std.specs.Prelude.{◌≡◌, IfErr};
-ghost use Rattle.std.specs.List.{flat_map};
+ghost use Rattle.std.specs.List.{concat, flat_map};
 ghost use Rattle.deb_base.specs.Devices.{write_failures_after, Puts, WriteFaultIffFailed};
-ghost use Rattle.deb_index.specs.ReportText.{answer_text, group_line, package_line, report_text, report_text_by, verdict_word, version_shown, with_files};
+ghost use Rattle.deb_index.specs.ReportText.{answer_text, end_pieces, group_line, package_line, package_pieces, report_text, report_text_by, verdict_word, version_shown, with_files};
 ghost use Rattle.deb_index.specs.Reported.{answer_of, answers_left, found_left, found_of, report_of};
 ghost use Rattle.deb_index.specs.ShownVersions.{counts_reported, shown_by, spellings_reported};
 
 use crate::answer::{Answer, Answers, Found, FoundPackages};
 use crate::report::Report;
-use crate::shown::{Versions, file_mark, file_place};
+use crate::shown::Versions;
 use crate::verdict::Verdict;
-use deb_base::{Fault, Sink, VersionText, put_pieces};
+use deb_base::{Fault, Sink, VersionText, put_all, put_pieces};
 use itoa::Buffer;
 
 impl Report<'_> {
@@ -153,6 +153,7 @@ fn write_packages<W: Sink>(
 }
 
 /// Writes the line of a package.
+#[tactic(auto, using(deb_base::proofs::Writes::puts))]
 fn write_package<'a, W: Sink>(
     found: &Found<'a>,
     versions: Versions<'a>,
@@ -163,24 +164,49 @@ fn write_package<'a, W: Sink>(
     ensures fault { IfErr result (λ fault. fault ≡ Fault.Write) }
     ensures counts_failure { W.failures out.new ≡ write_failures_after (W.failures out.old) result }
 {
+    write_named(found, versions, out)?;
+    write_end(versions.file(found), out)
+}
+
+/// Writes the line of a package up to its architecture.
+fn write_named<'a, W: Sink>(
+    found: &Found<'a>,
+    versions: Versions<'a>,
+    out: &mut W,
+) -> Result<(), Fault>
+    ensures written { Puts (W.held out.old) (W.held out.new) result
+        (concat (package_pieces (shown_by versions.entry) (found_of found.now))) }
+    ensures fault { IfErr result (λ fault. fault ≡ Fault.Write) }
+    ensures counts_failure { W.failures out.new ≡ write_failures_after (W.failures out.old) result }
+{
     let mut number = Buffer::new();
-    let mut place = Buffer::new();
     let package = found.package;
-    let file = versions.file(found);
-    let pieces = [
-        b" ",
-        number.format(found.number).as_bytes(),
-        b" ",
-        package.name(),
-        b" ",
-        versions.of(found),
-        b" ",
-        package.architecture(),
-        file_mark(file),
-        file_place(file, &mut place),
-        b"\n",
-    ];
-    put_pieces(out, &pieces)
+    put_pieces(
+        out,
+        &[
+            b" ",
+            number.format(found.number).as_bytes(),
+            b" ",
+            package.name(),
+            b" ",
+            versions.of(found),
+            b" ",
+            package.architecture(),
+        ],
+    )
+}
+
+/// Writes the end of the line of a package, which names this file.
+fn write_end<W: Sink>(file: Option<usize>, out: &mut W) -> Result<(), Fault>
+    ensures written { Puts (W.held out.old) (W.held out.new) result (concat (end_pieces file)) }
+    ensures fault { IfErr result (λ fault. fault ≡ Fault.Write) }
+    ensures counts_failure { W.failures out.new ≡ write_failures_after (W.failures out.old) result }
+{
+    let Some(place) = file else {
+        return put_all(out, b"\n");
+    };
+    let mut buffer = Buffer::new();
+    put_pieces(out, &[b" @", buffer.format(place).as_bytes(), b"\n"])
 }
 
 fn verdict_word<'a>(verdict: Verdict) -> &'a [u8]
