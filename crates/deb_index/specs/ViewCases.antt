@@ -269,8 +269,7 @@ bb = record {
 -- the packages, their lines and spelled versions, how many each file has, and the packages of two
 -- offers
 worked-packages : (index : Index) → index.store ≡ two_packages
-    → ◌≡◌ {A = List Listed × List ℕ × List (List ℕ) × List ℕ × List ℕ}
-    (
+    → ◌≡◌ {A = List Listed × List ℕ × List (List ℕ) × List ℕ × List ℕ} (
       packages_of index,
       lines_of index,
       spellings_of index,

@@ -68,11 +68,7 @@ impl Report<'_> {
     ///
     /// `Fault::Write` only: a write failed in this call, and a prefix of the report was written
     /// before it.
-    pub fn write_with_files<W: Sink>(
-        &self,
-        versions: VersionText,
-        out: &mut W,
-    ) -> Result<(), Fault>
+    pub fn write_with_files<W: Sink>(&self, versions: VersionText, out: &mut W) -> Result<(), Fault>
         ensures written { Puts (W.held out.old) (W.held out.new) result
             (report_text_by (with_files (counts_reported self.now)
             (version_shown versions (spellings_reported self.now))) (report_of self.now)) }

@@ -265,11 +265,7 @@ impl<'a> DetailedReport<'a> {
     ///
     /// `Fault::Write` only: a write failed in this call, and a prefix of the report was written
     /// before it.
-    pub fn write_with_files<W: Sink>(
-        &self,
-        versions: VersionText,
-        out: &mut W,
-    ) -> Result<(), Fault>
+    pub fn write_with_files<W: Sink>(&self, versions: VersionText, out: &mut W) -> Result<(), Fault>
         ensures written { Puts (W.held out.old) (W.held out.new) result
             (detailed_text_by (with_files (counts_detailed self.now)
             (version_shown versions (spellings_detailed self.now))) (details_of self.now)) }

@@ -11,7 +11,8 @@ use std::test::Fail;
 const FIRST: &[u8] = b"Package: hello\nVersion: 1\nArchitecture: amd64\nProvides: vv\n\n\
     Package: world\nVersion: 1.0-0\nArchitecture: all\n";
 
-const STATUS: &[u8] = b"Package: vv\nStatus: install ok installed\nVersion: 02\nArchitecture: all\n\n\
+const STATUS: &[u8] =
+    b"Package: vv\nStatus: install ok installed\nVersion: 02\nArchitecture: all\n\n\
     Package: ww\nStatus: deinstall ok config-files\nVersion: 1\n";
 
 /// The index of FIRST, a file without packages, and the installed packages of STATUS.
@@ -73,7 +74,10 @@ fn one_file_is_not_named(rt: HostRuntime) -> Result<(), Fail> {
 fn a_refusal_is_of_the_further_file(rt: HostRuntime) -> Result<(), Fail> {
     let index = Index::read(rt.alloc(), &mut Input::new(FIRST))?;
     let fault = index
-        .read_more(rt.alloc(), &mut Input::new(b"Package: aa\nVersion\n".as_slice()))
+        .read_more(
+            rt.alloc(),
+            &mut Input::new(b"Package: aa\nVersion\n".as_slice()),
+        )
         .err();
     let refusal = Refusal {
         code: Code::NoColon,
