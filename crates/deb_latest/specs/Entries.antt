@@ -9,6 +9,7 @@ use Rattle.deb_field.specs.Values.{ValueMeaning, NameMeans, VersionMeans, Archit
 use Rattle.deb_control.specs.Documents.{Meaning}
 use Rattle.deb_control.specs.FieldWords.{value_under}
 use Rattle.deb_control.specs.ValueFiles.{ValueEntries}
+use Rattle.deb_latest.specs.Winning.{Entry}
 use Rattle.deb_latest.specs.declared.kind.Kind.{Kind}
 use Rattle.deb_latest.specs.declared.kind.Kind.TheVariants.{Packages, Sources}
 use Rattle.deb_latest.specs.declared.request.By.{By}
@@ -38,12 +39,6 @@ version_value other = version_in []
 abbrev pub key_of_words : By → List ℕ → List ℕ → List ℕ
 key_of_words Name name architecture = name
 key_of_words NameAndArchitecture name architecture = name ++ codes " " ++ architecture
-
--- a paragraph: its number, what tells its package from others, and its version
-pub record Entry : Type 0 where
-  pub number : ℕ
-  pub key : List ℕ
-  pub version : Version
 
 abbrev pub key_of : By → ValueEntries ValueMeaning → List ℕ
 key_of by values =

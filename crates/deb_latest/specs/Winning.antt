@@ -7,7 +7,12 @@ use Rattle.std.specs.Str.{bytes_eq}
 use Rattle.deb_version.specs.Order.{version_cmp}
 use Rattle.deb_version.specs.Parts.{Meaning as Version}
 use Rattle.deb_version.specs.Places.{version_in}
-use Rattle.deb_latest.specs.Entries.{Entry}
+
+-- a paragraph: its number, what tells its package from others, and its version
+pub record Entry : Type 0 where
+  pub number : ℕ
+  pub key : List ℕ
+  pub version : Version
 
 -- A paragraph is considered: its version is earlier than the limit, if there is one.
 abbrev pub is_considered : Option Version → Entry → Bool
