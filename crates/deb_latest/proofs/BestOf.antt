@@ -9,13 +9,9 @@ use Rattle.std.proofs.lemmas.Slice.Eq.{bytes_eq-Decides}
 use Rattle.deb_version.specs.Order.{version_cmp}
 use Rattle.deb_version.specs.Parts.{Meaning as Version}
 use Rattle.deb_latest.specs.BestOf.{best_in, best_with, later_of}
+use Rattle.deb_latest.specs.Members.{Member}
 use Rattle.deb_latest.specs.Winning.{Entry, beats, is_better, is_considered, winners, winners_in, wins}
 use Rattle.deb_latest.proofs.Ordered.{later-number, not-better, not-itself, same-number}
-
--- a paragraph is one of a list
-abbrev pub Member : Entry → List Entry → Type 0
-Member e [] = ⊥
-Member e (x ∷ xs) = (x ≡ e) ⊎ Member e xs
 
 pub member-append : (e : Entry) (xs ys : List Entry) → Member e xs → Member e (xs ++ ys)
 member-append e [] ys in_it = absurd in_it

@@ -1,8 +1,11 @@
 pub mod Ordered
 pub mod BestOf
 pub mod Winners
+pub mod Filtered
+pub mod Joined
 pub mod Ascending
 pub mod WordsKept
 pub mod Said
 pub mod KeptBests
+pub mod Lookups
 pub mod Reading

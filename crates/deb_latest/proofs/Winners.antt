@@ -6,8 +6,9 @@ use Rattle.std.proofs.lemmas.Bool.{cases_Bool, eqb-true, false≢true}
 use Rattle.std.proofs.lemmas.Slice.Eq.{bytes_eq-Decides}
 use Rattle.deb_version.specs.Parts.{Meaning as Version}
 use Rattle.deb_latest.specs.BestOf.{AreNumbered, best_in, best_with}
+use Rattle.deb_latest.specs.Members.{Member}
 use Rattle.deb_latest.specs.Winning.{Entry, beats, is_better, is_considered, winners, wins}
-use Rattle.deb_latest.proofs.BestOf.{HoldsBest, IsBest, Member, member-none, one-more}
+use Rattle.deb_latest.proofs.BestOf.{HoldsBest, IsBest, member-none, one-more}
 use Rattle.deb_latest.proofs.Ordered.{same-number}
 
 abbrev UpTo : ℕ → List Entry → Type 0
@@ -28,18 +29,21 @@ module _ (limit : Option Version) where
       subst (λ l. HoldsBest limit key l (fold (best_with limit key) (best_with limit key o e) rest)) (append_assoc done (e ∷ []) rest)
       (fold-holds key (n + 1) (done ++ e ∷ []) rest (best_with limit key o e) (up_more n done e up numbered.0) numbered.1 (one-more limit key done e o (below n done e up numbered.0) holds))
 
+  pub best-of : (key : List ℕ) (n : ℕ) (entries : List Entry) → AreNumbered n entries → HoldsBest limit key entries (best_in limit key entries)
+  best-of key n entries numbered = fold-holds key n [] entries None tt numbered refl
+
   pub best-holds : (key : List ℕ) (entries : List Entry) → AreNumbered 0 entries → HoldsBest limit key entries (best_in limit key entries)
-  best-holds key entries numbered = fold-holds key 0 [] entries None tt numbered refl
+  best-holds key entries numbered = best-of key 0 entries numbered
 
   -- one that passes a test is a member
-  any-member : (f : Entry → Bool) (xs : List Entry) → list_any f xs ≡ true → (e : Entry) × Member e xs × (f e ≡ true)
+  pub any-member : (f : Entry → Bool) (xs : List Entry) → list_any f xs ≡ true → (e : Entry) × Member e xs × (f e ≡ true)
   any-member f [] some = absurd (false≢true some)
   any-member f (x ∷ xs) some = elim (cases_Bool (f x)) [
     | inl passes ↦ (x, inl refl, passes)
     | inr fails ↦ let more = any-member f xs (sym (ap (λ v. v || list_any f xs) fails) ∙ some) in (more.0, inr more.1, more.2)
   ]
 
-  member-any : (f : Entry → Bool) (e : Entry) (xs : List Entry) → Member e xs → f e ≡ true → list_any f xs ≡ true
+  pub member-any : (f : Entry → Bool) (e : Entry) (xs : List Entry) → Member e xs → f e ≡ true → list_any f xs ≡ true
   member-any f e [] in_it passes = absurd in_it
   member-any f e (x ∷ xs) (inl is) passes = ap (λ v. v || list_any f xs) (ap f is ∙ passes)
   member-any f e (x ∷ xs) (inr more) passes = or-true (f x) (list_any f xs) (member-any f e xs more passes)
@@ -65,16 +69,16 @@ module _ (limit : Option Version) where
           and-false true = refl
           and-false false = refl
 
-  and-parts : (a b : Bool) → (a && b) ≡ true → (a ≡ true) × (b ≡ true)
+  pub and-parts : (a b : Bool) → (a && b) ≡ true → (a ≡ true) × (b ≡ true)
   and-parts true b h = (refl, h)
   and-parts false b h = absurd (false≢true h)
 
-  not-true : (a : Bool) → not a ≡ true → a ≡ false
+  pub not-true : (a : Bool) → not a ≡ true → a ≡ false
   not-true true h = absurd (false≢true h)
   not-true false h = refl
 
   -- what wins is the best of its package, by its number
-  win-best : (entries : List Entry) → AreNumbered 0 entries → (f : Entry) → Member f entries → wins limit entries f ≡ true → (b : Entry) × (best_in limit f.key entries ≡ Some b) × (b.number ≡ f.number)
+  pub win-best : (entries : List Entry) → AreNumbered 0 entries → (f : Entry) → Member f entries → wins limit entries f ≡ true → (b : Entry) × (best_in limit f.key entries ≡ Some b) × (b.number ≡ f.number)
   win-best entries numbered f in_it winning = go (best_in limit f.key entries) refl (best-holds f.key entries numbered)
     where
       abbrev parts : (is_considered limit f ≡ true) × (not (list_any (λ e. beats limit e f) entries) ≡ true)

@@ -1,7 +1,9 @@
 pub mod Winning
 pub mod Entries
 pub mod Requests
+pub mod Members
 pub mod Words
 pub mod BestOf
 pub mod Bests
 pub mod Reads
+pub mod Laws
