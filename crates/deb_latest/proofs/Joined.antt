@@ -82,7 +82,7 @@ module _ (limit : Option Version) where
   winner-beats : (n : ℕ) (entries : List Entry) → AreNumbered n entries → (o e : Entry) → Member o entries → beats limit o e ≡ true → beaten (winners_in limit entries) e ≡ true
   winner-beats n entries numbered o e in_it it_beats = go (best_in limit o.key entries) (best-of limit o.key n entries numbered)
     where
-      abbrev p : (bytes_eq o.key e.key ≡ true) × ((is_considered limit o ≡ true) × (is_better o e ≡ true))
+      p : (bytes_eq o.key e.key ≡ true) × ((is_considered limit o ≡ true) × (is_better o e ≡ true))
       p = all-three (bytes_eq o.key e.key) (is_considered limit o) (is_better o e) it_beats
 
       go : (b : Option Entry) → HoldsBest limit o.key entries b → beaten (winners_in limit entries) e ≡ true

@@ -66,10 +66,13 @@ eq-and Greater t isnt f = isnt
 pub later-number : (e b : Entry) → b.number < e.number → is_gt (cmp e b) ≡ false → is_better e b ≡ false
 later-number e b below isnt = eq-and (cmp e b) (nat_lt e.number b.number) isnt (lt-not b.number e.number below)
 
+upto : (m n : ℕ) → nat_lt m n ≡ false → n ≤ m
+upto m n h = grind (arith, h)
+
 -- of two paragraphs of which neither is better, the numbers are equal
 one-number : (r s : Ordering) (m n : ℕ) → s ≡ ordering_reverse r → (is_gt r || (is_eq r && nat_lt m n)) ≡ false → (is_gt s || (is_eq s && nat_lt n m)) ≡ false → m ≡ n
 one-number Less s m n is h k = absurd (false≢true (sym k ∙ ap (λ s. is_gt s || (is_eq s && nat_lt n m)) is))
-one-number Equal s m n is h k = grind (arith, h, rw is at k)
+one-number Equal s m n is h k = omega (arith, upto m n h, upto n m (ap (λ s. is_gt s || (is_eq s && nat_lt n m)) (sym is) ∙ k))
 one-number Greater s m n is h k = absurd (false≢true (sym h))
 
 pub same-number : (e f : Entry) → is_better e f ≡ false → is_better f e ≡ false → e.number ≡ f.number

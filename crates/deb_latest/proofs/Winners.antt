@@ -81,7 +81,7 @@ module _ (limit : Option Version) where
   pub win-best : (entries : List Entry) → AreNumbered 0 entries → (f : Entry) → Member f entries → wins limit entries f ≡ true → (b : Entry) × (best_in limit f.key entries ≡ Some b) × (b.number ≡ f.number)
   win-best entries numbered f in_it winning = go (best_in limit f.key entries) refl (best-holds f.key entries numbered)
     where
-      abbrev parts : (is_considered limit f ≡ true) × (not (list_any (λ e. beats limit e f) entries) ≡ true)
+      parts : (is_considered limit f ≡ true) × (not (list_any (λ e. beats limit e f) entries) ≡ true)
       parts = and-parts (is_considered limit f) (not (list_any (λ e. beats limit e f) entries)) winning
 
       same_key : (k l : List ℕ) → k ≡ l → bytes_eq k l ≡ true
