@@ -17,8 +17,10 @@ mod kind;
 mod latest;
 pub mod laws;
 mod request;
+mod winners;
 mod words;
 
 pub use kind::Kind;
 pub use latest::Latest;
 pub use request::{By, Request};
+pub use winners::Winners;
