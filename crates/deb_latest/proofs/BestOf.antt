@@ -27,7 +27,7 @@ member-all P e [] all in_it = absurd in_it
 member-all P e (x ∷ xs) all (inl is) = subst P is all.0
 member-all P e (x ∷ xs) all (inr more) = member-all P e xs all.1 more
 
-member-none : (f : Entry → Bool) (e : Entry) (xs : List Entry) → list_any f xs ≡ false → Member e xs → f e ≡ false
+pub member-none : (f : Entry → Bool) (e : Entry) (xs : List Entry) → list_any f xs ≡ false → Member e xs → f e ≡ false
 member-none f e [] none in_it = absurd in_it
 member-none f e (x ∷ xs) none (inl is) = ap f (sym is) ∙ or-first (f x) (list_any f xs) none
   where

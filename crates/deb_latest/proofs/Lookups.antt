@@ -133,7 +133,7 @@ module _ {A S : Type 0} (limit : Option Version) (entries : List Entry) (numbere
       let e = found.1 in
       let at : get_by (λ q. bytes_eq e.0.items q.items) bests ≡ Some e.1 = lookup-from_Contains alike e.0 e.1 bests.entries distinct (found.0, found.2, found.3) in
       let best : Some (best_kept e.1) ≡ option_map kept_of (best_in limit e.0.items entries) = sym (ap (option_map best_kept) at) ∙ are e.0.items in
-      go e.0.items (best_in limit e.0.items entries) refl (e.1.number) (eqb-true k e.1.number found.4) (best_kept e.1) refl best
+      go e.0.items (best_in limit e.0.items entries) refl (e.1.number) (sym (eqb-true k e.1.number found.4)) (best_kept e.1) refl best
     where
       go : (key : List ℕ) (o : Option Entry) → best_in limit key entries ≡ o → (number : ℕ) → number ≡ k → (kept : List ℕ × ℕ) → kept.1 ≡ number → Some kept ≡ option_map kept_of o → list_any (eqb k) (winners limit entries) ≡ true
       go key None is number equal kept of best = absurd (cc)

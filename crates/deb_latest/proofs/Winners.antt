@@ -108,7 +108,7 @@ module _ (limit : Option Version) where
       let found = any-member (λ e. eqb k e.number && wins limit entries e) entries (sym (among-filter k (wins limit entries) entries) ∙ among) in
       let passes = and-parts (eqb k found.0.number) (wins limit entries found.0) found.2 in
       let best = win-best entries numbered found.0 found.1 passes.1 in
-      let is : found.0.number ≡ k = eqb-true k found.0.number passes.0 in
+      let is : found.0.number ≡ k = sym (eqb-true k found.0.number passes.0) in
       (found.0.key, best.0, best.1, best.2 ∙ is)
 
   pub best-among : (k : ℕ) (key : List ℕ) (b : Entry) (entries : List Entry) → AreNumbered 0 entries → best_in limit key entries ≡ Some b → b.number ≡ k → list_any (eqb k) (winners limit entries) ≡ true

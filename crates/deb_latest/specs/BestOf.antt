@@ -46,4 +46,4 @@ worked-best : (map (λ key. option_map (λ e. e.number) (best_in None key some))
 worked-best = (refl, refl)
 
 worked-numbered : AreNumbered 0 some
-worked-numbered = (refl, refl, refl, refl, tt)
+worked-numbered = (refl, (refl, (refl, (refl, tt))))
