@@ -122,7 +122,7 @@ one_truth true b f g = sym (f refl)
 one_truth false true f g = g refl
 one_truth false false f g = refl
 
-abbrev number_in : {K : Type 0} → K × Best → ℕ
+abbrev pub number_in : {K : Type 0} → K × Best → ℕ
 number_in e = e.1.number
 
 -- the numbers in a map of the best paragraphs are those of the paragraphs that win

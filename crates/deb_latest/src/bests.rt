@@ -48,7 +48,7 @@ pub(crate) fn put(
 
 /// Returns whether a version is later than that of the best paragraph, or there is none.
 fn is_later(best: Option<&Best>, version: &[u8]) -> bool
-    ensures { result ≡ is_later_kept (option_map best_kept (option_copied best)) version.now }
+    ensures { result ≡ is_later_kept (option_map best_kept (option_copied best.entry)) version.now }
 {
     match best {
         None => true,
