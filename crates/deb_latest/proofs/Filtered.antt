@@ -1,23 +1,17 @@
 -- Which paragraphs win of a list, of its winners, and of two lists.
-use Rattle.std.proofs.Common.{◌≡◌, ℕ, ◌+◌, Bool, true, false, ◌&&◌, ◌||◌, not, cond, nat_lt, List, [], ◌∷◌, ◌++◌, length, Option, None, Some, refl, sym, ap, ◌∙◌, inl, inr, subst, arith}
+use Rattle.std.proofs.Common.{◌≡◌, ℕ, Bool, true, false, ◌&&◌, ◌||◌, not, cond, List, [], ◌∷◌, ◌++◌, Option, None, Some, refl, sym, ap, ◌∙◌, inl, inr, subst}
 use Rattle.std.specs.List.{filter, list_any}
-use Rattle.std.specs.Ordering.{is_eq, is_gt, ordering_reverse}
 use Rattle.std.specs.Str.{bytes_eq}
-use Rattle.std.specs.declared.cmp.Ordering.{Ordering}
-use Rattle.std.specs.declared.cmp.Ordering.TheVariants.{Less, Equal, Greater}
-use Rattle.std.proofs.lemmas.Bool.{cases_Bool, false≢true}
-use Rattle.std.proofs.lemmas.List.Folds.{list_any-append}
+use Rattle.std.proofs.lemmas.Bool.{false≢true}
 use Rattle.std.proofs.lemmas.Slice.Eq.{bytes_eq-Decides}
-use Rattle.deb_version.specs.Order.{version_cmp}
-use Rattle.deb_version.specs.OrderLemmas.{version_total}
 use Rattle.deb_version.specs.Parts.{Meaning as Version}
 use Rattle.deb_latest.specs.BestOf.{AreNumbered, best_in}
 use Rattle.deb_latest.specs.Laws.{HasOneWinner, IsLatest}
 use Rattle.deb_latest.specs.Members.{Member}
 use Rattle.deb_latest.specs.Winning.{Entry, beats, is_better, is_considered, winners_in, wins}
 use Rattle.deb_latest.proofs.BestOf.{HoldsBest, IsBest, member-none}
-use Rattle.deb_latest.proofs.Ordered.{not-gt, reversed}
-use Rattle.deb_latest.proofs.Winners.{and-parts, any-member, best-holds, best-of, member-any, not-true, win-best}
+use Rattle.deb_latest.proofs.Ordered.{not-gt}
+use Rattle.deb_latest.proofs.Winners.{and-parts, best-holds, not-true, win-best}
 
 in-filter : (p : Entry → Bool) (e : Entry) (xs : List Entry) → Member e xs → p e ≡ true → Member e (filter p xs)
 in-filter p e [] in_it passes = in_it

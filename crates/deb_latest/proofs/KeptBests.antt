@@ -1,5 +1,5 @@
 -- A map of the best paragraphs after one more paragraph.
-use Rattle.std.proofs.Common.{◌≡◌, ℕ, ◌+◌, Bool, true, false, ◌&&◌, cond, List, [], ◌∷◌, ◌++◌, Option, None, Some, IfSome, OnOk, Result, Ok, Err, option_map, Vec, refl, sym, ap, ◌∙◌, inl, inr}
+use Rattle.std.proofs.Common.{◌≡◌, ℕ, Bool, true, false, ◌&&◌, cond, List, [], ◌∷◌, ◌++◌, Option, None, Some, IfSome, OnOk, Result, Ok, Err, option_map, Vec, refl, sym, ap, ◌∙◌, inl, inr}
 use Rattle.std.specs.Global.{Global}
 use Rattle.std.specs.List.{AllByRecursion, fold}
 use Rattle.std.specs.Ordering.{is_gt, is_lt, ordering_reverse}
@@ -10,7 +10,6 @@ use Rattle.std.proofs.lemmas.Bool.{cases_Bool}
 use Rattle.std.proofs.lemmas.List.Sums.{fold-append}
 use Rattle.std.proofs.lemmas.Slice.Eq.{bytes_eq-Decides}
 use Rattle.indexmap.specs.IndexMap.{IndexMap}
-use Rattle.deb_version.specs.Grammar.{SpellsVersion}
 use Rattle.deb_version.specs.Keys.{byte_order, version_key}
 use Rattle.deb_version.specs.Order.{version_cmp}
 use Rattle.deb_version.specs.Parts.{Meaning as Version}

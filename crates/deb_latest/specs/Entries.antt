@@ -1,5 +1,5 @@
--- What counts of a paragraph: which package it is of, and its version. Debian Policy 5.3, 5.4, 5.6.7,
--- 5.6.8 and 5.6.12.
+-- What counts of a paragraph: which package it is of, and its version. Debian Policy 5.3, 5.4,
+-- 5.6.7, 5.6.8 and 5.6.12.
 use Rattle.std.specs.Prelude.{◌≡◌, ℕ, ◌+◌, List, [], ◌∷◌, ◌++◌, map, Option, None, Some, codes, refl}
 use Rattle.deb_base.specs.declared.doc.Doc.{Doc}
 use Rattle.deb_base.specs.declared.doc.Doc.TheVariants as docs

@@ -1,23 +1,23 @@
 -- What holds of the paragraphs with the latest versions.
-use Rattle.std.specs.Prelude.{◌≡◌, ℕ, ◌⊎◌, List, [], ◌∷◌, ◌++◌, Option, true, false}
+use Rattle.std.specs.Prelude.{◌≡◌, ℕ, List, ◌++◌, Option, true, false}
 use Rattle.std.specs.Ordering.{is_gt}
 use Rattle.deb_version.specs.Order.{version_cmp}
 use Rattle.deb_version.specs.Parts.{Meaning as Version}
 use Rattle.deb_control.specs.Documents.{Accepted, Meaning, canonical_text}
 use Rattle.deb_latest.specs.BestOf.{AreNumbered}
-use Rattle.deb_latest.specs.Entries.{doc_of, entries_of}
+use Rattle.deb_latest.specs.Entries.{doc_of}
 use Rattle.deb_latest.specs.Members.{Member}
 use Rattle.deb_latest.specs.Requests.{Asked, latest_of}
 use Rattle.deb_latest.specs.Winning.{Entry, is_considered, winners_in}
 
 -- Of a package with a considered paragraph one wins, and no other of the package.
 pub record HasOneWinner (limit : Option Version) (entries : List Entry) (key : List ℕ) : Type 0
-    where
-  pub winner : Entry
-  pub member : Member winner (winners_in limit entries)
-  pub of : winner.key ≡ key
-  pub only : (e : Entry) → Member e (winners_in limit entries) → e.key ≡ key
-      → e.number ≡ winner.number
+  where
+    pub winner : Entry
+    pub member : Member winner (winners_in limit entries)
+    pub of : winner.key ≡ key
+    pub only : (e : Entry) → Member e (winners_in limit entries) → e.key ≡ key
+        → e.number ≡ winner.number
 
 abbrev pub EachPackageHasOneWinner : Type 0
 EachPackageHasOneWinner =

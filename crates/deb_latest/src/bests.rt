@@ -1,7 +1,6 @@
 //! The latest version of each package so far.
 
-ghost use Rattle.std.specs.Prelude.{◌≡◌, ℕ, List, Option, cond, map, IfOk, OnOk, Some};
-ghost use Rattle.std.specs.Map.{values_of};
+ghost use Rattle.std.specs.Prelude.{◌≡◌, ℕ, List, Option, cond, IfOk, OnOk, Some};
 ghost use Rattle.std.specs.Option.{option_map, option_copied};
 ghost use Rattle.std.specs.Str.{bytes_eq};
 ghost use Rattle.deb_version.specs.Parts.{Meaning};

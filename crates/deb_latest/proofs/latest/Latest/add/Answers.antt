@@ -1,4 +1,4 @@
-use Rattle.std.proofs.Common.{◌≡◌, ◌+◌, ◌∷◌, [], ℕ, false, true, option_map, sym, ap, ◌∙◌, length-append}
+use Rattle.std.proofs.Common.{◌≡◌, ◌+◌, ◌∷◌, [], false, true, option_map, sym, ap, ◌∙◌, length-append}
 use Rattle.deb_latest.specs.Bests.{is_before_kept}
 use Rattle.deb_latest.specs.Entries.{key_of_words}
 use Rattle.deb_latest.specs.Reads.{IsSpelled}
@@ -10,9 +10,9 @@ pub returns-then-not-is_before-clause-entries : goal.returns-then-not-is_before-
 returns-then-not-is_before-clause-entries c = λ asked entries e has is.
     let self = c.args.self.now in
     let apart : is_considered asked.limit e ≡ false =
-        sym (before-same self.limit asked.limit e has.limit is.spelled)
-        ∙ sym (ap (is_before_kept (option_map (λ l. l.items) self.limit)) (c.deref.ensures.value ∙ is.version))
-        ∙ sym c.is_before.ensures ∙ c.if-not-is_before.true in
+    sym (before-same self.limit asked.limit e has.limit is.spelled)
+    ∙ sym (ap (is_before_kept (option_map (λ l. l.items) self.limit)) (c.deref.ensures.value ∙ is.version))
+    ∙ sym c.is_before.ensures ∙ c.if-not-is_before.true in
     record {
       kind = has.kind;
       by = has.by;
@@ -27,9 +27,9 @@ returns-clause-entries c = λ asked entries e has is.
     let self = c.args.self.now in
     let words = c.args.words.now in
     let considered : is_considered asked.limit e ≡ true =
-        sym (before-same self.limit asked.limit e has.limit is.spelled)
-        ∙ sym (ap (is_before_kept (option_map (λ l. l.items) self.limit)) (c.deref.ensures.value ∙ is.version))
-        ∙ sym c.is_before.ensures ∙ c.if-not-is_before.false in
+    sym (before-same self.limit asked.limit e has.limit is.spelled)
+    ∙ sym (ap (is_before_kept (option_map (λ l. l.items) self.limit)) (c.deref.ensures.value ∙ is.version))
+    ∙ sym c.is_before.ensures ∙ c.if-not-is_before.false in
     on_ok
     (λ put. record {
       kind = has.kind;
