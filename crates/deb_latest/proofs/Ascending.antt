@@ -86,26 +86,25 @@ one_ascending (x ∷ xs) (y ∷ ys) s t same =
 abbrev numbers : (Entry → Bool) → List Entry → List ℕ
 numbers p entries = map (λ e. e.number) (filter p entries)
 
+above : (j k : ℕ) → j < k → nat_cmp j k ≡ Less
+above j k h = grind (arith, h)
+
 numbers-above : (low n : ℕ) (p : Entry → Bool) (entries : List Entry) → low ≤ n → AreNumbered n entries → AllByRecursion (λ k. nat_cmp low k ≡ Less) (numbers p entries)
 numbers-above low n p [] below is = tt
-numbers-above low n p (e ∷ entries) below is = go (p e)
+numbers-above low n p (e ∷ entries) below is = go (p e) (above low e.number (omega (arith, below, is.0))) (numbers-above low (n + 1) p entries (omega (arith, below)) is.1)
   where
-    go : (v : Bool) → AllByRecursion (λ k. nat_cmp low k ≡ Less) (map (λ e. e.number) (cond v (e ∷ filter p entries) (filter p entries)))
-    go true = (above low e.number (omega (arith, below, is.0)), numbers-above low (n + 1) p entries (omega (arith, below)) is.1)
-      where
-        above : (j k : ℕ) → j < k → nat_cmp j k ≡ Less
-        above j k h = grind (arith, h)
-    go false = numbers-above low (n + 1) p entries (omega (arith, below)) is.1
+    go : (v : Bool) → nat_cmp low e.number ≡ Less → AllByRecursion (λ k. nat_cmp low k ≡ Less) (numbers p entries) → AllByRecursion (λ k. nat_cmp low k ≡ Less) (map (λ e. e.number) (cond v (e ∷ filter p entries) (filter p entries)))
+    go true one rest = (one, rest)
+    go false one rest = rest
 
 pub numbers-ascend : (n : ℕ) (p : Entry → Bool) (entries : List Entry) → AreNumbered n entries → IsStrictlySortedBy nat_cmp (map (λ e. e.number) (filter p entries))
 unfolding IsStrictlySortedBy
 numbers-ascend n p [] is = tt
-numbers-ascend n p (e ∷ entries) is = go (p e)
+numbers-ascend n p (e ∷ entries) is = go (p e) (numbers-above e.number (n + 1) p entries (omega (arith, is.0)) is.1) (numbers-ascend (n + 1) p entries is.1)
   where
-    go : (v : Bool) → IsStrictlySortedBy nat_cmp (map (λ e. e.number) (cond v (e ∷ filter p entries) (filter p entries)))
-    unfolding IsStrictlySortedBy
-    go true = (numbers-above e.number (n + 1) p entries (omega (arith, is.0)) is.1, numbers-ascend (n + 1) p entries is.1)
-    go false = numbers-ascend (n + 1) p entries is.1
+    go : (v : Bool) → AllByRecursion (λ k. nat_cmp e.number k ≡ Less) (numbers p entries) → IsStrictlySortedBy nat_cmp (numbers p entries) → IsStrictlySortedBy nat_cmp (map (λ e. e.number) (cond v (e ∷ filter p entries) (filter p entries)))
+    go true one rest = (one, rest)
+    go false one rest = rest
 
 -- numbers that are those of an ascending list are, sorted and each kept once, that list
 pub merged : (joined sorted ascending : List ℕ) → IsPermutation joined sorted → IsSorted nat_cmp sorted → IsStrictlySortedBy nat_cmp ascending

@@ -1,6 +1,6 @@
 -- The best paragraph of a package is the one that wins.
-use Rattle.std.proofs.Common.{◌≡◌, ℕ, ◌+◌, ◌<◌, ◌⊎◌, Bool, true, false, ◌&&◌, ◌||◌, not, cond, nat_lt, List, [], ◌∷◌, ◌++◌, map, Option, None, Some, IfSome, refl, sym, ap, ◌∙◌, inl, inr, subst, arith}
-use Rattle.std.specs.List.{AllByRecursion, filter, fold, list_any}
+use Rattle.std.proofs.Common.{◌≡◌, ℕ, ◌<◌, Bool, true, false, ◌&&◌, ◌||◌, cond, List, [], ◌∷◌, ◌++◌, Option, None, Some, refl, sym, ap, ◌∙◌, inl, inr, subst}
+use Rattle.std.specs.List.{AllByRecursion, list_any}
 use Rattle.std.specs.Ordering.{is_gt}
 use Rattle.std.specs.Str.{bytes_eq}
 use Rattle.std.proofs.lemmas.Bool.{cases_Bool, false≢true}
@@ -8,10 +8,10 @@ use Rattle.std.proofs.lemmas.List.Folds.{list_any-append}
 use Rattle.std.proofs.lemmas.Slice.Eq.{bytes_eq-Decides}
 use Rattle.deb_version.specs.Order.{version_cmp}
 use Rattle.deb_version.specs.Parts.{Meaning as Version}
-use Rattle.deb_latest.specs.BestOf.{best_in, best_with, later_of}
+use Rattle.deb_latest.specs.BestOf.{best_with, later_of}
 use Rattle.deb_latest.specs.Members.{Member}
-use Rattle.deb_latest.specs.Winning.{Entry, beats, is_better, is_considered, winners, winners_in, wins}
-use Rattle.deb_latest.proofs.Ordered.{later-number, not-better, not-itself, same-number}
+use Rattle.deb_latest.specs.Winning.{Entry, beats, is_better, is_considered}
+use Rattle.deb_latest.proofs.Ordered.{later-number, not-better, not-itself}
 
 pub member-append : (e : Entry) (xs ys : List Entry) → Member e xs → Member e (xs ++ ys)
 member-append e [] ys in_it = absurd in_it
@@ -27,7 +27,7 @@ member-all P e [] all in_it = absurd in_it
 member-all P e (x ∷ xs) all (inl is) = subst P is all.0
 member-all P e (x ∷ xs) all (inr more) = member-all P e xs all.1 more
 
-member-none : (f : Entry → Bool) (e : Entry) (xs : List Entry) → list_any f xs ≡ false → Member e xs → f e ≡ false
+pub member-none : (f : Entry → Bool) (e : Entry) (xs : List Entry) → list_any f xs ≡ false → Member e xs → f e ≡ false
 member-none f e [] none in_it = absurd in_it
 member-none f e (x ∷ xs) none (inl is) = ap f (sym is) ∙ or-first (f x) (list_any f xs) none
   where

@@ -1,23 +1,17 @@
 -- Which paragraphs win of a list, of its winners, and of two lists.
-use Rattle.std.proofs.Common.{◌≡◌, ℕ, ◌+◌, Bool, true, false, ◌&&◌, ◌||◌, not, cond, nat_lt, List, [], ◌∷◌, ◌++◌, length, Option, None, Some, refl, sym, ap, ◌∙◌, inl, inr, subst, arith}
+use Rattle.std.proofs.Common.{◌≡◌, ℕ, Bool, true, false, ◌&&◌, ◌||◌, not, cond, List, [], ◌∷◌, ◌++◌, Option, None, Some, refl, sym, ap, ◌∙◌, inl, inr, subst}
 use Rattle.std.specs.List.{filter, list_any}
-use Rattle.std.specs.Ordering.{is_eq, is_gt, ordering_reverse}
 use Rattle.std.specs.Str.{bytes_eq}
-use Rattle.std.specs.declared.cmp.Ordering.{Ordering}
-use Rattle.std.specs.declared.cmp.Ordering.TheVariants.{Less, Equal, Greater}
-use Rattle.std.proofs.lemmas.Bool.{cases_Bool, false≢true}
-use Rattle.std.proofs.lemmas.List.Folds.{list_any-append}
+use Rattle.std.proofs.lemmas.Bool.{false≢true}
 use Rattle.std.proofs.lemmas.Slice.Eq.{bytes_eq-Decides}
-use Rattle.deb_version.specs.Order.{version_cmp}
-use Rattle.deb_version.specs.OrderLemmas.{version_total}
 use Rattle.deb_version.specs.Parts.{Meaning as Version}
 use Rattle.deb_latest.specs.BestOf.{AreNumbered, best_in}
 use Rattle.deb_latest.specs.Laws.{HasOneWinner, IsLatest}
 use Rattle.deb_latest.specs.Members.{Member}
 use Rattle.deb_latest.specs.Winning.{Entry, beats, is_better, is_considered, winners_in, wins}
 use Rattle.deb_latest.proofs.BestOf.{HoldsBest, IsBest, member-none}
-use Rattle.deb_latest.proofs.Ordered.{not-gt, reversed}
-use Rattle.deb_latest.proofs.Winners.{and-parts, any-member, best-holds, best-of, member-any, not-true, win-best}
+use Rattle.deb_latest.proofs.Ordered.{not-gt}
+use Rattle.deb_latest.proofs.Winners.{and-parts, best-holds, not-true, win-best}
 
 in-filter : (p : Entry → Bool) (e : Entry) (xs : List Entry) → Member e xs → p e ≡ true → Member e (filter p xs)
 in-filter p e [] in_it passes = in_it
@@ -30,28 +24,26 @@ in-filter p e (x ∷ xs) (inr more) passes = go (p x) (in-filter p e xs more pas
 
 from-filter : (p : Entry → Bool) (e : Entry) (xs : List Entry) → Member e (filter p xs) → Member e xs × (p e ≡ true)
 from-filter p e [] in_it = absurd in_it
-from-filter p e (x ∷ xs) in_it = go (p x) refl in_it
+from-filter p e (x ∷ xs) in_it = go (p x) refl (λ later. let more = from-filter p e xs later in (inr more.0, more.1)) in_it
   where
-    rest : Member e (filter p xs) → Member e (x ∷ xs) × (p e ≡ true)
-    rest later = let more = from-filter p e xs later in (inr more.0, more.1)
+    go : (v : Bool) → p x ≡ v → (Member e (filter p xs) → Member e (x ∷ xs) × (p e ≡ true)) → Member e (cond v (x ∷ filter p xs) (filter p xs)) → Member e (x ∷ xs) × (p e ≡ true)
+    go true is rest (inl same) = (inl same, ap p (sym same) ∙ is)
+    go true is rest (inr later) = rest later
+    go false is rest later = rest later
 
-    go : (v : Bool) → p x ≡ v → Member e (cond v (x ∷ filter p xs) (filter p xs)) → Member e (x ∷ xs) × (p e ≡ true)
-    go true is (inl same) = (inl same, ap p (sym same) ∙ is)
-    go true is (inr later) = rest later
-    go false is later = rest later
+pub or-parts : (a b : Bool) → (a || b) ≡ false → (a ≡ false) × (b ≡ false)
+or-parts true b h = absurd (false≢true (sym h))
+or-parts false b h = (refl, h)
 
 pub none-filter : (f p : Entry → Bool) (xs : List Entry) → list_any f xs ≡ false → list_any f (filter p xs) ≡ false
 none-filter f p [] none = refl
-none-filter f p (x ∷ xs) none = go (p x) (f x) none
+none-filter f p (x ∷ xs) none =
+    let both = or-parts (f x) (list_any f xs) none in
+    go (p x) both.0 (none-filter f p xs both.1)
   where
-    go : (v a : Bool) → (a || list_any f xs) ≡ false → list_any f (cond v (x ∷ filter p xs) (filter p xs)) ≡ false
-    go v true h = absurd (false≢true (sym h))
-    go true false h = first (f x) none (none-filter f p xs h)
-      where
-        first : (a : Bool) → (a || list_any f xs) ≡ false → list_any f (filter p xs) ≡ false → (a || list_any f (filter p xs)) ≡ false
-        first true h later = absurd (false≢true (sym h))
-        first false h later = later
-    go false false h = none-filter f p xs h
+    go : (v : Bool) → f x ≡ false → list_any f (filter p xs) ≡ false → list_any f (cond v (x ∷ filter p xs) (filter p xs)) ≡ false
+    go true here later = ap (λ b. b || list_any f (filter p xs)) here ∙ later
+    go false here later = later
 
 pub filter-append : (p : Entry → Bool) (xs ys : List Entry) → filter p (xs ++ ys) ≡ filter p xs ++ filter p ys
 filter-append p [] ys = refl
@@ -64,15 +56,12 @@ filter-append p (x ∷ xs) ys = ap (λ l. cond (p x) (x ∷ l) l) (filter-append
 -- a filter of what another keeps, where on the list one test is both
 pub filter-both : (p q r : Entry → Bool) (xs : List Entry) → ((e : Entry) → Member e xs → r e ≡ (p e && q e)) → filter q (filter p xs) ≡ filter r xs
 filter-both p q r [] same = refl
-filter-both p q r (x ∷ xs) same = go (p x) (q x) refl (r x) (same x (inl refl))
+filter-both p q r (x ∷ xs) same = go (p x) (q x) refl (r x) (same x (inl refl)) (filter-both p q r xs (λ e more. same e (inr more)))
   where
-    rest : filter q (filter p xs) ≡ filter r xs
-    rest = filter-both p q r xs (λ e more. same e (inr more))
-
-    go : (v w : Bool) → q x ≡ w → (u : Bool) → u ≡ (v && w) → filter q (cond v (x ∷ filter p xs) (filter p xs)) ≡ cond u (x ∷ filter r xs) (filter r xs)
-    go false w qs u us = rest ∙ ap (λ u. cond u (x ∷ filter r xs) (filter r xs)) (sym us)
-    go true true qs u us = ap (λ w. cond w (x ∷ filter q (filter p xs)) (filter q (filter p xs))) qs ∙ ap (λ l. x ∷ l) rest ∙ ap (λ u. cond u (x ∷ filter r xs) (filter r xs)) (sym us)
-    go true false qs u us = ap (λ w. cond w (x ∷ filter q (filter p xs)) (filter q (filter p xs))) qs ∙ rest ∙ ap (λ u. cond u (x ∷ filter r xs) (filter r xs)) (sym us)
+    go : (v w : Bool) → q x ≡ w → (u : Bool) → u ≡ (v && w) → filter q (filter p xs) ≡ filter r xs → filter q (cond v (x ∷ filter p xs) (filter p xs)) ≡ cond u (x ∷ filter r xs) (filter r xs)
+    go false w qs u us rest = rest ∙ ap (λ u. cond u (x ∷ filter r xs) (filter r xs)) (sym us)
+    go true true qs u us rest = ap (λ w. cond w (x ∷ filter q (filter p xs)) (filter q (filter p xs))) qs ∙ ap (λ l. x ∷ l) rest ∙ ap (λ u. cond u (x ∷ filter r xs) (filter r xs)) (sym us)
+    go true false qs u us rest = ap (λ w. cond w (x ∷ filter q (filter p xs)) (filter q (filter p xs))) qs ∙ rest ∙ ap (λ u. cond u (x ∷ filter r xs) (filter r xs)) (sym us)
 
 both-true : (a b : Bool) → a ≡ true → b ≡ true → (a && b) ≡ true
 both-true true b h k = k
@@ -83,10 +72,6 @@ both-iff true b c f g = sym (both-true b c (f refl).0 (f refl).1)
 both-iff false true true f g = g refl refl
 both-iff false true false f g = refl
 both-iff false false c f g = refl
-
-pub or-parts : (a b : Bool) → (a || b) ≡ false → (a ≡ false) × (b ≡ false)
-or-parts true b h = absurd (false≢true (sym h))
-or-parts false b h = (refl, h)
 
 module _ (limit : Option Version) where
   abbrev beaten : List Entry → Entry → Bool

@@ -1,5 +1,5 @@
 -- Which paragraphs win of two lists: those that win among the winners of each.
-use Rattle.std.proofs.Common.{◌≡◌, ℕ, ◌+◌, Bool, true, false, ◌&&◌, ◌||◌, not, nat_lt, List, [], ◌∷◌, ◌++◌, length, Option, None, Some, refl, sym, ap, ◌∙◌, inl, inr, subst, arith}
+use Rattle.std.proofs.Common.{◌≡◌, ℕ, ◌+◌, Bool, true, false, ◌&&◌, ◌||◌, not, nat_lt, List, [], ◌∷◌, ◌++◌, Option, None, Some, refl, sym, ap, ◌∙◌, inl, inr, arith}
 use Rattle.std.specs.List.{filter, list_any}
 use Rattle.std.specs.Ordering.{is_eq, is_gt, ordering_reverse}
 use Rattle.std.specs.Str.{bytes_eq}
@@ -17,7 +17,7 @@ use Rattle.deb_latest.specs.Winning.{Entry, beats, is_better, is_considered, win
 use Rattle.deb_latest.proofs.BestOf.{HoldsBest, member-none}
 use Rattle.deb_latest.proofs.Filtered.{best-wins, both-iff, filter-append, filter-both, none-filter, or-parts, parts, won}
 use Rattle.deb_latest.proofs.Ordered.{not-gt, reversed}
-use Rattle.deb_latest.proofs.Winners.{and-parts, any-member, best-of, member-any}
+use Rattle.deb_latest.proofs.Winners.{any-member, best-of, member-any}
 
 gt-better : (b e : Entry) → version_cmp b.version e.version ≡ Greater → is_better b e ≡ true
 gt-better b e is = ap (λ r. is_gt r || (is_eq r && nat_lt b.number e.number)) is

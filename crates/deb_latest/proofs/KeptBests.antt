@@ -1,21 +1,24 @@
 -- A map of the best paragraphs after one more paragraph.
-use Rattle.std.proofs.Common.{◌≡◌, ℕ, ◌+◌, Bool, true, false, ◌&&◌, cond, List, [], ◌∷◌, ◌++◌, Option, None, Some, IfSome, option_map, Vec, refl, sym, ap, ◌∙◌}
+use Rattle.std.proofs.Common.{◌≡◌, ℕ, Bool, true, false, ◌&&◌, cond, List, [], ◌∷◌, ◌++◌, Option, None, Some, IfSome, OnOk, Result, Ok, Err, option_map, Vec, refl, sym, ap, ◌∙◌, inl, inr}
 use Rattle.std.specs.Global.{Global}
 use Rattle.std.specs.List.{AllByRecursion, fold}
 use Rattle.std.specs.Ordering.{is_gt, is_lt, ordering_reverse}
 use Rattle.std.specs.Str.{bytes_eq}
 use Rattle.std.specs.declared.cmp.Ordering.{Ordering}
 use Rattle.std.specs.declared.cmp.Ordering.TheVariants.{Less, Equal, Greater}
+use Rattle.std.proofs.lemmas.Bool.{cases_Bool}
 use Rattle.std.proofs.lemmas.List.Sums.{fold-append}
-use Rattle.deb_version.specs.Grammar.{SpellsVersion}
+use Rattle.std.proofs.lemmas.Slice.Eq.{bytes_eq-Decides}
+use Rattle.indexmap.specs.IndexMap.{IndexMap}
 use Rattle.deb_version.specs.Keys.{byte_order, version_key}
 use Rattle.deb_version.specs.Order.{version_cmp}
 use Rattle.deb_version.specs.Parts.{Meaning as Version}
 use Rattle.deb_version.proofs.KeyOrder.{keys_sort_spelled}
 use Rattle.deb_latest.specs.BestOf.{best_in, best_with, later_of}
-use Rattle.deb_latest.specs.Bests.{is_before_kept, kept_of, later_kept}
+use Rattle.deb_latest.specs.Bests.{AreBests, best_under, is_before_kept, kept_of, later_kept}
 use Rattle.deb_latest.specs.Reads.{IsLimit, IsSpelled}
 use Rattle.deb_latest.specs.Winning.{Entry, is_considered}
+use Rattle.deb_latest.specs.declared.bests.Best.{Best}
 use Rattle.deb_latest.proofs.Ordered.{reversed}
 
 -- the best of spelled versions is spelled
@@ -91,3 +94,29 @@ before-same (Some key) (Some limit) e is spelled =
 pub all-push : (P : Entry → Type 0) (entries : List Entry) (e : Entry) → AllByRecursion P entries → P e → AllByRecursion P (entries ++ e ∷ [])
 all-push P [] e all one = (one, tt)
 all-push P (x ∷ entries) e all one = (all.0, all-push P entries e all.1 one)
+
+moved-key : (f : List ℕ → Option (List ℕ × ℕ)) (key other : List ℕ) (kept : List ℕ × ℕ) (o : Option (List ℕ × ℕ)) → cond (bytes_eq key other) (Some (later_kept (f key) kept)) o ≡ cond (bytes_eq key other) (Some (later_kept (f other) kept)) o
+moved-key f key other kept o =
+    elim (cases_Bool (bytes_eq key other)) [
+      | inl equal ↦ ap (λ l. cond (bytes_eq key other) (Some (later_kept (f l) kept)) o) ((bytes_eq-Decides key other).0 equal)
+      | inr apart ↦ ap (λ v. cond v (Some (later_kept (f key) kept)) o) apart ∙ sym (ap (λ v. cond v (Some (later_kept (f other) kept)) o) apart)
+    ]
+
+-- so a map of the best paragraphs is one after a considered paragraph was put
+pub bests-more : {A S : Type 0} (limit : Option Version) (entries : List Entry) (e : Entry) (old new : IndexMap (Vec ℕ A) Best S) (key version : List ℕ) (number : ℕ)
+    → AllByRecursion IsSpelled entries → IsSpelled e → AreBests limit entries old → is_considered limit e ≡ true → key ≡ e.key → version ≡ version_key e.version → number ≡ e.number
+    → ((other : List ℕ) → best_under new other ≡ cond (bytes_eq key other) (Some (later_kept (best_under old key) (version, number))) (best_under old other))
+    → AreBests limit (entries ++ e ∷ []) new
+bests-more limit entries e old new key version number spelled one are considered key_is version_is number_is put = λ other.
+    let best = option_map kept_of (best_in limit other entries) in
+    put other
+    ∙ moved-key (λ l. best_under old l) key other (version, number) (best_under old other)
+    ∙ ap (λ b. cond (bytes_eq key other) (Some (later_kept b (version, number))) b) (are other)
+    ∙ ap (λ k. cond (bytes_eq k other) (Some (later_kept best (version, number))) best) key_is
+    ∙ ap (λ v. cond (bytes_eq e.key other) (Some (later_kept best (v, number))) best) version_is
+    ∙ ap (λ n. cond (bytes_eq e.key other) (Some (later_kept best (version_key e.version, n))) best) number_is
+    ∙ put-more limit entries e spelled one other considered
+
+pub on_ok : {T E A B : Type 0} → (A → B) → (result : Result T E) → OnOk result A → OnOk result B
+on_ok f (Ok x) h = f h
+on_ok f (Err e) h = h

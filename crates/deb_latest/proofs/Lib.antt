@@ -6,6 +6,7 @@ pub mod Joined
 pub mod Ascending
 pub mod WordsKept
 pub mod Said
+pub mod Packages
 pub mod KeptBests
 pub mod Lookups
 pub mod Reading

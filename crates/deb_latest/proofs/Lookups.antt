@@ -1,8 +1,8 @@
 -- What a map from bytes has, after a change and among its entries.
-use Rattle.std.proofs.Common.{◌≡◌, ℕ, Bool, true, false, ◌||◌, cond, eqb, List, [], ◌∷◌, map, Option, None, Some, option_map, refl, sym, ap, ◌∙◌, inl, inr, subst, arith}
+use Rattle.std.proofs.Common.{◌≡◌, ℕ, Bool, true, false, ◌||◌, cond, eqb, List, [], ◌∷◌, map, Option, None, Some, option_map, refl, sym, ap, ◌∙◌, inl, inr, arith}
 use Rattle.std.specs.Cmp.{IsEquivalence}
 use Rattle.std.specs.List.{list_any}
-use Rattle.std.specs.Map.{KeepsOthers, keys_of, lookup}
+use Rattle.std.specs.Map.{KeepsOthers, lookup}
 use Rattle.std.specs.Prelude.{Vec}
 use Rattle.std.specs.Str.{bytes_eq}
 use Rattle.std.proofs.lemmas.Bool.{cases_Bool, eqb-true, false≢true}
@@ -122,7 +122,7 @@ one_truth true b f g = sym (f refl)
 one_truth false true f g = g refl
 one_truth false false f g = refl
 
-abbrev number_in : {K : Type 0} → K × Best → ℕ
+abbrev pub number_in : {K : Type 0} → K × Best → ℕ
 number_in e = e.1.number
 
 -- the numbers in a map of the best paragraphs are those of the paragraphs that win
@@ -133,7 +133,7 @@ module _ {A S : Type 0} (limit : Option Version) (entries : List Entry) (numbere
       let e = found.1 in
       let at : get_by (λ q. bytes_eq e.0.items q.items) bests ≡ Some e.1 = lookup-from_Contains alike e.0 e.1 bests.entries distinct (found.0, found.2, found.3) in
       let best : Some (best_kept e.1) ≡ option_map kept_of (best_in limit e.0.items entries) = sym (ap (option_map best_kept) at) ∙ are e.0.items in
-      go e.0.items (best_in limit e.0.items entries) refl (e.1.number) (eqb-true k e.1.number found.4) (best_kept e.1) refl best
+      go e.0.items (best_in limit e.0.items entries) refl (e.1.number) (sym (eqb-true k e.1.number found.4)) (best_kept e.1) refl best
     where
       go : (key : List ℕ) (o : Option Entry) → best_in limit key entries ≡ o → (number : ℕ) → number ≡ k → (kept : List ℕ × ℕ) → kept.1 ≡ number → Some kept ≡ option_map kept_of o → list_any (eqb k) (winners limit entries) ≡ true
       go key None is number equal kept of best = absurd (cc)

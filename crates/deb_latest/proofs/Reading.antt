@@ -1,5 +1,5 @@
 -- What was read of a file so far, and of the whole file.
-use Rattle.std.proofs.Common.{◌≡◌, ℕ, ◌+◌, List, [], ◌∷◌, ◌++◌, length, refl, sym, ap, ◌∙◌, subst, append-nil, append_assoc, length-append, arith}
+use Rattle.std.proofs.Common.{◌≡◌, ℕ, suc, ◌+◌, List, [], ◌∷◌, ◌++◌, length, refl, sym, ap, ◌∙◌, subst, append-nil, append_assoc, arith}
 use Rattle.deb_syntax.specs.Answers.{Seen}
 use Rattle.deb_field.specs.Values.{ValueMeaning}
 use Rattle.deb_control.specs.Documents.{Accepted, Meaning}
@@ -35,7 +35,7 @@ entries-push by n (w ∷ meaning) v =
     (entries-push by (n + 1) meaning v
     ∙ ap (λ k. entries_from by (n + 1) meaning ++ entry_of by k v ∷ []) (moved (length (entries_from by (n + 1) meaning)) n))
   where
-    moved : (k n : ℕ) → k + (n + 1) + 1 ≡ (k + 1) + n + 1
+    moved : (k n : ℕ) → k + (n + 1) + 1 ≡ suc k + n + 1
     moved k n = omega arith
 
 -- These were given of the file, and their entries follow those before.

@@ -1,5 +1,5 @@
 -- What the words of a paragraph that passes say of its values.
-use Rattle.std.proofs.Common.{◌≡◌, ℕ, ◌&&◌, Bool, true, false, is_some, List, [], ◌∷◌, Option, None, Some, IfSome, codes, refl, sym, ap, ◌∙◌, subst}
+use Rattle.std.proofs.Common.{◌≡◌, ℕ, ◌&&◌, Bool, true, false, is_some, List, Option, None, Some, IfSome, codes, refl, sym, ap, ◌∙◌, subst}
 use Rattle.std.proofs.lemmas.Bool.{false≢true}
 use Rattle.std.specs.FinMap.{find}
 use Rattle.deb_base.specs.Kinds.{kind_at, kind_of, known_row, required}

@@ -99,16 +99,20 @@ module _ (limit : Option Version) where
 
       go : (o : Option Entry) → best_in limit f.key entries ≡ o → HoldsBest limit f.key entries o → (b : Entry) × (best_in limit f.key entries ≡ Some b) × (b.number ≡ f.number)
       go None is none = absurd (of_it (bytes_eq f.key f.key) (is_considered limit f) (member-none (λ e. bytes_eq e.key f.key && is_considered limit e) f entries none in_it) (same_key f.key f.key refl) parts.0)
-      go (Some b) is best = (b, is, same-number b f
-        (third (bytes_eq b.key f.key) (is_considered limit b) (is_better b f) (member-none (λ e. beats limit e f) b entries (not-true _ parts.1) best.member) (same_key b.key f.key best.of) best.considered)
-        (third (bytes_eq f.key b.key) (is_considered limit f) (is_better f b) (member-none (λ e. beats limit e b) f entries best.unbeaten in_it) (same_key f.key b.key (sym best.of)) parts.0))
+      go (Some b) is best = (
+        b,
+        is,
+        same-number b f
+            (third (bytes_eq b.key f.key) (is_considered limit b) (is_better b f) (member-none (λ e. beats limit e f) b entries (not-true _ parts.1) best.member) (same_key b.key f.key best.of) best.considered)
+            (third (bytes_eq f.key b.key) (is_considered limit f) (is_better f b) (member-none (λ e. beats limit e b) f entries best.unbeaten in_it) (same_key f.key b.key (sym best.of)) parts.0),
+      )
 
   pub among-best : (k : ℕ) (entries : List Entry) → AreNumbered 0 entries → list_any (eqb k) (winners limit entries) ≡ true → (key : List ℕ) × (b : Entry) × (best_in limit key entries ≡ Some b) × (b.number ≡ k)
   among-best k entries numbered among =
       let found = any-member (λ e. eqb k e.number && wins limit entries e) entries (sym (among-filter k (wins limit entries) entries) ∙ among) in
       let passes = and-parts (eqb k found.0.number) (wins limit entries found.0) found.2 in
       let best = win-best entries numbered found.0 found.1 passes.1 in
-      let is : found.0.number ≡ k = eqb-true k found.0.number passes.0 in
+      let is : found.0.number ≡ k = sym (eqb-true k found.0.number passes.0) in
       (found.0.key, best.0, best.1, best.2 ∙ is)
 
   pub best-among : (k : ℕ) (key : List ℕ) (b : Entry) (entries : List Entry) → AreNumbered 0 entries → best_in limit key entries ≡ Some b → b.number ≡ k → list_any (eqb k) (winners limit entries) ≡ true

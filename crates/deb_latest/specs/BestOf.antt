@@ -39,11 +39,15 @@ some =
     ∷ entry 3 (codes "aa") (codes "1.0-1")
     ∷ entry 4 (codes "aa") (codes "1.0-01") ∷ []
 
-worked-best : (map (λ key. option_map (λ e. e.number) (best_in None key some))
-    (codes "aa" ∷ codes "bb" ∷ codes "cc" ∷ []) ≡ Some 3 ∷ Some 2 ∷ None ∷ [])
-    × (map (λ key. option_map (λ e. e.number) (best_in (Some (version_in (codes "1.0-1"))) key some))
-    (codes "aa" ∷ codes "bb" ∷ []) ≡ Some 1 ∷ None ∷ [])
+-- the number of the best of a package
+abbrev best_number : Option Version → List ℕ → Option ℕ
+best_number limit key = option_map (λ e. e.number) (best_in limit key some)
+
+worked-best : (map (best_number None) (codes "aa" ∷ codes "bb" ∷ codes "cc" ∷ [])
+    ≡ Some 3 ∷ Some 2 ∷ None ∷ [])
+    × (map (best_number (Some (version_in (codes "1.0-1")))) (codes "aa" ∷ codes "bb" ∷ [])
+    ≡ Some 1 ∷ None ∷ [])
 worked-best = (refl, refl)
 
 worked-numbered : AreNumbered 0 some
-worked-numbered = (refl, refl, refl, refl, tt)
+worked-numbered = (refl, (refl, (refl, (refl, tt))))

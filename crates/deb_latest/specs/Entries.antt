@@ -1,5 +1,5 @@
--- What counts of a paragraph: which package it is of, and its version. Debian Policy 5.3, 5.4, 5.6.7,
--- 5.6.8 and 5.6.12.
+-- What counts of a paragraph: which package it is of, and its version. Debian Policy 5.3, 5.4,
+-- 5.6.7, 5.6.8 and 5.6.12.
 use Rattle.std.specs.Prelude.{◌≡◌, ℕ, ◌+◌, List, [], ◌∷◌, ◌++◌, map, Option, None, Some, codes, refl}
 use Rattle.deb_base.specs.declared.doc.Doc.{Doc}
 use Rattle.deb_base.specs.declared.doc.Doc.TheVariants as docs
@@ -40,10 +40,15 @@ abbrev pub key_of_words : By → List ℕ → List ℕ → List ℕ
 key_of_words Name name architecture = name
 key_of_words NameAndArchitecture name architecture = name ++ codes " " ++ architecture
 
+-- the name and the architecture of a paragraph
+abbrev pub name_of : ValueEntries ValueMeaning → List ℕ
+name_of values = name_in (value_under (codes "Package") values)
+
+abbrev pub architecture_of : ValueEntries ValueMeaning → List ℕ
+architecture_of values = architecture_in (value_under (codes "Architecture") values)
+
 abbrev pub key_of : By → ValueEntries ValueMeaning → List ℕ
-key_of by values =
-    key_of_words by (name_in (value_under (codes "Package") values))
-    (architecture_in (value_under (codes "Architecture") values))
+key_of by values = key_of_words by (name_of values) (architecture_of values)
 
 abbrev pub entry_of : By → ℕ → ValueEntries ValueMeaning → Entry
 entry_of by number values =

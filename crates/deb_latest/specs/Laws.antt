@@ -1,23 +1,28 @@
 -- What holds of the paragraphs with the latest versions.
-use Rattle.std.specs.Prelude.{◌≡◌, ℕ, ◌⊎◌, List, [], ◌∷◌, ◌++◌, Option, true, false}
+use Rattle.std.specs.Prelude.{◌≡◌, ◌↔◌, ℕ, List, ◌++◌, Option, true, false}
+use Rattle.std.specs.List.{AllByRecursion}
 use Rattle.std.specs.Ordering.{is_gt}
 use Rattle.deb_version.specs.Order.{version_cmp}
 use Rattle.deb_version.specs.Parts.{Meaning as Version}
 use Rattle.deb_control.specs.Documents.{Accepted, Meaning, canonical_text}
 use Rattle.deb_latest.specs.BestOf.{AreNumbered}
-use Rattle.deb_latest.specs.Entries.{doc_of, entries_of}
+use Rattle.deb_latest.specs.Entries.{architecture_of, doc_of, key_of, name_of}
 use Rattle.deb_latest.specs.Members.{Member}
 use Rattle.deb_latest.specs.Requests.{Asked, latest_of}
+use Rattle.deb_field.specs.Values.{ValueMeaning}
+use Rattle.deb_control.specs.ValueFiles.{ValueEntries}
+use Rattle.deb_latest.specs.declared.kind.Kind.{Kind}
+use Rattle.deb_latest.specs.declared.request.By.TheVariants.{NameAndArchitecture}
 use Rattle.deb_latest.specs.Winning.{Entry, is_considered, winners_in}
 
 -- Of a package with a considered paragraph one wins, and no other of the package.
 pub record HasOneWinner (limit : Option Version) (entries : List Entry) (key : List ℕ) : Type 0
-    where
-  pub winner : Entry
-  pub member : Member winner (winners_in limit entries)
-  pub of : winner.key ≡ key
-  pub only : (e : Entry) → Member e (winners_in limit entries) → e.key ≡ key
-      → e.number ≡ winner.number
+  where
+    pub winner : Entry
+    pub member : Member winner (winners_in limit entries)
+    pub of : winner.key ≡ key
+    pub only : (e : Entry) → Member e (winners_in limit entries) → e.key ≡ key
+        → e.number ≡ winner.number
 
 abbrev pub EachPackageHasOneWinner : Type 0
 EachPackageHasOneWinner =
@@ -49,6 +54,19 @@ WinnersOfWinners =
     (limit : Option Version) (first second : List Entry) → AreNumbered 0 (first ++ second)
     → winners_in limit (first ++ second)
     ≡ winners_in limit (winners_in limit first ++ winners_in limit second)
+
+-- In an accepted file what tells packages from others by name and architecture is equal exactly if
+-- both are.
+abbrev pub IsOnePackage : ValueEntries ValueMeaning → ValueEntries ValueMeaning → Type 0
+IsOnePackage values others =
+    (key_of NameAndArchitecture values ≡ key_of NameAndArchitecture others)
+    ↔ ((name_of values ≡ name_of others) × (architecture_of values ≡ architecture_of others))
+
+abbrev pub KeysTellPackages : Type 0
+KeysTellPackages =
+    (kind : Kind) (first second : List ℕ) (meaning other : Meaning)
+    → Accepted (doc_of kind) first meaning → Accepted (doc_of kind) second other
+    → AllByRecursion (λ values. AllByRecursion (IsOnePackage values) other) meaning
 
 -- Which win doesn't change if a file is replaced by its canonical text.
 abbrev pub CanonicalTextHasTheSame : Type 0

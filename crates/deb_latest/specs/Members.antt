@@ -1,5 +1,6 @@
 -- The paragraphs of a list.
-use Rattle.std.specs.Prelude.{◌≡◌, ◌⊎◌, List, [], ◌∷◌, inl, inr, refl}
+use Rattle.std.specs.Prelude.{◌≡◌, ◌⊎◌, List, [], ◌∷◌, refl}
+use Rattle.std.proofs.Common.{inl, inr}
 use Rattle.deb_latest.specs.Winning.{Entry}
 
 -- A paragraph is one of a list.

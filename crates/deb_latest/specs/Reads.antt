@@ -36,8 +36,8 @@ abbrev pub IsSpelled : Entry → Type 0
 IsSpelled e = (text : List ℕ) × SpellsVersion text e.version
 
 -- The words are those of a paragraph with a number.
-pub record IsEntry (by : By) (words : Words) (number : ℕ) (e : Entry) : Type 0 where
-  pub number : e.number ≡ number
+pub record IsEntry (by : By) (words : Words) (n : ℕ) (e : Entry) : Type 0 where
+  pub number : e.number ≡ n
   pub key : key_of_words by words.name.items words.architecture.items ≡ e.key
   pub version : words.version.items ≡ version_key e.version
   pub spelled : IsSpelled e

@@ -1,6 +1,6 @@
 -- Which paragraphs have the latest version of their package. deb-version(7), "Sorting algorithm";
 -- which of equal versions is taken is this project's own.
-use Rattle.std.specs.Prelude.{◌≡◌, ℕ, ◌+◌, ◌&&◌, ◌||◌, Bool, true, false, not, nat_lt, List, [], ◌∷◌, map, Option, None, Some, codes, refl}
+use Rattle.std.specs.Prelude.{◌≡◌, ℕ, ◌&&◌, ◌||◌, Bool, true, false, not, nat_lt, List, [], ◌∷◌, map, Option, None, Some, codes, refl}
 use Rattle.std.specs.List.{filter, list_any}
 use Rattle.std.specs.Ordering.{is_eq, is_gt, is_lt}
 use Rattle.std.specs.Str.{bytes_eq}
@@ -45,7 +45,8 @@ abbrev entry : ℕ → List ℕ → List ℕ → Entry
 entry number key version =
     record { number = number; key = key; version = version_in version }
 
--- aa in 1.0, 1.0-1 and again 1.0-1; bb in 2~rc1, then 2, then 1:0; cc twice in spellings of one version
+-- aa in 1.0, 1.0-1 and again 1.0-1; bb in 2~rc1, then 1:0, then 2; cc twice in spellings of one
+-- version
 abbrev some : List Entry
 some =
     entry 1 (codes "aa") (codes "1.0")
@@ -60,8 +61,8 @@ some =
 worked-winners : winners None some ≡ 3 ∷ 4 ∷ 7 ∷ []
 worked-winners = refl
 
--- before 1:0 it is bb in 2; before 2 it is bb in 2~rc1, since the limit itself isn't considered; before 1.0 none is
--- left
+-- before 1:0 bb wins in 2; before 2 it wins in 2~rc1, since the limit itself isn't considered;
+-- before 1.0 none is left
 worked-before : (winners (Some (version_in (codes "1:0"))) some ≡ 3 ∷ 6 ∷ 7 ∷ [])
     × (winners (Some (version_in (codes "2"))) some ≡ 2 ∷ 3 ∷ 7 ∷ [])
     × (winners (Some (version_in (codes "1.0-1"))) some ≡ 1 ∷ 7 ∷ [])

@@ -1,7 +1,6 @@
 //! The latest version of each package so far.
 
-ghost use Rattle.std.specs.Prelude.{◌≡◌, ℕ, List, Option, cond, map, IfOk, OnOk, Some};
-ghost use Rattle.std.specs.Map.{values_of};
+ghost use Rattle.std.specs.Prelude.{◌≡◌, ℕ, List, Option, cond, IfOk, OnOk, Some};
 ghost use Rattle.std.specs.Option.{option_map, option_copied};
 ghost use Rattle.std.specs.Str.{bytes_eq};
 ghost use Rattle.deb_version.specs.Parts.{Meaning};
@@ -48,7 +47,7 @@ pub(crate) fn put(
 
 /// Returns whether a version is later than that of the best paragraph, or there is none.
 fn is_later(best: Option<&Best>, version: &[u8]) -> bool
-    ensures { result ≡ is_later_kept (option_map best_kept (option_copied best)) version.now }
+    ensures { result ≡ is_later_kept (option_map best_kept (option_copied best.entry)) version.now }
 {
     match best {
         None => true,

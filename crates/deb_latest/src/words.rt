@@ -73,11 +73,7 @@ impl FieldVisitor for Words {
 /// Keeps the name of the package after one more field.
 #[inline(always)]
 #[tactic(auto, unfolding(deb_base::specs::Kinds::known_row))]
-fn keep_name(
-    field: &RawField<'_>,
-    value: &Value<'_>,
-    kept: &mut Vec<u8>,
-) -> Result<(), AllocError>
+fn keep_name(field: &RawField<'_>, value: &Value<'_>, kept: &mut Vec<u8>) -> Result<(), AllocError>
     ensures { OnOk result (kept.new.items ≡ cond (row_of field.now.id
         == known_row (codes "Package")) (name_in (Some (value_meaning value.now)))
         kept.old.items) }
