@@ -5,7 +5,7 @@ use Rattle.std.specs.Str.{is_utf8, chars}
 use lib.Utf8.{encode}
 use Rattle.deb_base.specs.Bodies.{paragraph_limit}
 use Rattle.deb_syntax.specs.Lines.{Paragraph, paragraphs_of, with_newlines}
-use Rattle.deb_control.specs.CanonTexts.{gap_behind}
+use Rattle.deb_control.specs.Totals.{gap_behind}
 
 -- the paragraphs of a file whose numbers are among these, where so many came before
 abbrev pub chosen_from : List ℕ → ℕ → List Paragraph → List Paragraph
