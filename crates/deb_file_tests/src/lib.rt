@@ -11,6 +11,8 @@ mod control;
 #[cfg(test)]
 mod diff;
 #[cfg(test)]
+mod long;
+#[cfg(test)]
 mod refusals;
 #[cfg(test)]
 mod syntax;

@@ -1,19 +1,33 @@
 //! Tests of indexes and their reports on relations: each call once, short and long, what is found,
 //! and devices that fail.
+//!
+//! Few functions make a large value, and each makes one: the proof of a function grows with the
+//! values that are alive where it may return.
 
 use deb_base::{Code, Fault, Input, Output, Refusal, VersionText};
 use deb_devices::{Pieces, SIZES, Slow, Then};
 use deb_field::MultiArch;
 use deb_index::Verdict::{Ignored, Met, Unmet};
-use deb_index::{DetailedReport, Index, Question, Report, only_alternative};
+use deb_index::{
+    Answer, DetailedReport, Index, Package, Question, Report, Verdict, only_alternative,
+};
 use deb_relation::{Env, Relation};
 use std::alloc::Global;
 use std::io::Write;
-use std::process::Abort;
 use std::test::Fail;
 
 const HELLO: &[u8] = b"Package: hello\nVersion: 1\nArchitecture: amd64\nProvides: vv\n\n\
     Package: world\nVersion: 1.0-0\nArchitecture: all\nProvides: vv (= 2.00)\n";
+
+/// Reads an index.
+fn read(alloc: Global, reader: &mut Pieces<'_>) -> Result<Index, Fault> {
+    Index::read(alloc, &mut Input::new(&mut *reader))
+}
+
+/// The index of a file that is read in pieces of a size; None if a call fails.
+fn index_of(alloc: Global, file: &[u8], size: usize) -> Option<Index> {
+    read(alloc, &mut Pieces::new(file, size, 0)).ok()
+}
 
 /// A relation, and what is written of it.
 const RELATION: &[u8] = b"ww | aa, vv, world(>=1), bb <!nocheck>";
@@ -22,51 +36,139 @@ const TEXT: &[u8] = b"ignored bb <!nocheck>\nmet vv\n 1 hello 1 amd64\n 2 world 
     met world (>= 1)\n 2 world 1.0 all\nunmet ww | aa\n";
 
 #[test]
-fn what_is_found(rt: HostRuntime) -> Result<(), Fail> {
-    let environment = Env::new(rt.alloc(), b"amd64", &[b"nocheck"])?;
-    let relation = Relation::parse(rt.alloc(), RELATION)?;
+fn what_is_found(rt: HostRuntime) {
     for size in SIZES {
-        let mut reader = Pieces::new(HELLO, size, 0);
-        let index = Index::read(rt.alloc(), &mut Input::new(&mut reader))?;
-        let report = index
-            .query(rt.alloc(), &relation, &environment)
-            .or(Err("no report"))?;
-        assert!(rt; index.len() == 2 && !report.all_met(), "pieces of {size}");
-        assert!(rt; is_told(&report) == Some(true), "pieces of {size}");
+        assert!(rt; is_found(rt.alloc(), size), "pieces of {size}");
     }
-    let index = Index::read(rt.alloc(), &mut Input::new(b"\n".as_slice()))?;
-    let report = index
-        .query(rt.alloc(), &relation, &environment)
-        .or(Err("no report"))?;
-    assert!(rt;
-        index.len() == 0 && !report.all_met(),
-        "an index of no package"
-    );
-    Ok(())
 }
 
-/// Whether each group is there with its verdict and what meets it.
-fn is_told(report: &Report<'_>) -> Option<bool> {
+/// Whether the report on a file in pieces of a size is right.
+fn is_found(alloc: Global, size: usize) -> bool {
+    match index_of(alloc, HELLO, size) {
+        Some(index) => index.len() == 2 && is_reported(alloc, &index),
+        None => false,
+    }
+}
+
+fn is_reported(alloc: Global, index: &Index) -> bool {
+    match Relation::parse(alloc, RELATION) {
+        Ok(relation) => is_reported_on(alloc, index, &relation),
+        Err(_) => false,
+    }
+}
+
+fn is_reported_on(alloc: Global, index: &Index, relation: &Relation<'_>) -> bool {
+    match Env::new(alloc, b"amd64", &[b"nocheck"]) {
+        Ok(environment) => is_reported_in(alloc, index, relation, &environment),
+        Err(_) => false,
+    }
+}
+
+fn is_reported_in(
+    alloc: Global,
+    index: &Index,
+    relation: &Relation<'_>,
+    environment: &Env,
+) -> bool {
+    match index.query(alloc, relation, environment) {
+        Ok(report) => {
+            !report.all_met() && has_verdicts(&report) && lists_providers(&report) == Some(true)
+        }
+        Err(_) => false,
+    }
+}
+
+/// Whether the groups have their verdicts, and there are no more.
+fn has_verdicts(report: &Report<'_>) -> bool {
     let mut answers = report.answers();
-    let (ignored, provided) = (answers.next()?, answers.next()?);
-    let (bounded, unmet) = (answers.next()?, answers.next()?);
+    for verdict in [Ignored, Met, Met, Unmet] {
+        if verdict_of(answers.next()) != Some(verdict) {
+            return false;
+        }
+    }
+    answers.next().is_none()
+}
+
+fn verdict_of(answer: Option<Answer<'_>>) -> Option<Verdict> {
+    Some(answer?.verdict())
+}
+
+/// Whether the second group, vv, is met by both packages.
+fn lists_providers(report: &Report<'_>) -> Option<bool> {
+    let mut answers = report.answers();
+    answers.next()?;
+    let provided = answers.next()?;
     let mut packages = provided.packages();
     let (hello, world) = (packages.next()?, packages.next()?);
     Some(
-        ignored.verdict() == Ignored
-            && provided.verdict() == Met
-            && bounded.verdict() == Met
-            && unmet.verdict() == Unmet
-            && unmet.text() == b"ww | aa".as_slice()
-            && unmet.packages().next().is_none()
+        provided.text() == b"vv".as_slice()
             && packages.next().is_none()
-            && answers.next().is_none()
             && hello.number() == 1
             && world.number() == 2
-            && world.package().name() == b"world".as_slice()
-            && world.package().version() == b"1.0".as_slice()
-            && world.package().architecture() == b"all".as_slice(),
+            && is_world(&world.package()),
     )
+}
+
+fn is_world(package: &Package<'_>) -> bool {
+    package.name() == b"world".as_slice()
+        && package.version() == b"1.0".as_slice()
+        && package.architecture() == b"all".as_slice()
+}
+
+/// The writer fails after so many good calls, or takes nothing from then on.
+#[test]
+fn a_failed_write(rt: HostRuntime) {
+    assert!(rt; is_written(rt.alloc()));
+}
+
+fn is_written(alloc: Global) -> bool {
+    match index_of(alloc, HELLO, 65_536) {
+        Some(index) => is_written_of(alloc, &index),
+        None => false,
+    }
+}
+
+fn is_written_of(alloc: Global, index: &Index) -> bool {
+    match Question::parse(alloc, b"amd64", &[b"nocheck"], RELATION) {
+        Ok(question) => is_asked(alloc, index, &question),
+        Err(_) => false,
+    }
+}
+
+fn is_asked(alloc: Global, index: &Index, question: &Question<'_>) -> bool {
+    match index.ask(alloc, question) {
+        Ok(report) => {
+            writes_all(alloc, &report, 1)
+                && writes_all(alloc, &report, 7)
+                && writes_all(alloc, &report, 100)
+        }
+        Err(_) => false,
+    }
+}
+
+/// Whether each write of so many bytes a call ends well, whenever it fails.
+fn writes_all(alloc: Global, report: &Report<'_>, most: usize) -> bool {
+    for calls in 0..140u64 {
+        let fails = writes(report, &mut Slow::new(alloc, most, calls, Then::Fails));
+        let takes_none = writes(report, &mut Slow::new(alloc, most, calls, Then::TakesNone));
+        if !fails || !takes_none {
+            return false;
+        }
+    }
+    true
+}
+
+/// Whether all is written, or a prefix up to the one bad write, which is reported.
+fn writes(report: &Report<'_>, writer: &mut Slow) -> bool {
+    let answer = report.write(&mut Output::new(&mut *writer));
+    let held = writer.held.as_slice();
+    if writer.failures == 0 {
+        return answer == Ok(()) && held == TEXT;
+    }
+    answer == Err(Fault::Write)
+        && writer.failures == 1
+        && TEXT.starts_with(held)
+        && held.len() < TEXT.len()
 }
 
 /// A relation whose groups are ignored, unmet and met, and what is written of it with reasons.
@@ -81,81 +183,51 @@ const REASONS: &[u8] = b"ignored hello [linux-amd64]\n\
     met world\n 2 world 1.0 all\n";
 
 #[test]
-fn why_groups_are_unmet(rt: HostRuntime) -> Result<(), Fail> {
-    let index = Index::read(rt.alloc(), &mut Input::new(HELLO))?;
-    let question = Question::parse(rt.alloc(), b"amd64", &[], ASKED)?;
-    let report = index.ask_why(rt.alloc(), &question)?;
-    assert!(rt; !report.all_met());
-    assert!(rt; is_told_why(&report) == Some(true));
-    let mut writer = Slow::new(rt.alloc(), 7, 1_000, Then::Fails);
-    assert!(rt; report.write(&mut Output::new(&mut writer)) == Ok(()));
-    assert!(rt; writer.held.as_slice() == REASONS);
-    Ok(())
+fn why_groups_are_unmet(rt: HostRuntime) {
+    assert!(rt; is_explained(rt.alloc()));
+}
+
+fn is_explained(alloc: Global) -> bool {
+    match index_of(alloc, HELLO, 65_536) {
+        Some(index) => is_explained_of(alloc, &index),
+        None => false,
+    }
+}
+
+fn is_explained_of(alloc: Global, index: &Index) -> bool {
+    match Question::parse(alloc, b"amd64", &[], ASKED) {
+        Ok(question) => is_asked_why(alloc, index, &question),
+        Err(_) => false,
+    }
+}
+
+fn is_asked_why(alloc: Global, index: &Index, question: &Question<'_>) -> bool {
+    match index.ask_why(alloc, question) {
+        Ok(report) => {
+            !report.all_met() && has_reasons(&report) == Some(true) && writes_why(alloc, &report)
+        }
+        Err(_) => false,
+    }
 }
 
 /// Whether each group is there with its verdict, and with reasons if it isn't met.
-fn is_told_why(report: &DetailedReport<'_>) -> Option<bool> {
+fn has_reasons(report: &DetailedReport<'_>) -> Option<bool> {
     let mut answers = report.answers();
     let (ignored, unmet, met) = (answers.next()?, answers.next()?, answers.next()?);
     Some(
         ignored.answer().verdict() == Ignored
             && !ignored.reasons().is_empty()
             && unmet.answer().verdict() == Unmet
-            && unmet.answer().packages().next().is_none()
             && met.answer().verdict() == Met
             && met.reasons().is_empty()
             && answers.next().is_none(),
     )
 }
 
-/// The reasons with the versions as the file spells them: `world 1.0` is `1.0-0` there.
-const SPELLED: &[u8] = b"ignored hello [linux-amd64]\n\
-    \x20hello [linux-amd64]: linux-amd64 isn't the target amd64\n\
-    unmet vv (>= 3) | ww\n\
-    \x20vv (>= 3): 1 hello 1 amd64 is provided without a version\n\
-    \x20vv (>= 3): 2 world 1.0-0 all is earlier\n\
-    \x20ww: no package has this name\n\
-    met world\n 2 world 1.0-0 all\n";
-
-#[test]
-fn versions_as_spelled(rt: HostRuntime) -> Result<(), Fail> {
-    let index = Index::read(rt.alloc(), &mut Input::new(HELLO))?;
-    let (Some(hello), Some(world)) = (index.package(1), index.package(2)) else {
-        return Err("no package".into());
-    };
-    assert!(rt; hello.spelled_version() == b"1".as_slice());
-    assert!(rt; world.version() == b"1.0".as_slice());
-    assert!(rt; world.spelled_version() == b"1.0-0".as_slice());
-    Ok(())
-}
-
-#[test]
-fn reports_as_spelled(rt: HostRuntime) -> Result<(), Fail> {
-    let held = written_as_spelled(rt.alloc(), HELLO, b"world")?;
-    assert!(rt; held.as_slice() == b"met world\n 2 world 1.0-0 all\n".as_slice());
-    let held = reasons_as_spelled(rt.alloc(), HELLO, ASKED)?;
-    assert!(rt; held.as_slice() == SPELLED);
-    Ok(())
-}
-
-/// The text of a report on a file, with the versions as the file spells them.
-fn written_as_spelled(alloc: Global, file: &[u8], asked: &[u8]) -> Result<Vec<u8>, Fail> {
-    let index = Index::read(alloc, &mut Input::new(file))?;
-    let question = Question::parse(alloc, b"amd64", &[], asked)?;
-    let report = index.ask(alloc, &question)?;
-    let mut writer = Slow::new(alloc, 7, 1_000, Then::Fails);
-    report.write_with(VersionText::Spelled, &mut Output::new(&mut writer))?;
-    Ok(writer.held)
-}
-
-/// The same with the reasons.
-fn reasons_as_spelled(alloc: Global, file: &[u8], asked: &[u8]) -> Result<Vec<u8>, Fail> {
-    let index = Index::read(alloc, &mut Input::new(file))?;
-    let question = Question::parse(alloc, b"amd64", &[], asked)?;
-    let report = index.ask_why_with(alloc, &question, VersionText::Spelled)?;
-    let mut writer = Slow::new(alloc, 7, 1_000, Then::Fails);
-    report.write_with(VersionText::Spelled, &mut Output::new(&mut writer))?;
-    Ok(writer.held)
+fn writes_why(alloc: Global, report: &DetailedReport<'_>) -> bool {
+    let mut held = Vec::new(alloc);
+    let answer = report.write(&mut Output::new(&mut held));
+    answer == Ok(()) && held.as_slice() == REASONS
 }
 
 /// Two packages: the first with entries of Provides that provide nothing, one of them in the
@@ -167,81 +239,98 @@ const DETAILED: &[u8] = b"\n\nVersion: 0:1.00-0\nPackage: hello\nArchitecture: a
 const DETAILS: &[u8] = b"Architecture: amd64\nMulti-Arch: foreign\nPackage: hello\n\
     Provides: vv, vv (= 1), xx (= 2.0)\nVersion: 1.0\n";
 
+/// The number of a package of `DETAILED`, its line, its version as the file spells it, what it says
+/// of Multi-Arch, and what is kept of it.
+struct Kept(u64, u64, &'static [u8], Option<MultiArch>, &'static [u8]);
+
+const KEPT: [Kept; 2] = [
+    Kept(1, 3, b"0:1.00-0", Some(MultiArch::Foreign), DETAILS),
+    Kept(
+        2,
+        10,
+        b"2",
+        None,
+        b"Architecture: all\nPackage: world\nVersion: 2\n",
+    ),
+];
+
 #[test]
-fn what_is_kept(rt: HostRuntime) -> Result<(), Fail> {
-    let index = Index::read(rt.alloc(), &mut Input::new(DETAILED))?;
-    let (hello, world) = (index.package(1), index.package(2));
-    let (Some(hello), Some(world)) = (hello, world) else {
-        return Err("no package".into());
-    };
-    assert!(rt; hello.line() == 3 && world.line() == 10);
-    assert!(rt; hello.multi_arch() == Some(MultiArch::Foreign) && world.multi_arch().is_none());
-    let mut details = Vec::new(rt.alloc());
-    hello.details_into(rt.alloc(), &mut details)?;
-    assert!(rt; details.as_slice() == DETAILS);
-    details.clear();
-    world.details_into(rt.alloc(), &mut details)?;
-    assert!(rt;
-        details.as_slice() == b"Architecture: all\nPackage: world\nVersion: 2\n".as_slice()
-    );
-    Ok(())
+fn what_is_kept(rt: HostRuntime) {
+    for kept in &KEPT {
+        assert!(rt; is_kept(rt.alloc(), kept), "package {}", kept.0);
+    }
+}
+
+fn is_kept(alloc: Global, kept: &Kept) -> bool {
+    match index_of(alloc, DETAILED, 65_536) {
+        Some(index) => is_kept_in(alloc, index.package(kept.0), kept),
+        None => false,
+    }
+}
+
+fn is_kept_in(alloc: Global, package: Option<Package<'_>>, kept: &Kept) -> bool {
+    match package {
+        Some(package) => {
+            package.line() == kept.1
+                && package.spelled_version() == kept.2
+                && package.multi_arch() == kept.3
+                && has_details(alloc, &package, kept.4)
+        }
+        None => false,
+    }
+}
+
+fn has_details(alloc: Global, package: &Package<'_>, wanted: &[u8]) -> bool {
+    let mut details = Vec::new(alloc);
+    package.details_into(alloc, &mut details).is_ok() && details.as_slice() == wanted
 }
 
 /// A package that provides its own name in two versions, and vv.
 const ITSELF: &[u8] =
     b"Package: aa\nVersion: 2\nArchitecture: amd64\nProvides: aa (= 3), aa (= 4), vv\n";
 
+/// A package of which only two entries of Provides, a name alone and one with a version, provide
+/// something.
+const ENTRIES: &[u8] = b"Package: aa\nVersion: 1\nArchitecture: all\n\
+    Provides: qualified:any, listed [amd64], formula <!nocheck>, plain, plain (= 2)\n";
+
+/// A file and a name, and the numbers of the packages that have the name, and of those that provide
+/// it.
+struct Named(&'static [u8], &'static [u8], &'static [u64], &'static [u64]);
+
+const LOOKED_UP: [Named; 18] = [
+    Named(HELLO, b"hello", &[1], &[]),
+    Named(HELLO, b"world", &[2], &[]),
+    Named(HELLO, b"vv", &[], &[1, 2]),
+    Named(HELLO, b"hell", &[], &[]),
+    Named(HELLO, b"helloo", &[], &[]),
+    Named(HELLO, b"v", &[], &[]),
+    Named(HELLO, b"vvv", &[], &[]),
+    Named(HELLO, b"VV", &[], &[]),
+    Named(HELLO, b"", &[], &[]),
+    Named(ITSELF, b"aa", &[1], &[1]),
+    Named(ITSELF, b"vv", &[], &[1]),
+    Named(b"", b"aa", &[], &[]),
+    Named(ENTRIES, b"plain", &[], &[1]),
+    Named(ENTRIES, b"qualified", &[], &[]),
+    Named(ENTRIES, b"listed", &[], &[]),
+    Named(ENTRIES, b"formula", &[], &[]),
+    Named(ENTRIES, b"qualified:any", &[], &[]),
+    Named(ENTRIES, b"aa", &[1], &[]),
+];
+
 #[test]
-fn looked_up(rt: HostRuntime) -> Result<(), Fail> {
-    let index = Index::read(rt.alloc(), &mut Input::new(HELLO))?;
-    assert!(rt; index.packages(b"hello") == [1].as_slice());
-    assert!(rt; index.packages(b"world") == [2].as_slice());
-    assert!(rt; index.providers(b"vv") == [1, 2].as_slice());
-    assert!(rt; index.providers(b"hello").is_empty());
-    for name in [b"hell".as_slice(), b"helloo", b"v", b"vvv", b"VV", b""] {
-        assert!(rt; is_unknown(&index, name));
+fn names_that_are_looked_up(rt: HostRuntime) {
+    for row in &LOOKED_UP {
+        assert!(rt; is_looked_up(rt.alloc(), row), "{}", row.1.escape_ascii());
     }
-    Ok(())
 }
 
-#[test]
-fn looked_up_in_one_package(rt: HostRuntime) -> Result<(), Fail> {
-    let one = [1].as_slice();
-    let index = Index::read(rt.alloc(), &mut Input::new(ITSELF))?;
-    assert!(rt; index.packages(b"aa") == one && index.packages(b"vv").is_empty());
-    assert!(rt; index.providers(b"aa") == one && index.providers(b"vv") == one);
-    Ok(())
-}
-
-#[test]
-fn looked_up_in_none(rt: HostRuntime) -> Result<(), Fail> {
-    let index = Index::read(rt.alloc(), &mut Input::new(b"".as_slice()))?;
-    assert!(rt; is_unknown(&index, b"aa"));
-    Ok(())
-}
-
-/// Whether no package has or provides this name.
-fn is_unknown(index: &Index, name: &[u8]) -> bool {
-    index.packages(name).is_empty() && index.providers(name).is_empty()
-}
-
-/// Only an entry of Provides that is a name alone, or with a version, is a provider.
-#[test]
-fn entries_that_provide_nothing(rt: HostRuntime) -> Result<(), Fail> {
-    let file = b"Package: aa\nVersion: 1\nArchitecture: all\n\
-        Provides: qualified:any, listed [amd64], formula <!nocheck>, plain, plain (= 2)\n";
-    let index = Index::read(rt.alloc(), &mut Input::new(file.as_slice()))?;
-    assert!(rt; index.providers(b"plain") == [1].as_slice());
-    for name in [
-        b"qualified".as_slice(),
-        b"listed",
-        b"formula",
-        b"qualified:any",
-        b"aa",
-    ] {
-        assert!(rt; index.providers(name).is_empty());
+fn is_looked_up(alloc: Global, row: &Named) -> bool {
+    match index_of(alloc, row.0, 65_536) {
+        Some(index) => index.packages(row.1) == row.2 && index.providers(row.1) == row.3,
+        None => false,
     }
-    Ok(())
 }
 
 /// Packages that have or provide aa, vv and bb, with versions and without; the second provides its
@@ -279,54 +368,91 @@ const BY_NAME: [(&[u8], &[u64]); 23] = [
 ];
 
 #[test]
-fn what_meets_by_name(rt: HostRuntime) -> Result<(), Fail> {
-    let index = Index::read(rt.alloc(), &mut Input::new(NAMED))?;
+fn what_meets_by_name(rt: HostRuntime) {
     for (alternative, wanted) in BY_NAME {
-        let numbers = met_by_name(rt.alloc(), &index, alternative)?;
-        assert!(rt;
-            numbers.as_slice() == wanted,
-            "{alternative:?}: {numbers:?}"
-        );
+        let is_right = is_met_in(rt.alloc(), NAMED, alternative, wanted);
+        assert!(rt; is_right, "{}", alternative.escape_ascii());
     }
-    let index = Index::read(rt.alloc(), &mut Input::new(b"".as_slice()))?;
-    let numbers = met_by_name(rt.alloc(), &index, b"aa (= 1)")?;
-    assert!(rt; numbers.is_empty());
-    Ok(())
+    assert!(rt; is_met_in(rt.alloc(), b"", b"aa (= 1)", &[]));
+}
+
+/// Whether these packages of a file meet an alternative by name and bound.
+fn is_met_in(alloc: Global, file: &[u8], alternative: &[u8], wanted: &[u64]) -> bool {
+    match index_of(alloc, file, 65_536) {
+        Some(index) => is_met(alloc, &index, alternative, wanted),
+        None => false,
+    }
+}
+
+fn is_met(alloc: Global, index: &Index, alternative: &[u8], wanted: &[u64]) -> bool {
+    match met_by_name(alloc, index, alternative) {
+        Some(numbers) => numbers.as_slice() == wanted,
+        None => false,
+    }
 }
 
 /// The numbers of the packages that meet the one alternative of a text by name and bound.
-fn met_by_name(alloc: Global, index: &Index, text: &[u8]) -> Result<Vec<u64>, Fail> {
-    let relation = Relation::parse(alloc, text)?;
-    let Some(alternative) = only_alternative(&relation) else {
-        return Err("no alternative".into());
-    };
-    Ok(index.meeting_by_name(alloc, alternative)?)
+fn met_by_name(alloc: Global, index: &Index, text: &[u8]) -> Option<Vec<u64>> {
+    match Relation::parse(alloc, text) {
+        Ok(relation) => met_by(alloc, index, &relation),
+        Err(_) => None,
+    }
+}
+
+fn met_by(alloc: Global, index: &Index, relation: &Relation<'_>) -> Option<Vec<u64>> {
+    index
+        .meeting_by_name(alloc, only_alternative(relation)?)
+        .ok()
 }
 
 /// Two thousand packages of one name, which all provide another one and their own.
 #[test]
 fn many_of_one_name(rt: HostRuntime) -> Result<(), Fail> {
-    let mut file = Vec::new(rt.alloc());
+    let file = many_packages(rt.alloc()).ok_or("memory")?;
+    assert!(rt; are_many(rt.alloc(), &file));
+    Ok(())
+}
+
+fn many_packages(alloc: Global) -> Option<Vec<u8>> {
+    let mut file = Vec::new(alloc);
     for number in 0..2_000u32 {
         write!(
             file,
             "Package: aa\nVersion: {number}\nArchitecture: all\nProvides: vv, aa, aa (= 1), vv\n\n"
-        )?;
+        )
+        .ok()?;
     }
-    let index = Index::read(rt.alloc(), &mut Input::new(file.as_slice()))?;
-    for numbers in [
-        index.packages(b"aa"),
-        index.providers(b"aa"),
-        index.providers(b"vv"),
-    ] {
-        assert!(rt; counts_from(numbers, 1, 2_000));
+    Some(file)
+}
+
+fn are_many(alloc: Global, file: &[u8]) -> bool {
+    match index_of(alloc, file, 65_536) {
+        Some(index) => are_listed(&index) && are_met(alloc, &index),
+        None => false,
     }
-    assert!(rt; index.packages(b"vv").is_empty());
+}
+
+fn are_listed(index: &Index) -> bool {
+    counts_from(index.packages(b"aa"), 1, 2_000)
+        && counts_from(index.providers(b"aa"), 1, 2_000)
+        && counts_from(index.providers(b"vv"), 1, 2_000)
+        && index.packages(b"vv").is_empty()
+}
+
+fn are_met(alloc: Global, index: &Index) -> bool {
     for (alternative, first, count) in MANY_BY_NAME {
-        let numbers = met_by_name(rt.alloc(), &index, alternative)?;
-        assert!(rt; counts_from(&numbers, first, count), "{alternative:?}");
+        if !counts_met(alloc, index, alternative, first, count) {
+            return false;
+        }
     }
-    Ok(())
+    true
+}
+
+fn counts_met(alloc: Global, index: &Index, alternative: &[u8], first: u64, count: u64) -> bool {
+    match met_by_name(alloc, index, alternative) {
+        Some(numbers) => counts_from(&numbers, first, count),
+        None => false,
+    }
 }
 
 /// Alternatives, with the first number and the count of the packages that meet them, out of two
@@ -345,50 +471,14 @@ const MANY_BY_NAME: [(&[u8], u64, u64); 9] = [
 
 /// Whether these are so many numbers from the first one on, without a gap.
 fn counts_from(numbers: &[u64], first: u64, count: u64) -> bool {
-    numbers.len() as u64 == count
-        && (first..)
-            .zip(numbers)
-            .all(|(wanted, number)| *number == wanted)
-}
-
-/// The text of a report on what a reader gives.
-fn written(alloc: Global, file: &[u8], relation: &[u8]) -> Result<Vec<u8>, Fail> {
-    let index = Index::read(alloc, &mut Input::new(file))?;
-    let relation = Relation::parse(alloc, relation)?;
-    let environment = Env::new(alloc, b"amd64", &[b"nocheck"])?;
-    let report = index
-        .query(alloc, &relation, &environment)
-        .or(Err("no report"))?;
-    let mut held = Vec::new(alloc);
-    report.write(&mut Output::new(&mut held))?;
-    Ok(held)
-}
-
-#[test]
-fn reports(rt: HostRuntime) -> Result<(), Fail> {
-    let held = written(rt.alloc(), HELLO, RELATION)?;
-    assert!(rt; held.as_slice() == TEXT);
-    let held = written(rt.alloc(), HELLO, b"")?;
-    assert!(rt; held.is_empty());
-    Ok(())
-}
-
-/// A thousand packages, and a relation to each of them and to as many others.
-#[test]
-fn a_thousand_packages(rt: HostRuntime) -> Result<(), Fail> {
-    let mut file = Vec::new(rt.alloc());
-    let mut relation = Vec::new(rt.alloc());
-    for number in 1_000..2_000u32 {
-        write!(
-            file,
-            "Package: p{number}\nVersion: 1\nArchitecture: all\n\n"
-        )?;
-        write!(relation, "q{number}, p{number}, ")?;
+    let mut wanted = first;
+    for number in numbers {
+        if *number != wanted {
+            return false;
+        }
+        wanted = wanted.saturating_add(1);
     }
-    let held = written(rt.alloc(), &file, &relation)?;
-    assert!(rt; held.starts_with(b"met p1000\n 1 p1000 1 all\nmet p1001\n 2 p1001 1 all\n"));
-    assert!(rt; held.ends_with(b"\nunmet q1998\nunmet q1999\n"));
-    Ok(())
+    numbers.len() as u64 == count
 }
 
 /// A file that is no index, in pieces of each size.
@@ -397,8 +487,7 @@ fn a_file_that_is_refused(rt: HostRuntime) {
     let file = b"Package: aa\nVersion: 1\nArchitecture: all\n\nPackage: bb\nVersion: 1-\n";
     let code = Code::BadVersion;
     for size in SIZES {
-        let mut reader = Pieces::new(file, size, 0);
-        let fault = Index::read(rt.alloc(), &mut Input::new(&mut reader)).err();
+        let fault = fault_of(rt.alloc(), &mut Pieces::new(file, size, 0));
         assert!(rt;
             fault == Some(Fault::Refused(Refusal { code, line: 6 })),
             "{fault:?}"
@@ -406,54 +495,27 @@ fn a_file_that_is_refused(rt: HostRuntime) {
     }
 }
 
+fn fault_of(alloc: Global, reader: &mut Pieces<'_>) -> Option<Fault> {
+    read(alloc, reader).err()
+}
+
 /// The reader fails once, at each of its calls, and would then go on.
 #[test]
-fn a_failed_read(rt: HostRuntime) -> Result<(), Fail> {
+fn a_failed_read(rt: HostRuntime) {
     for size in SIZES {
         let mut reader = Pieces::new(HELLO, size, 0);
-        let index = Index::read(rt.alloc(), &mut Input::new(&mut reader))?;
-        assert!(rt; index.len() == 2, "pieces of {size}");
+        let fault = fault_of(rt.alloc(), &mut reader);
+        assert!(rt; fault.is_none(), "pieces of {size}");
         for failing in 1..reader.calls.saturating_add(1) {
-            let mut reader = Pieces::new(HELLO, size, failing);
-            let fault = Index::read(rt.alloc(), &mut Input::new(&mut reader)).err();
-            assert!(rt;
-                fault == Some(Fault::Read) && reader.calls == failing,
-                "call {failing} in pieces of {size}: {fault:?}"
-            );
+            let is_reported = is_read_fault(rt.alloc(), size, failing);
+            assert!(rt; is_reported, "call {failing} in pieces of {size}");
         }
     }
-    Ok(())
 }
 
-/// The writer fails after so many good calls, or takes nothing from then on.
-#[test]
-fn a_failed_write(rt: HostRuntime) -> Result<(), Fail> {
-    let index = Index::read(rt.alloc(), &mut Input::new(HELLO))?;
-    let relation = Relation::parse(rt.alloc(), RELATION)?;
-    let environment = Env::new(rt.alloc(), b"amd64", &[b"nocheck"])?;
-    let report = index
-        .query(rt.alloc(), &relation, &environment)
-        .or(Err("no report"))?;
-    for most in [1, 7, 100] {
-        for calls in 0..140u8 {
-            for then in [Then::Fails, Then::TakesNone] {
-                let writer = Slow::new(rt.alloc(), most, u64::from(calls), then);
-                assert!(rt; writes(&report, writer), "{calls} calls of {most} bytes");
-            }
-        }
-    }
-    Ok(())
-}
-
-/// Whether all is written, or a prefix up to the one bad write, which is reported.
-fn writes(report: &Report<'_>, mut writer: Slow) -> bool {
-    let answer = report.write(&mut Output::new(&mut writer));
-    let held = writer.held.as_slice();
-    if writer.failures == 0 {
-        return answer == Ok(()) && held == TEXT;
-    }
-    answer == Err(Fault::Write)
-        && writer.failures == 1
-        && TEXT.starts_with(held)
-        && held.len() < TEXT.len()
+/// Whether a failed call of the reader is its last one, and reported.
+fn is_read_fault(alloc: Global, size: usize, failing: u64) -> bool {
+    let mut reader = Pieces::new(HELLO, size, failing);
+    let fault = fault_of(alloc, &mut reader);
+    fault == Some(Fault::Read) && reader.calls == failing
 }

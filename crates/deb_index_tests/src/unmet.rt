@@ -6,6 +6,7 @@ use deb_devices::{Pieces, SIZES};
 use deb_index::{Index, Members};
 use deb_relation::Env;
 use deb_unmet::{Asked, OwnRequest, Request, Strength, Summary, unmet, unmet_in_itself};
+use std::alloc::Global;
 use std::io::Write;
 use std::test::Fail;
 
@@ -25,46 +26,6 @@ const SPELLED_LINES: &[u8] = b"unmet 1 xx 0:1.00 all Pre-Depends cc\n\
     unmet 1 xx 0:1.00 all Depends aa (>= 2)\nunmet 1 xx 0:1.00 all Depends bb\n\
     unmet 2 yy 2 i386 Depends aa\nunsure 2 yy 2 i386 Depends cc [linux-any]\n";
 
-#[test]
-fn lines_of_packages(rt: HostRuntime) -> Result<(), Fail> {
-    let index = Index::read(rt.alloc(), &mut Input::new(INDEX))?;
-    let environment = Env::new(rt.alloc(), b"amd64", &[])?;
-    let asked = Asked::Packages(Strength::Depends);
-    for size in SIZES {
-        for (versions, lines) in [
-            (VersionText::Canonical, LINES),
-            (VersionText::Spelled, SPELLED_LINES),
-        ] {
-            let mut reader = Input::new(Pieces::new(FILE, size, 0));
-            let mut held = Vec::new(rt.alloc());
-            let summary = unmet(
-                rt.alloc(),
-                &index,
-                &environment,
-                Request { asked, versions },
-                &mut reader,
-                &mut Output::new(&mut held),
-            )?;
-            let wanted = Summary {
-                paragraphs: 2,
-                is_empty: false,
-            };
-            assert!(rt;
-                summary == wanted && held.as_slice() == lines,
-                "pieces of {size}"
-            );
-        }
-    }
-    Ok(())
-}
-
-fn canonical(asked: Asked) -> Request {
-    Request {
-        asked,
-        versions: VersionText::Canonical,
-    }
-}
-
 const WITH_RECOMMENDS: &[u8] = b"Package: xx\nVersion: 1\nArchitecture: amd64\n\
     Depends: bb | aa\nRecommends: dd | ee\n";
 
@@ -74,99 +35,153 @@ const SOURCE: &[u8] = b"Format: 3.0 (quilt)\nSource: ss\nVersion: 1-0\nArchitect
 
 const SOURCES: &[u8] = b"Package: ss\nVersion: 1\nBuild-Depends: aa\n";
 
+/// A file whose second paragraph is refused.
+const REFUSED: &[u8] = b"Package: xx\nVersion: 1\nArchitecture: all\nDepends: zz\n\n\
+    Package: yy\nVersion: 1\nDepends: zz\n";
+
+/// What is asked, the versions of the lines, a file, how many paragraphs it has or the code and the
+/// line of its refusal, and the lines that are written.
+#[derive(Drop)]
+struct Case<'a>(
+    Asked,
+    VersionText,
+    &'a [u8],
+    Result<u64, (Code, u64)>,
+    &'a [u8],
+);
+
+const PACKAGES: Asked = Asked::Packages(Strength::Depends);
+
+const CASES: [Case<'static>; 7] = [
+    Case(PACKAGES, VersionText::Canonical, FILE, Ok(2), LINES),
+    Case(PACKAGES, VersionText::Spelled, FILE, Ok(2), SPELLED_LINES),
+    Case(
+        Asked::Binary(Strength::Depends),
+        VersionText::Canonical,
+        WITH_RECOMMENDS,
+        Ok(1),
+        b"",
+    ),
+    Case(
+        Asked::Binary(Strength::Recommends),
+        VersionText::Canonical,
+        WITH_RECOMMENDS,
+        Ok(1),
+        b"unmet 1 xx 1 amd64 Recommends dd | ee\n",
+    ),
+    Case(
+        Asked::Source,
+        VersionText::Canonical,
+        SOURCE,
+        Ok(1),
+        b"unsure 1 ss 1 source Build-Depends dd [!linux-any]\n\
+            unmet 1 ss 1 source Build-Depends-Indep cc\n",
+    ),
+    Case(Asked::Sources, VersionText::Canonical, SOURCES, Ok(1), b""),
+    // the lines of the paragraphs before a refusal, and nothing of the refused one
+    Case(
+        PACKAGES,
+        VersionText::Canonical,
+        REFUSED,
+        Err((Code::MissingField, 6)),
+        b"unmet 1 xx 1 all Depends zz\n",
+    ),
+];
+
 #[test]
-fn lines_of_each_kind(rt: HostRuntime) -> Result<(), Fail> {
-    let index = Index::read(rt.alloc(), &mut Input::new(INDEX))?;
-    let environment = Env::new(rt.alloc(), b"amd64", &[])?;
-    let cases = [
-        (
-            Asked::Binary(Strength::Depends),
-            WITH_RECOMMENDS,
-            b"".as_slice(),
-        ),
-        (
-            Asked::Binary(Strength::Recommends),
-            WITH_RECOMMENDS,
-            b"unmet 1 xx 1 amd64 Recommends dd | ee\n",
-        ),
-        (
-            Asked::Source,
-            SOURCE,
-            b"unsure 1 ss 1 source Build-Depends dd [!linux-any]\n\
-                unmet 1 ss 1 source Build-Depends-Indep cc\n",
-        ),
-        (Asked::Sources, SOURCES, b""),
-    ];
-    for (asked, file, wanted) in cases {
-        let mut held = Vec::new(rt.alloc());
-        let summary = unmet(
-            rt.alloc(),
-            &index,
-            &environment,
-            canonical(asked),
-            &mut Input::new(file),
-            &mut Output::new(&mut held),
-        )?;
-        assert!(rt; summary.paragraphs == 1 && summary.is_empty == wanted.is_empty());
-        assert!(rt; held.as_slice() == wanted);
+fn lines_of_files(rt: HostRuntime) {
+    for case in &CASES {
+        for size in SIZES {
+            assert!(rt; is_answered(rt.alloc(), case, size), "{:?}, {size}", case.0);
+        }
     }
-    Ok(())
+}
+
+/// Whether a case's answer and lines are right, in pieces of a size.
+fn is_answered(alloc: Global, case: &Case<'_>, size: usize) -> bool {
+    match Index::read(alloc, &mut Input::new(INDEX)) {
+        Ok(index) => is_answered_by(alloc, &index, case, size),
+        Err(_) => false,
+    }
+}
+
+fn is_answered_by(alloc: Global, index: &Index, case: &Case<'_>, size: usize) -> bool {
+    match Env::new(alloc, b"amd64", &[]) {
+        Ok(environment) => writes_lines(alloc, index, &environment, case, size),
+        Err(_) => false,
+    }
+}
+
+fn writes_lines(
+    alloc: Global,
+    index: &Index,
+    environment: &Env,
+    case: &Case<'_>,
+    size: usize,
+) -> bool {
+    let Case(asked, versions, file, answer, lines) = case;
+    let (asked, versions) = (*asked, *versions);
+    let mut held = Vec::new(alloc);
+    let found = unmet(
+        alloc,
+        index,
+        environment,
+        Request { asked, versions },
+        &mut Input::new(Pieces::new(file, size, 0)),
+        &mut Output::new(&mut held),
+    );
+    is_answer(found, *answer, lines.is_empty()) && held.as_slice() == *lines
+}
+
+/// Whether an answer has so many paragraphs and lines or none, or is this refusal.
+fn is_answer(
+    found: Result<Summary, Fault>,
+    wanted: Result<u64, (Code, u64)>,
+    is_empty: bool,
+) -> bool {
+    match wanted {
+        Ok(paragraphs) => {
+            found
+                == Ok(Summary {
+                    paragraphs,
+                    is_empty,
+                })
+        }
+        Err((code, line)) => found == Err(Fault::Refused(Refusal { code, line })),
+    }
 }
 
 /// Two thousand packages with one group each: every other one is unmet.
 #[test]
 fn lines_of_many(rt: HostRuntime) -> Result<(), Fail> {
-    let mut file = Vec::new(rt.alloc());
-    let mut wanted = Vec::new(rt.alloc());
+    let file = many_packages(rt.alloc()).ok_or("memory")?;
+    let lines = many_lines(rt.alloc()).ok_or("memory")?;
+    let asked = Asked::Packages(Strength::Recommends);
+    let case = Case(asked, VersionText::Canonical, &file, Ok(2_000), &lines);
+    assert!(rt; is_answered(rt.alloc(), &case, 65_536));
+    Ok(())
+}
+
+fn many_packages(alloc: Global) -> Option<Vec<u8>> {
+    let mut file = Vec::new(alloc);
     for number in 1..=2_000u32 {
         let name = if number % 2 == 0 { "zz" } else { "aa" };
         write!(
             file,
             "Package: xx\nVersion: {number}\nArchitecture: amd64\nDepends: {name}\n\n"
-        )?;
-        if number % 2 == 0 {
-            write!(wanted, "unmet {number} xx {number} amd64 Depends zz\n")?;
-        }
+        )
+        .ok()?;
     }
-    let index = Index::read(rt.alloc(), &mut Input::new(INDEX))?;
-    let environment = Env::new(rt.alloc(), b"amd64", &[])?;
-    let mut held = Vec::new(rt.alloc());
-    let summary = unmet(
-        rt.alloc(),
-        &index,
-        &environment,
-        canonical(Asked::Packages(Strength::Recommends)),
-        &mut Input::new(file.as_slice()),
-        &mut Output::new(&mut held),
-    )?;
-    assert!(rt; summary.paragraphs == 2_000 && !summary.is_empty);
-    assert!(rt; held.as_slice() == wanted.as_slice());
-    Ok(())
+    Some(file)
 }
 
-/// The lines of the paragraphs before a refusal are written, and nothing of the refused one.
-#[test]
-fn lines_before_a_refusal(rt: HostRuntime) -> Result<(), Fail> {
-    let file = b"Package: xx\nVersion: 1\nArchitecture: all\nDepends: zz\n\n\
-        Package: yy\nVersion: 1\nDepends: zz\n";
-    let index = Index::read(rt.alloc(), &mut Input::new(INDEX))?;
-    let environment = Env::new(rt.alloc(), b"amd64", &[])?;
-    let mut held = Vec::new(rt.alloc());
-    let answer = unmet(
-        rt.alloc(),
-        &index,
-        &environment,
-        canonical(Asked::Packages(Strength::Depends)),
-        &mut Input::new(file.as_slice()),
-        &mut Output::new(&mut held),
-    );
-    let refusal = Refusal {
-        code: Code::MissingField,
-        line: 6,
-    };
-    assert!(rt; answer == Err(Fault::Refused(refusal)));
-    assert!(rt; held.as_slice() == b"unmet 1 xx 1 all Depends zz\n".as_slice());
-    Ok(())
+fn many_lines(alloc: Global) -> Option<Vec<u8>> {
+    let mut lines = Vec::new(alloc);
+    for half in 1..=1_000u32 {
+        let number = half * 2;
+        write!(lines, "unmet {number} xx {number} amd64 Depends zz\n").ok()?;
+    }
+    Some(lines)
 }
 
 const OWN: &[u8] = b"Package: xx\nVersion: 0:1.00\nArchitecture: all\n\
@@ -180,39 +195,49 @@ const OWN_SPELLED_LINES: &[u8] = b"unmet 1 xx 0:1.00 all Pre-Depends cc\n\
     unmet 1 xx 0:1.00 all Depends bb\nunmet 1 xx 0:1.00 all Recommends dd\n\
     unmet 2 yy 2 amd64 Depends yy (>= 3)\n";
 
+/// Which relations are asked, the versions of the lines, and the lines.
+struct Own(Strength, VersionText, &'static [u8]);
+
+const OWN_CASES: [Own; 2] = [
+    Own(Strength::Depends, VersionText::Canonical, OWN_LINES),
+    Own(
+        Strength::Recommends,
+        VersionText::Spelled,
+        OWN_SPELLED_LINES,
+    ),
+];
+
 #[test]
-fn lines_of_an_index_in_itself(rt: HostRuntime) -> Result<(), Fail> {
-    let environment = Env::new(rt.alloc(), b"amd64", &[])?;
-    for size in SIZES {
-        for (strength, versions, lines) in [
-            (Strength::Depends, VersionText::Canonical, OWN_LINES),
-            (
-                Strength::Recommends,
-                VersionText::Spelled,
-                OWN_SPELLED_LINES,
-            ),
-        ] {
-            let mut held = Vec::new(rt.alloc());
-            let summary = unmet_in_itself(
-                rt.alloc(),
-                &environment,
-                OwnRequest {
-                    members: Members::All,
-                    strength,
-                    versions,
-                },
-                &mut Input::new(Pieces::new(OWN, size, 0)),
-                &mut Output::new(&mut held),
-            )?;
-            let wanted = Summary {
-                paragraphs: 2,
-                is_empty: false,
-            };
-            assert!(rt;
-                summary == wanted && held.as_slice() == lines,
-                "pieces of {size}"
-            );
+fn lines_of_an_index_in_itself(rt: HostRuntime) {
+    for own in &OWN_CASES {
+        for size in SIZES {
+            assert!(rt; writes_own(rt.alloc(), own, size), "pieces of {size}");
         }
     }
-    Ok(())
+}
+
+fn writes_own(alloc: Global, own: &Own, size: usize) -> bool {
+    match Env::new(alloc, b"amd64", &[]) {
+        Ok(environment) => writes_own_lines(alloc, &environment, own, size),
+        Err(_) => false,
+    }
+}
+
+fn writes_own_lines(alloc: Global, environment: &Env, own: &Own, size: usize) -> bool {
+    let Own(strength, versions, lines) = own;
+    let (strength, versions) = (*strength, *versions);
+    let request = OwnRequest {
+        members: Members::All,
+        strength,
+        versions,
+    };
+    let mut held = Vec::new(alloc);
+    let found = unmet_in_itself(
+        alloc,
+        environment,
+        request,
+        &mut Input::new(Pieces::new(OWN, size, 0)),
+        &mut Output::new(&mut held),
+    );
+    is_answer(found, Ok(2), false) && held.as_slice() == *lines
 }

@@ -3,7 +3,6 @@
 use deb_base::is_body;
 use deb_field::*;
 use std::alloc::Global;
-use std::test::Fail;
 
 /// A kind of document, a field and its body, and the canonical text of its value.
 struct Row(Doc, &'static str, &'static str, &'static str);
@@ -39,10 +38,18 @@ fn has_text(alloc: Global, doc: Doc, name: &str, body: &[u8], canonical: &[u8]) 
         return None;
     }
     let value = Value::parse(alloc, doc, name.as_bytes(), body).ok()?;
+    is_text_of(alloc, &value, canonical)
+}
+
+fn is_text_of(alloc: Global, value: &Value<'_>, canonical: &[u8]) -> Option<bool> {
     let mut out = vec![in alloc; b'='; 2_000].ok()?;
     value.canon_into(&mut out).ok()?;
-    let has_len = value.canon_len() == canonical.len() as u64;
-    Some(has_len && out.get(2_000..) == Some(canonical))
+    Some(is_text(&out, canonical, value.canon_len()))
+}
+
+/// Whether a list has a text of this length after two thousand bytes.
+fn is_text(out: &[u8], text: &[u8], len: u64) -> bool {
+    len == text.len() as u64 && out.get(2_000..) == Some(text)
 }
 
 #[test]
@@ -90,13 +97,15 @@ fn long_body(alloc: Global, row: &Long) -> Option<Vec<u8>> {
 }
 
 #[test]
-fn long_values(rt: HostRuntime) -> Result<(), Fail> {
+fn long_values(rt: HostRuntime) {
     for row in &LONG {
-        let body = long_body(rt.alloc(), row).ok_or("memory")?;
-        let is_right = has_text(rt.alloc(), row.0, row.1, &body, &body);
-        assert!(rt; is_right == Some(true), "{}", row.1);
+        assert!(rt; is_long_value(rt.alloc(), row) == Some(true), "{}", row.1);
     }
-    Ok(())
+}
+
+fn is_long_value(alloc: Global, row: &Long) -> Option<bool> {
+    let body = long_body(alloc, row)?;
+    has_text(alloc, row.0, row.1, &body, &body)
 }
 
 /// The sort of a relationship field; None where the field is of another kind, or a call fails.
@@ -141,8 +150,13 @@ fn has_each_or_none(alloc: Global, value: &Value<'_>, canonical: &[u8]) -> Optio
     let mut out = Vec::new(alloc);
     let first = value.canon_into(&mut out).is_ok();
     let second = value.canon_into(&mut out).is_ok();
-    let rest = behind(out.as_slice(), canonical, first)?;
-    Some(behind(rest, canonical, second)?.is_empty())
+    are_texts(&out, canonical, [first, second])
+}
+
+/// Whether a list has a text twice, once or not at all.
+fn are_texts(out: &[u8], text: &[u8], are_there: [bool; 2]) -> Option<bool> {
+    let rest = behind(out, text, are_there[0])?;
+    Some(behind(rest, text, are_there[1])?.is_empty())
 }
 
 /// Asks this of a row's value so often that a growth refused late is one of `canon_into`.

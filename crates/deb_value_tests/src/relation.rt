@@ -3,8 +3,7 @@
 
 use deb_relation::{Alternative, Env, EnvFault, Group, Op, Reason, Relation, RelationFault};
 use deb_version::BadVersion;
-use std::alloc::Global;
-use std::process::Abort;
+use std::alloc::{AllocError, Global};
 use std::test::Fail;
 
 /// A text, and the reason and the offset of the step that fails.
@@ -147,10 +146,18 @@ fn prefixes_of_a_relation(rt: HostRuntime) {
 /// Whether a relation has this canonical text, after what is there; None where a call fails.
 fn has_text(alloc: Global, text: &[u8], canonical: &[u8]) -> Option<bool> {
     let relation = Relation::parse(alloc, text).ok()?;
+    is_text_of(alloc, &relation, canonical)
+}
+
+fn is_text_of(alloc: Global, relation: &Relation<'_>, canonical: &[u8]) -> Option<bool> {
     let mut out = vec![in alloc; b'='; 2_000].ok()?;
     relation.canon_into(&mut out).ok()?;
-    let has_len = relation.canon_len() == canonical.len() as u64;
-    Some(has_len && out.get(2_000..) == Some(canonical))
+    Some(is_text(&out, canonical, relation.canon_len()))
+}
+
+/// Whether a list has a text of this length after two thousand bytes.
+fn is_text(out: &[u8], text: &[u8], len: u64) -> bool {
+    len == text.len() as u64 && out.get(2_000..) == Some(text)
 }
 
 #[test]
@@ -160,60 +167,86 @@ fn canonical_text(rt: HostRuntime) {
     assert!(rt; has_text(rt.alloc(), b" , ,", b"") == Some(true));
 }
 
-/// The same of a group.
+/// The same of the groups of a relation.
+fn groups_have_texts(alloc: Global, text: &[u8], canonical: [&[u8]; 2]) -> Option<bool> {
+    let relation = Relation::parse(alloc, text).ok()?;
+    match relation.groups() {
+        [first, second] => are_texts_of(alloc, first, second, canonical),
+        _ => None,
+    }
+}
+
+fn are_texts_of(
+    alloc: Global,
+    first: &Group<'_>,
+    second: &Group<'_>,
+    canonical: [&[u8]; 2],
+) -> Option<bool> {
+    let is_first = group_has_text(alloc, first, canonical[0])?;
+    let is_second = group_has_text(alloc, second, canonical[1])?;
+    Some(is_first && is_second)
+}
+
 fn group_has_text(alloc: Global, group: &Group<'_>, canonical: &[u8]) -> Option<bool> {
     let mut out = vec![in alloc; b'='; 2_000].ok()?;
     group.canon_into(&mut out).ok()?;
-    let has_len = group.canon_len() == canonical.len() as u64;
-    Some(has_len && out.get(2_000..) == Some(canonical))
+    Some(is_text(&out, canonical, group.canon_len()))
 }
 
 #[test]
-fn groups_in_the_order_of_their_texts(rt: HostRuntime) -> Result<(), Fail> {
-    let relation = Relation::parse(rt.alloc(), LONGEST)?;
-    let [first, second] = relation.groups() else {
-        return Err(Fail::from("not two groups"));
-    };
-    assert!(rt; group_has_text(rt.alloc(), first, b"bb (>= 1.0) | aa") == Some(true));
-    assert!(rt; group_has_text(rt.alloc(), second, b"cc [amd64 i386] <!x y> <z>") == Some(true));
-    Ok(())
+fn groups_in_the_order_of_their_texts(rt: HostRuntime) {
+    let texts: [&[u8]; 2] = [b"bb (>= 1.0) | aa", b"cc [amd64 i386] <!x y> <z>"];
+    assert!(rt; groups_have_texts(rt.alloc(), LONGEST, texts) == Some(true));
 }
 
 #[test]
-fn parts_of_alternatives(rt: HostRuntime) -> Result<(), Fail> {
-    let relation = Relation::parse(rt.alloc(), b"aa:any(>=1.)[!i386 !amd64]<y !x><z> | bb")?;
-    let [group] = relation.groups() else {
-        return Err(Fail::from("not one group"));
-    };
-    let [a, b] = group.alternatives() else {
-        return Err(Fail::from("not two alternatives"));
-    };
-    assert_parts(&rt, a);
-    assert_plain(&rt, b);
-    Ok(())
+fn parts_of_alternatives(rt: HostRuntime) {
+    let text = b"aa:any(>=1.)[!i386 !amd64]<y !x><z> | bb";
+    assert!(rt; has_parts(rt.alloc(), text) == Some(true));
 }
 
-/// The alternative is `aa:any (>= 1.0) [!amd64 !i386] <!x y> <z>`.
-fn assert_parts(rt: &impl Abort, alternative: &Alternative<'_>) {
-    assert!(rt; alternative.name() == b"aa".as_slice());
-    assert!(rt; alternative.qualifier() == Some(b"any".as_slice()));
+/// Whether a text has one group, of an alternative with each part and one with none; None where a
+/// call fails.
+fn has_parts(alloc: Global, text: &[u8]) -> Option<bool> {
+    let relation = Relation::parse(alloc, text).ok()?;
+    match relation.groups() {
+        [group] => are_two(group.alternatives()),
+        _ => None,
+    }
+}
+
+fn are_two(alternatives: &[Alternative<'_>]) -> Option<bool> {
+    match alternatives {
+        [first, second] => Some(has_names(first) && has_lists(first) && is_plain(second)),
+        _ => None,
+    }
+}
+
+/// Whether the alternative is `aa:any (>= 1.0)`, and then has lists.
+fn has_names(alternative: &Alternative<'_>) -> bool {
     let bound = alternative.bound();
-    assert!(rt; matches!(bound, Some((Op::LaterEqual, version)) if version.canon_len() == 3));
-    let architectures = alternative.architectures();
-    assert!(rt; matches!(architectures, Some((true, [b"amd64", b"i386"]))));
-    let formula = alternative.formula();
-    assert!(rt; formula.len() == 2);
-    let first = formula.first().and_then(|list| list.first().copied());
-    assert!(rt; first == Some((true, b"x".as_slice())));
+    alternative.name() == b"aa".as_slice()
+        && alternative.qualifier() == Some(b"any".as_slice())
+        && matches!(bound, Some((Op::LaterEqual, version)) if version.canon_len() == 3)
 }
 
-/// The alternative is `bb`.
-fn assert_plain(rt: &impl Abort, alternative: &Alternative<'_>) {
-    assert!(rt; alternative.name() == b"bb".as_slice());
-    assert!(rt; alternative.qualifier().is_none());
-    assert!(rt; alternative.bound().is_none());
-    assert!(rt; alternative.architectures().is_none());
-    assert!(rt; alternative.formula().is_empty());
+/// Whether the lists are `[!amd64 !i386] <!x y> <z>`.
+fn has_lists(alternative: &Alternative<'_>) -> bool {
+    let architectures = alternative.architectures();
+    matches!(architectures, Some((true, [b"amd64", b"i386"])))
+        && match alternative.formula() {
+            [first, _] => matches!(first.as_slice(), [(true, b"x"), ..]),
+            _ => false,
+        }
+}
+
+/// Whether the alternative is `bb`.
+fn is_plain(alternative: &Alternative<'_>) -> bool {
+    alternative.name() == b"bb".as_slice()
+        && alternative.qualifier().is_none()
+        && alternative.bound().is_none()
+        && alternative.architectures().is_none()
+        && alternative.formula().is_empty()
 }
 
 /// A text, and whether some group has two alternatives, whether there is a wildcard, and whether
@@ -229,67 +262,106 @@ const ASKED: [Asked; 5] = [
 ];
 
 #[test]
-fn tests_of_relations(rt: HostRuntime) -> Result<(), Fail> {
-    for Asked(text, alternatives, wildcard, equals) in &ASKED {
-        let relation = Relation::parse(rt.alloc(), text.as_bytes())?;
-        assert!(rt; relation.has_alternatives() == *alternatives, "{text}");
-        assert!(rt; relation.has_wildcard() == *wildcard, "{text}");
-        assert!(rt; relation.only_equals() == *equals, "{text}");
+fn tests_of_relations(rt: HostRuntime) {
+    for row in &ASKED {
+        assert!(rt; is_answered(rt.alloc(), row), "{}", row.0);
     }
-    Ok(())
+}
+
+fn is_answered(alloc: Global, row: &Asked) -> bool {
+    match Relation::parse(alloc, row.0.as_bytes()) {
+        Ok(relation) => {
+            relation.has_alternatives() == row.1
+                && relation.has_wildcard() == row.2
+                && relation.only_equals() == row.3
+        }
+        Err(_) => false,
+    }
 }
 
 /// All 17,576 names of three letters, each at the index of its distance from this number.
 fn names(alloc: Global, from: u32, between: &[u8]) -> Option<Vec<u8>> {
     let mut text = Vec::new(alloc);
     for n in 0..17_576u32 {
-        if n > 0 {
-            text.extend_from_slice(between).ok()?;
-        }
-        let n = from.abs_diff(n);
-        for letter in [n / 676 % 26, n / 26 % 26, n % 26] {
-            text.push(b'a'.wrapping_add(letter as u8)).ok()?;
-        }
+        let front: &[u8] = if n > 0 { between } else { b"" };
+        append_name(&mut text, front, from.abs_diff(n)).ok()?;
     }
     Some(text)
 }
 
+fn append_name(text: &mut Vec<u8>, front: &[u8], n: u32) -> Result<(), AllocError> {
+    text.extend_from_slice(front)?;
+    text.extend_from_slice(&[letter(n / 676), letter(n / 26), letter(n)])
+}
+
+fn letter(n: u32) -> u8 {
+    b'a'.wrapping_add((n % 26) as u8)
+}
+
 /// Each group is twice, in descending order and then in ascending order.
 #[test]
-fn many_groups(rt: HostRuntime) -> Result<(), Fail> {
-    let canonical = names(rt.alloc(), 0, b", ").ok_or("memory")?;
-    let mut text = names(rt.alloc(), 17_575, b",").ok_or("memory")?;
-    text.push(b',')?;
-    text.extend_from_slice(&canonical)?;
-    assert!(rt; has_text(rt.alloc(), &text, &canonical) == Some(true));
-    Ok(())
+fn many_groups(rt: HostRuntime) {
+    assert!(rt; are_many_groups(rt.alloc()) == Some(true));
+}
+
+fn are_many_groups(alloc: Global) -> Option<bool> {
+    let canonical = names(alloc, 0, b", ")?;
+    let text = twice(alloc, &canonical)?;
+    has_text(alloc, &text, &canonical)
+}
+
+/// The names in descending order, and then a text.
+fn twice(alloc: Global, ascending: &[u8]) -> Option<Vec<u8>> {
+    let mut text = names(alloc, 17_575, b",")?;
+    append_after(&mut text, b",", ascending).ok()?;
+    Some(text)
+}
+
+fn append_after(text: &mut Vec<u8>, front: &[u8], end: &[u8]) -> Result<(), AllocError> {
+    text.extend_from_slice(front)?;
+    text.extend_from_slice(end)
 }
 
 #[test]
-fn many_alternatives(rt: HostRuntime) -> Result<(), Fail> {
-    let text = names(rt.alloc(), 17_575, b" | ").ok_or("memory")?;
-    assert!(rt; has_text(rt.alloc(), &text, &text) == Some(true));
-    Ok(())
+fn many_alternatives(rt: HostRuntime) {
+    assert!(rt; are_many_alternatives(rt.alloc()) == Some(true));
+}
+
+fn are_many_alternatives(alloc: Global) -> Option<bool> {
+    let text = names(alloc, 17_575, b" | ")?;
+    has_text(alloc, &text, &text)
+}
+
+/// Appends what opens a list, all names and what ends it.
+fn append_list(
+    text: &mut Vec<u8>,
+    alloc: Global,
+    front: &[u8],
+    between: &[u8],
+    end: &[u8],
+) -> Option<()> {
+    let names = names(alloc, 0, between)?;
+    text.extend_from_slice(front).ok()?;
+    append_after(text, &names, end).ok()
 }
 
 /// A list of all names as architectures, one of all as profiles, and as many of one profile.
 fn long_lists(alloc: Global) -> Option<Vec<u8>> {
     let mut text = Vec::new(alloc);
-    text.extend_from_slice(b"aa [").ok()?;
-    text.extend_from_slice(&names(alloc, 0, b" ")?).ok()?;
-    text.extend_from_slice(b"] <").ok()?;
-    text.extend_from_slice(&names(alloc, 0, b" ")?).ok()?;
-    text.extend_from_slice(b"> <").ok()?;
-    text.extend_from_slice(&names(alloc, 0, b"> <")?).ok()?;
-    text.push(b'>').ok()?;
+    append_list(&mut text, alloc, b"aa [", b" ", b"]")?;
+    append_list(&mut text, alloc, b" <", b" ", b"> <")?;
+    append_list(&mut text, alloc, b"", b"> <", b">")?;
     Some(text)
 }
 
 #[test]
-fn an_alternative_of_long_lists(rt: HostRuntime) -> Result<(), Fail> {
-    let text = long_lists(rt.alloc()).ok_or("memory")?;
-    assert!(rt; has_text(rt.alloc(), &text, &text) == Some(true));
-    Ok(())
+fn an_alternative_of_long_lists(rt: HostRuntime) {
+    assert!(rt; are_long_lists(rt.alloc()) == Some(true));
+}
+
+fn are_long_lists(alloc: Global) -> Option<bool> {
+    let text = long_lists(alloc)?;
+    has_text(alloc, &text, &text)
 }
 
 /// A relation whose one alternative applies for amd64 with the profile nocheck, or doesn't.
@@ -303,41 +375,58 @@ const APPLY: [(&str, bool); 4] = [
 /// Whether the first alternative applies.
 fn first_applies(alloc: Global, text: &str, environment: &Env) -> Option<bool> {
     let relation = Relation::parse(alloc, text.as_bytes()).ok()?;
-    let alternative = relation.groups().first()?.alternatives().first()?;
-    Some(alternative.applies(environment))
+    Some(first_of(&relation)?.applies(environment))
+}
+
+fn first_of<'r, 'a>(relation: &'r Relation<'a>) -> Option<&'r Alternative<'a>> {
+    relation.groups().first()?.alternatives().first()
 }
 
 #[test]
 fn alternatives_that_apply(rt: HostRuntime) -> Result<(), Fail> {
     let environment = Env::new(rt.alloc(), b"amd64", &[b"nocheck"])?;
     for (text, wanted) in APPLY {
-        assert!(rt;
-            first_applies(rt.alloc(), text, &environment) == Some(wanted),
-            "{text}"
-        );
+        assert!(rt; first_applies(rt.alloc(), text, &environment) == Some(wanted));
     }
     Ok(())
 }
 
 #[test]
-fn parts_of_an_environment(rt: HostRuntime) -> Result<(), Fail> {
-    assert!(rt; Env::new(rt.alloc(), b"amd64", &[]).is_ok());
-    let environment = Env::new(rt.alloc(), b"amd64", &[b"nocheck"])?;
-    assert!(rt; environment.target() == b"amd64".as_slice());
-    assert!(rt; environment.active(b"nocheck") && !environment.active(b"nodoc"));
-    Ok(())
+fn parts_of_an_environment(rt: HostRuntime) {
+    assert!(rt; is_environment(rt.alloc(), &[b"nocheck"], true));
+    assert!(rt; is_environment(rt.alloc(), &[], false));
+}
+
+/// Whether there is an environment of amd64 with these profiles, one of which is nocheck or isn't.
+fn is_environment(alloc: Global, profiles: &[&[u8]], nocheck: bool) -> bool {
+    match Env::new(alloc, b"amd64", profiles) {
+        Ok(environment) => {
+            environment.target() == b"amd64".as_slice()
+                && environment.active(b"nocheck") == nocheck
+                && !environment.active(b"nodoc")
+        }
+        Err(_) => false,
+    }
 }
 
 /// A target of ten thousand bytes, and a thousand profiles.
 #[test]
 fn a_long_environment(rt: HostRuntime) -> Result<(), Fail> {
     let name = vec![in rt.alloc(); b'a'; 10_000]?;
-    let mut profiles = [b"nodoc".as_slice(); 1_000];
-    profiles[999] = &name;
-    let environment = Env::new(rt.alloc(), &name, &profiles)?;
-    assert!(rt; environment.target() == name.as_slice());
-    assert!(rt; environment.active(b"nodoc") && environment.active(&name));
+    assert!(rt; is_long(rt.alloc(), &name));
     Ok(())
+}
+
+/// Whether an environment has this name as its target, and as its last profile of a thousand.
+fn is_long(alloc: Global, name: &[u8]) -> bool {
+    let mut profiles = [b"nodoc".as_slice(); 1_000];
+    profiles[999] = name;
+    match Env::new(alloc, name, &profiles) {
+        Ok(environment) => {
+            environment.target() == name && environment.active(b"nodoc") && environment.active(name)
+        }
+        Err(_) => false,
+    }
 }
 
 #[test]
@@ -372,10 +461,17 @@ fn text_of(first: bool, second: bool) -> &'static [u8] {
 #[test]
 fn want_of_memory_leaves_what_stands_before_a_relation(rt: HostRuntime) -> Result<(), Fail> {
     let relation = Relation::parse(rt.alloc(), b"bb|aa")?;
-    for _ in 0..150 {
-        assert!(rt; has_all_or_none(rt.alloc(), &relation));
-    }
+    assert!(rt; have_all_or_none(rt.alloc(), &relation));
     Ok(())
+}
+
+fn have_all_or_none(alloc: Global, relation: &Relation<'_>) -> bool {
+    for _ in 0..150 {
+        if !has_all_or_none(alloc, relation) {
+            return false;
+        }
+    }
+    true
 }
 
 /// The same of a group.
@@ -392,9 +488,18 @@ fn group_has_all_or_none(alloc: Global, group: &Group<'_>) -> bool {
 #[test]
 fn want_of_memory_leaves_what_stands_before_a_group(rt: HostRuntime) -> Result<(), Fail> {
     let relation = Relation::parse(rt.alloc(), b"bb|aa")?;
-    let group = relation.groups().first().ok_or("no group")?;
-    for _ in 0..150 {
-        assert!(rt; group_has_all_or_none(rt.alloc(), group));
-    }
+    assert!(rt; groups_have_all_or_none(rt.alloc(), relation.groups()));
     Ok(())
+}
+
+fn groups_have_all_or_none(alloc: Global, groups: &[Group<'_>]) -> bool {
+    let [group] = groups else {
+        return false;
+    };
+    for _ in 0..150 {
+        if !group_has_all_or_none(alloc, group) {
+            return false;
+        }
+    }
+    true
 }

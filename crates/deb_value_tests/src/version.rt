@@ -49,8 +49,12 @@ fn has_text(alloc: Global, text: &[u8], canonical: &[u8]) -> Option<bool> {
     let version = Version::parse(text).ok()?;
     let mut out = vec![in alloc; b'='; 2_000].ok()?;
     version.canon_into(&mut out).ok()?;
-    let has_len = version.canon_len() == canonical.len() as u64;
-    Some(has_len && out.get(2_000..) == Some(canonical))
+    Some(is_text(&out, canonical, version.canon_len()))
+}
+
+/// Whether a list has a text of this length after two thousand bytes.
+fn is_text(out: &[u8], text: &[u8], len: u64) -> bool {
+    len == text.len() as u64 && out.get(2_000..) == Some(text)
 }
 
 #[test]
@@ -98,10 +102,16 @@ fn order_of(a: &[u8], b: &[u8]) -> Option<Ordering> {
     Some(Version::parse(a).ok()?.cmp(&Version::parse(b).ok()?))
 }
 
+/// Whether the first is earlier; None where one is none.
+fn is_earlier(a: &[u8], b: &[u8]) -> Option<bool> {
+    Some(Version::parse(a).ok()? < Version::parse(b).ok()?)
+}
+
 #[test]
 fn order(rt: HostRuntime) {
     assert!(rt; order_of(b"1.0~rc1", b"1.0") == Some(Ordering::Less));
     assert!(rt; order_of(b"0:1.0-0", b"1.00") == Some(Ordering::Equal));
+    assert!(rt; is_earlier(b"1.0~rc1", b"1.0") == Some(true));
 }
 
 /// Spellings of one version, and of one with a long epoch.
@@ -109,45 +119,69 @@ const SPELLINGS: [&[u8]; 4] = [b"1.01", b"1.1", b"0:1.1-0", b"01.001"];
 
 const LONG_EPOCHS: [&[u8]; 2] = [b"99999999999999999999:1", b"00099999999999999999999:1-0"];
 
-/// Whether spellings are one key of each kind of set and map; None where a call fails.
-fn are_one_key(alloc: Global, spellings: &[&[u8]]) -> Option<bool> {
+/// Whether spellings are one element of a set; None where a call fails.
+fn are_one_element(alloc: Global, spellings: &[&[u8]]) -> Option<bool> {
     let mut set = HashSet::new(alloc);
+    for text in spellings {
+        set.insert(Version::parse(text).ok()?).ok()?;
+    }
+    Some(set.len() == 1)
+}
+
+/// Whether they are one key of a sorted map.
+fn are_one_sorted_key(alloc: Global, spellings: &[&[u8]]) -> Option<bool> {
     let mut tree = BTreeMap::new(alloc);
+    for text in spellings {
+        tree.insert(Version::parse(text).ok()?, 0).ok()?;
+    }
+    Some(tree.len() == 1)
+}
+
+/// Whether they are one key of an index.
+fn are_one_indexed_key(alloc: Global, spellings: &[&[u8]]) -> Option<bool> {
     let mut index = IndexMap::new(alloc);
     for text in spellings {
-        let version = Version::parse(text).ok()?;
-        set.insert(version).ok()?;
-        tree.insert(version, 0).ok()?;
-        index.insert(version, 0).ok()?;
+        index.insert(Version::parse(text).ok()?, 0).ok()?;
     }
-    Some(set.len() == 1 && tree.len() == 1 && index.len() == 1)
+    Some(index.len() == 1)
 }
 
 #[test]
 fn keys(rt: HostRuntime) {
-    assert!(rt; are_one_key(rt.alloc(), &SPELLINGS) == Some(true));
-    assert!(rt; are_one_key(rt.alloc(), &LONG_EPOCHS) == Some(true));
+    for spellings in [SPELLINGS.as_slice(), &LONG_EPOCHS] {
+        assert!(rt; are_one_element(rt.alloc(), spellings) == Some(true));
+        assert!(rt; are_one_sorted_key(rt.alloc(), spellings) == Some(true));
+        assert!(rt; are_one_indexed_key(rt.alloc(), spellings) == Some(true));
+    }
 }
 
 /// Versions in their order.
 const ASCENDING: [&[u8]; 6] = [b"1.0~rc1", b"1.0", b"1.0-1", b"1.9", b"1.10", b"1:0"];
 
-/// Whether std's sort puts them into that order; None where a call fails.
-fn are_sorted(alloc: Global) -> Option<bool> {
+/// The versions in the opposite order.
+fn descending(alloc: Global) -> Option<Vec<Version<'static>>> {
     let mut versions = Vec::new(alloc);
     for text in ASCENDING.iter().rev() {
         versions.push(Version::parse(text).ok()?).ok()?;
     }
-    versions.sort().ok()?;
-    for (version, text) in versions.iter().zip(ASCENDING.iter()) {
-        if *version != Version::parse(text).ok()? {
-            return Some(false);
+    Some(versions)
+}
+
+/// Whether versions have these texts, in their order.
+fn have_texts(versions: &[Version<'_>], texts: &[&[u8]]) -> bool {
+    for (version, text) in versions.iter().zip(texts) {
+        if Version::parse(text) != Ok(*version) {
+            return false;
         }
     }
-    match versions.as_slice() {
-        [first, second, ..] => Some(first < second),
-        _ => Some(false),
-    }
+    versions.len() == texts.len()
+}
+
+/// Whether std's sort puts them into that order; None where a call fails.
+fn are_sorted(alloc: Global) -> Option<bool> {
+    let mut versions = descending(alloc)?;
+    let is_sorted = versions.sort().is_ok();
+    Some(is_sorted && have_texts(&versions, &ASCENDING))
 }
 
 #[test]
@@ -172,15 +206,25 @@ fn canonical_text_of_a_long_version(rt: HostRuntime) -> Result<(), Fail> {
     Ok(())
 }
 
+/// Whether a long version with so many zeros is earlier than another one, also if they change
+/// places; None where a call fails.
+fn is_long_order(alloc: Global, zeros: usize) -> Option<bool> {
+    let earlier = long_version(alloc, zeros, b'7')?;
+    let later = long_version(alloc, 0, b'8')?;
+    Some(are_ordered(&earlier, &later))
+}
+
+fn are_ordered(earlier: &[u8], later: &[u8]) -> bool {
+    order_of(earlier, later) == Some(Ordering::Less)
+        && order_of(later, earlier) == Some(Ordering::Greater)
+}
+
 #[test]
 fn order_of_long_versions(rt: HostRuntime) -> Result<(), Fail> {
-    let earlier = long_version(rt.alloc(), 1_000_000, b'7').ok_or("memory")?;
-    let later = long_version(rt.alloc(), 0, b'8').ok_or("memory")?;
-    assert!(rt; order_of(&later, &later) == Some(Ordering::Equal));
-    assert!(rt; order_of(&earlier, &later) == Some(Ordering::Less));
-    assert!(rt; order_of(&later, &earlier) == Some(Ordering::Greater));
-    let alike = long_version(rt.alloc(), 0, b'7').ok_or("memory")?;
-    assert!(rt; order_of(&alike, &later) == Some(Ordering::Less));
+    assert!(rt; is_long_order(rt.alloc(), 1_000_000) == Some(true));
+    assert!(rt; is_long_order(rt.alloc(), 0) == Some(true));
+    let text = long_version(rt.alloc(), 0, b'8').ok_or("memory")?;
+    assert!(rt; order_of(&text, &text) == Some(Ordering::Equal));
     Ok(())
 }
 
@@ -200,13 +244,17 @@ fn order_of_long_epochs(rt: HostRuntime) -> Result<(), Fail> {
     Ok(())
 }
 
+/// How versions of a million and more tildes compare; None where a call fails.
+fn order_of_tildes(alloc: Global, a: usize, b: usize) -> Option<Ordering> {
+    let first = vec![in alloc; b'~'; a].ok()?;
+    let second = vec![in alloc; b'~'; b].ok()?;
+    order_of(&first, &second)
+}
+
 #[test]
-fn order_of_many_tildes(rt: HostRuntime) -> Result<(), Fail> {
-    let fewer = vec![in rt.alloc(); b'~'; 1_000_000].ok().ok_or("memory")?;
-    let more = vec![in rt.alloc(); b'~'; 1_000_001].ok().ok_or("memory")?;
-    assert!(rt; order_of(&more, &fewer) == Some(Ordering::Less));
-    assert!(rt; order_of(&fewer, &fewer) == Some(Ordering::Equal));
-    Ok(())
+fn order_of_many_tildes(rt: HostRuntime) {
+    assert!(rt; order_of_tildes(rt.alloc(), 1_000_001, 1_000_000) == Some(Ordering::Less));
+    assert!(rt; order_of_tildes(rt.alloc(), 1_000_000, 1_000_000) == Some(Ordering::Equal));
 }
 
 /// Appends the canonical text to a list with room for the epoch alone, which is written by then.

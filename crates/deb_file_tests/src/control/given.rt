@@ -3,6 +3,8 @@
 use super::*;
 use deb_control::{CheckedText, CheckedView, NoVisitor, Paragraph};
 use deb_field::{Canon, Value};
+use deb_syntax::RawField;
+use std::alloc::AllocError;
 
 /// A field as it is in the file: its name, its line and its body.
 struct Field(&'static [u8], u64, &'static [u8]);
@@ -39,90 +41,109 @@ const SHOWN: [Shown; 2] = [
 ];
 
 #[test]
-fn paragraphs_that_are_given(rt: HostRuntime) -> Result<(), Fail> {
+fn paragraphs_that_are_given(rt: HostRuntime) {
     for size in SIZES {
-        let mut input = Input::new(Pieces::new(FILE, size, 0));
-        let mut checked = Checked::new(rt.alloc(), Doc::Packages);
-        for shown in &SHOWN {
-            let paragraph = checked.next(&mut input)?.ok_or("no paragraph")?;
-            assert!(rt; shows(&paragraph, shown), "fields in pieces of {size}");
-            assert!(rt; finds(&paragraph, shown), "names in pieces of {size}");
-            let has_values = has_values(rt.alloc(), &paragraph, shown)?;
-            assert!(rt; has_values, "values in pieces of {size}");
-            let is_typed = is_typed(rt.alloc(), &paragraph, shown)?;
-            assert!(rt; is_typed, "all values in pieces of {size}");
-        }
-        assert!(rt; checked.next(&mut input)?.is_none(), "the end");
+        assert!(rt; gives_all(rt.alloc(), size), "pieces of {size}");
     }
-    Ok(())
+}
+
+/// Whether the paragraphs of the file are given, and no more.
+fn gives_all(alloc: Global, size: usize) -> bool {
+    let mut input = Input::new(Pieces::new(FILE, size, 0));
+    let mut checked = Checked::new(alloc, Doc::Packages);
+    gives_next(alloc, &mut checked, &mut input, &SHOWN[0])
+        && gives_next(alloc, &mut checked, &mut input, &SHOWN[1])
+        && matches!(checked.next(&mut input), Ok(None))
+}
+
+fn gives_next(
+    alloc: Global,
+    checked: &mut Checked,
+    input: &mut Input<Pieces<'_>>,
+    shown: &Shown,
+) -> bool {
+    match checked.next(input) {
+        Ok(Some(paragraph)) => {
+            shows(&paragraph, shown)
+                && finds(&paragraph, shown)
+                && has_values(alloc, &paragraph, shown.2)
+                && is_typed(alloc, &paragraph, shown.3)
+        }
+        _ => false,
+    }
 }
 
 #[test]
-fn paragraphs_without_their_text(rt: HostRuntime) -> Result<(), Fail> {
+fn paragraphs_without_their_text(rt: HostRuntime) {
     for size in SIZES {
-        let mut input = Input::new(Pieces::new(FILE, size, 0));
-        let mut checked = Checked::new(rt.alloc(), Doc::Packages);
-        for shown in &SHOWN {
-            assert!(rt; checked.advance(&mut NoVisitor, &mut input)?, "a paragraph");
-            let paragraph = checked.current().ok_or("no paragraph")?;
-            let is_judged = is_judged(rt.alloc(), &paragraph, shown)?;
-            assert!(rt; is_judged, "in pieces of {size}");
-        }
-        assert!(rt; !checked.advance(&mut NoVisitor, &mut input)?, "the end");
-        assert!(rt; checked.current().is_none(), "after the end");
+        assert!(rt; advances_all(rt.alloc(), size), "pieces of {size}");
     }
-    Ok(())
+}
+
+/// Whether the same paragraphs are given without their canonical texts.
+fn advances_all(alloc: Global, size: usize) -> bool {
+    let mut input = Input::new(Pieces::new(FILE, size, 0));
+    let mut checked = Checked::new(alloc, Doc::Packages);
+    advances(alloc, &mut checked, &mut input, &SHOWN[0])
+        && advances(alloc, &mut checked, &mut input, &SHOWN[1])
+        && checked.advance(&mut NoVisitor, &mut input) == Ok(false)
+        && checked.current().is_none()
+}
+
+fn advances(
+    alloc: Global,
+    checked: &mut Checked,
+    input: &mut Input<Pieces<'_>>,
+    shown: &Shown,
+) -> bool {
+    if checked.advance(&mut NoVisitor, input) != Ok(true) {
+        return false;
+    }
+    match checked.current() {
+        Some(paragraph) => is_judged(alloc, &paragraph, shown),
+        None => false,
+    }
 }
 
 /// Whether a paragraph without its canonical text shows its first line, a field, its version and
 /// all of its values.
-fn is_judged(alloc: Global, paragraph: &CheckedView<'_>, shown: &Shown) -> Result<bool, Fail> {
-    let Shown(first_line, fields, version_text, text) = shown;
-    let version = paragraph.value(alloc, b"VERSION")?.ok_or("no version")?;
-    let mut written = Vec::new(alloc);
-    version.canon_into(&mut written)?;
-    let is_version = written.as_slice() == *version_text;
-    written.clear();
-    paragraph.paragraph(alloc)?.canon_into(&mut written)?;
-    let first = paragraph.fields().next().map(|field| field.line);
-    Ok(
-        is_version
-            && written.as_slice() == *text
-            && paragraph.first_line() == *first_line
-            && paragraph.get(fields[0].0).map(|field| field.line) == first,
-    )
+fn is_judged(alloc: Global, paragraph: &CheckedView<'_>, shown: &Shown) -> bool {
+    let Shown(first_line, fields, version, text) = shown;
+    paragraph.first_line() == *first_line
+        && is_field(paragraph.get(fields[0].0), &fields[0])
+        && is_field(paragraph.fields().next(), &fields[0])
+        && is_text_of(alloc, paragraph.value(alloc, b"VERSION"), version)
+        && is_whole_text(alloc, paragraph.paragraph(alloc), text)
 }
 
 /// A source description with a body of ten thousand bytes: its value, its typed paragraph, and that
-/// one's text after a thousand bytes.
+/// one's text.
 #[test]
 fn a_long_body_of_a_source(rt: HostRuntime) -> Result<(), Fail> {
-    let mut file = Vec::new(rt.alloc());
-    file.extend_from_slice(b"Format: 1.0\nSource: aa\nVersion: 1\nX: ")?;
-    file.resize(10_037, b'x')?;
-    file.push(b'\n')?;
-    let mut checked = Checked::new(rt.alloc(), Doc::Source);
-    let paragraph = checked
-        .next(&mut Input::new(file.as_slice()))?
-        .ok_or("no paragraph")?;
-    let value = paragraph.value(rt.alloc(), b"x")?.ok_or("no value")?;
-    assert!(rt; value.canon_len() == 10_000);
-    let typed = paragraph.paragraph(rt.alloc())?;
-    let mut out = vec![in rt.alloc(); b'='; 1_000]?;
-    typed.canon_into(&mut out)?;
-    assert!(rt; out.get(1_000..) == Some(file.as_slice()));
+    let body = long_text(rt.alloc(), b"", 10_000, b"")?;
+    let front = b"Format: 1.0\nSource: aa\nVersion: 1\nX: ";
+    let file = long_text(rt.alloc(), front, 10_037, b"\n")?;
+    assert!(rt; has_body(rt.alloc(), &file, &body));
     Ok(())
+}
+
+fn has_body(alloc: Global, file: &[u8], body: &[u8]) -> bool {
+    let mut checked = Checked::new(alloc, Doc::Source);
+    match checked.next(&mut Input::new(file)) {
+        Ok(Some(paragraph)) => {
+            is_text_of(alloc, paragraph.value(alloc, b"x"), body)
+                && is_whole_text(alloc, paragraph.paragraph(alloc), file)
+        }
+        _ => false,
+    }
 }
 
 /// Whether the first line, the canonical text, and the fields in the order of the file are right.
 fn shows(paragraph: &CheckedText<'_>, shown: &Shown) -> bool {
     let Shown(first_line, wanted, _, text) = shown;
     let mut fields = paragraph.fields();
-    for Field(name, line, body) in wanted {
-        let found = fields
-            .next()
-            .map(|field| (field.name, field.line, field.body));
-        if found != Some((*name, *line, *body)) {
+    for field in wanted {
+        if !is_field(fields.next(), field) {
             return false;
         }
     }
@@ -131,54 +152,84 @@ fn shows(paragraph: &CheckedText<'_>, shown: &Shown) -> bool {
         && paragraph.canonical_text() == *text
 }
 
+fn is_field(found: Option<RawField<'_>>, wanted: &Field) -> bool {
+    match found {
+        Some(field) => {
+            field.name == wanted.0 && field.line == wanted.1 && field.body == wanted.2
+        }
+        None => false,
+    }
+}
+
 /// Whether fields are found by their names, in any case and whole.
 fn finds(paragraph: &CheckedText<'_>, shown: &Shown) -> bool {
-    for Field(name, line, body) in &shown.1 {
-        let found = paragraph.get(name).map(|field| (field.line, field.body));
-        if found != Some((*line, *body)) {
+    for field in &shown.1 {
+        if !is_field(paragraph.get(field.0), field) {
             return false;
         }
     }
-    paragraph.get(b"vErSiOn").map(|field| field.line)
-        == paragraph.get(b"Version").map(|field| field.line)
+    line_of(paragraph.get(b"vErSiOn")) == line_of(paragraph.get(b"Version"))
         && paragraph.get(b"vErSiOn").is_some()
         && paragraph.get(b"Versio").is_none()
         && paragraph.get(b"").is_none()
 }
 
+fn line_of(found: Option<RawField<'_>>) -> Option<u64> {
+    Some(found?.line)
+}
+
 /// Whether single values are right.
-fn has_values(alloc: Global, paragraph: &CheckedText<'_>, shown: &Shown) -> Result<bool, Fail> {
-    let name = paragraph.value(alloc, b"pACKAGE")?.ok_or("no name")?;
-    let version = paragraph.value(alloc, b"VERSION")?.ok_or("no version")?;
-    let absent = paragraph.value(alloc, b"Absent")?;
-    let mut text = Vec::new(alloc);
-    version.canon_into(&mut text)?;
-    Ok(
-        matches!(name, Value::Name(_))
-            && matches!(version, Value::Version(_))
-            && absent.is_none()
-            && text.as_slice() == shown.2,
-    )
+fn has_values(alloc: Global, paragraph: &CheckedText<'_>, version: &[u8]) -> bool {
+    matches!(paragraph.value(alloc, b"pACKAGE"), Ok(Some(Value::Name(_))))
+        && matches!(paragraph.value(alloc, b"Absent"), Ok(None))
+        && is_text_of(alloc, paragraph.value(alloc, b"VERSION"), version)
 }
 
-/// Whether the typed paragraph is right, and its text after a byte that stood there.
-fn is_typed(alloc: Global, paragraph: &CheckedText<'_>, shown: &Shown) -> Result<bool, Fail> {
-    let typed = paragraph.paragraph(alloc)?;
-    let mut text = Vec::new(alloc);
-    text.push(b'=')?;
-    typed.canon_into(&mut text)?;
-    Ok(stands_behind_sign(text.as_slice(), shown.3) && has_fields(&typed, shown.3.len()))
+/// Whether a value was found, and has this canonical text.
+fn is_text_of(alloc: Global, found: Result<Option<Value<'_>>, AllocError>, text: &[u8]) -> bool {
+    match found {
+        Ok(Some(value)) => {
+            value.canon_len() == text.len() as u64 && has_text(alloc, &value, text) == Some(true)
+        }
+        _ => false,
+    }
 }
 
-/// Whether a text is after an equals sign.
-fn stands_behind_sign(text: &[u8], wanted: &[u8]) -> bool {
-    text.first() == Some(&b'=') && text.get(1..) == Some(wanted)
+fn has_text(alloc: Global, value: &Value<'_>, text: &[u8]) -> Option<bool> {
+    let mut out = Vec::new(alloc);
+    value.canon_into(&mut out).ok()?;
+    Some(out.as_slice() == text)
 }
 
-/// Whether a typed paragraph has four fields, a canonical text of this length, and a name.
-fn has_fields(typed: &Paragraph<'_>, len: usize) -> bool {
-    typed.canon_len() == len as u64
-        && typed.fields().len() == 4
-        && matches!(typed.get(b"pACKAGE"), Some(Value::Name(_)))
-        && typed.get(b"Absent").is_none()
+/// Whether the typed paragraph is right.
+fn is_typed(alloc: Global, paragraph: &CheckedText<'_>, text: &[u8]) -> bool {
+    has_fields(paragraph.paragraph(alloc)) && is_whole_text(alloc, paragraph.paragraph(alloc), text)
+}
+
+/// Whether there is a typed paragraph with this text, which is appended after a thousand bytes.
+fn is_whole_text(alloc: Global, found: Result<Paragraph<'_>, AllocError>, text: &[u8]) -> bool {
+    match found {
+        Ok(typed) => {
+            typed.canon_len() == text.len() as u64 && appends(alloc, &typed, text) == Some(true)
+        }
+        Err(_) => false,
+    }
+}
+
+fn appends(alloc: Global, typed: &Paragraph<'_>, text: &[u8]) -> Option<bool> {
+    let mut out = vec![in alloc; b'='; 1_000].ok()?;
+    typed.canon_into(&mut out).ok()?;
+    Some(out.get(1_000..) == Some(text))
+}
+
+/// Whether a typed paragraph has four fields, and a name.
+fn has_fields(found: Result<Paragraph<'_>, AllocError>) -> bool {
+    match found {
+        Ok(typed) => {
+            typed.fields().len() == 4
+                && matches!(typed.get(b"pACKAGE"), Some(Value::Name(_)))
+                && typed.get(b"Absent").is_none()
+        }
+        Err(_) => false,
+    }
 }

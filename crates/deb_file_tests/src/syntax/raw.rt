@@ -8,7 +8,6 @@ use deb_base::{Fault, Input, Source};
 use deb_syntax::{Paragraphs, Raw, RawField};
 use std::alloc::Global;
 use std::io::Write;
-use std::process::Abort;
 use std::test::Fail;
 
 /// The name of a field, its line and its body.
@@ -41,26 +40,34 @@ const NAMES: [(&[u8], Option<u64>); 7] = [
 ];
 
 #[test]
-fn fields_of_a_paragraph(rt: HostRuntime) -> Result<(), Fail> {
-    let mut paragraphs = Paragraphs::new(rt.alloc());
-    let paragraph = paragraphs
-        .next(&mut Input::new(FILE))?
-        .ok_or("no paragraph")?;
-    assert!(rt; paragraph.first_line() == 7 && paragraph.len() == 4 && !paragraph.is_empty());
-    assert!(rt; has_fields(&paragraph), "by their places, and in turn");
-    for (name, line) in NAMES {
-        assert!(rt;
-            line_of(&paragraph, name) == line,
-            "{}",
-            name.escape_ascii()
-        );
+fn fields_of_a_paragraph(rt: HostRuntime) {
+    assert!(rt; is_paragraph(rt.alloc()));
+}
+
+/// Whether the paragraph is right when it is given, and as the one given last.
+fn is_paragraph(alloc: Global) -> bool {
+    let mut paragraphs = Paragraphs::new(alloc);
+    let is_given = match paragraphs.next(&mut Input::new(FILE)) {
+        Ok(Some(paragraph)) => has_fields(&paragraph) && has_names(&paragraph),
+        _ => false,
+    };
+    is_given && is_current(&paragraphs)
+}
+
+fn is_current(paragraphs: &Paragraphs) -> bool {
+    match paragraphs.current() {
+        Some(paragraph) => has_fields(&paragraph),
+        None => false,
     }
-    let again = paragraphs.current().ok_or("no paragraph any more")?;
-    assert!(rt;
-        again.first_line() == 7 && has_fields(&again),
-        "the paragraph given last"
-    );
-    Ok(())
+}
+
+fn has_names(paragraph: &Raw<'_>) -> bool {
+    for (name, line) in NAMES {
+        if line_of(paragraph, name) != line {
+            return false;
+        }
+    }
+    true
 }
 
 /// Whether the fields are those, by their offsets and in their order, and no others.
@@ -71,7 +78,11 @@ fn has_fields(paragraph: &Raw<'_>) -> bool {
             return false;
         }
     }
-    paragraph.field(FIELDS.len()).is_none() && fields.next().is_none()
+    paragraph.field(FIELDS.len()).is_none()
+        && fields.next().is_none()
+        && paragraph.first_line() == 7
+        && paragraph.len() == 4
+        && !paragraph.is_empty()
 }
 
 fn is_field(found: Option<RawField<'_>>, wanted: &Wanted) -> bool {
@@ -89,18 +100,28 @@ fn line_of(paragraph: &Raw<'_>, name: &[u8]) -> Option<u64> {
 
 #[test]
 fn a_hundred_thousand_fields(rt: HostRuntime) -> Result<(), Fail> {
-    let mut text = Vec::new(rt.alloc());
-    for i in 0..100_000u32 {
-        write!(text, "F{i}: x\n")?;
-    }
-    text.extend_from_slice(b"last:")?;
-    let mut paragraphs = Paragraphs::new(rt.alloc());
-    let paragraph = paragraphs
-        .next(&mut Input::new(text.as_slice()))?
-        .ok_or("no paragraph")?;
-    assert!(rt; paragraph.len() == 100_001);
-    assert!(rt; line_of(&paragraph, b"LAST") == Some(100_001));
+    let text = many_fields(rt.alloc()).ok_or("memory")?;
+    assert!(rt; has_many(rt.alloc(), &text));
     Ok(())
+}
+
+fn many_fields(alloc: Global) -> Option<Vec<u8>> {
+    let mut text = Vec::new(alloc);
+    for i in 0..100_000u32 {
+        write!(text, "F{i}: x\n").ok()?;
+    }
+    text.extend_from_slice(b"last:").ok()?;
+    Some(text)
+}
+
+fn has_many(alloc: Global, text: &[u8]) -> bool {
+    let mut paragraphs = Paragraphs::new(alloc);
+    match paragraphs.next(&mut Input::new(text)) {
+        Ok(Some(paragraph)) => {
+            paragraph.len() == 100_001 && line_of(&paragraph, b"LAST") == Some(100_001)
+        }
+        _ => false,
+    }
 }
 
 /// How many paragraphs a file has: what all the answers of `next` together say of it.
