@@ -4,7 +4,6 @@
 use deb_base::*;
 use std::alloc::{AllocError, Global};
 use std::io::{self, ErrorKind, Read, Write};
-use std::process::Abort;
 
 /// A writer that takes a few bytes a call, except at one call, where it fails or takes none.
 #[derive(Drop)]
@@ -66,24 +65,20 @@ const WRITTEN: [Written; 8] = [
 #[test]
 fn bytes_are_put_until_a_write_fails(rt: HostRuntime) {
     for row in &WRITTEN {
-        assert_written(&rt, rt.alloc(), row, false);
-        assert_written(&rt, rt.alloc(), row, true);
+        let is_right = is_written(rt.alloc(), row, false) && is_written(rt.alloc(), row, true);
+        assert!(rt;
+            is_right,
+            "{} bytes a write, of which {} is bad",
+            row.0, row.1
+        );
     }
 }
 
-fn assert_written(rt: &impl Abort, alloc: Global, row: &Written, takes_none: bool) {
+fn is_written(alloc: Global, row: &Written, takes_none: bool) -> bool {
     let Written(most, bad, answer, held, calls) = row;
     let mut writer = Slow::new(alloc, *most, *bad, takes_none);
     let told = put_all(&mut Output::new(&mut writer), b"abcdef");
-    assert!(rt;
-        told == *answer,
-        "{most} bytes a write, of which {bad} is bad"
-    );
-    assert!(rt;
-        writer.held.as_slice() == *held,
-        "the bytes before write {bad}"
-    );
-    assert!(rt; writer.calls == *calls, "no write after write {bad}");
+    told == *answer && writer.held.as_slice() == *held && writer.calls == *calls
 }
 
 /// A writer that takes none of some bytes has failed; none of no bytes is all of them.

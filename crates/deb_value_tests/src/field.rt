@@ -1,5 +1,6 @@
 //! Tests of values: one of each kind and a long one, with their canonical text.
 
+use crate::appended::is_appended;
 use deb_base::is_body;
 use deb_field::*;
 use std::alloc::Global;
@@ -44,12 +45,7 @@ fn has_text(alloc: Global, doc: Doc, name: &str, body: &[u8], canonical: &[u8]) 
 fn is_text_of(alloc: Global, value: &Value<'_>, canonical: &[u8]) -> Option<bool> {
     let mut out = vec![in alloc; b'='; 2_000].ok()?;
     value.canon_into(&mut out).ok()?;
-    Some(is_text(&out, canonical, value.canon_len()))
-}
-
-/// Whether a list has a text of this length after two thousand bytes.
-fn is_text(out: &[u8], text: &[u8], len: u64) -> bool {
-    len == text.len() as u64 && out.get(2_000..) == Some(text)
+    Some(is_appended(&out, canonical, value.canon_len()))
 }
 
 #[test]

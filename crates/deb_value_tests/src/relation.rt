@@ -1,6 +1,7 @@
 //! Tests of relations: the first step that fails and its offset, the parts of a relation, canonical
 //! text of short and long ones; and environments.
 
+use crate::appended::is_appended;
 use deb_relation::{Alternative, Env, EnvFault, Group, Op, Reason, Relation, RelationFault};
 use deb_version::BadVersion;
 use std::alloc::{AllocError, Global};
@@ -152,12 +153,7 @@ fn has_text(alloc: Global, text: &[u8], canonical: &[u8]) -> Option<bool> {
 fn is_text_of(alloc: Global, relation: &Relation<'_>, canonical: &[u8]) -> Option<bool> {
     let mut out = vec![in alloc; b'='; 2_000].ok()?;
     relation.canon_into(&mut out).ok()?;
-    Some(is_text(&out, canonical, relation.canon_len()))
-}
-
-/// Whether a list has a text of this length after two thousand bytes.
-fn is_text(out: &[u8], text: &[u8], len: u64) -> bool {
-    len == text.len() as u64 && out.get(2_000..) == Some(text)
+    Some(is_appended(&out, canonical, relation.canon_len()))
 }
 
 #[test]
@@ -190,7 +186,7 @@ fn are_texts_of(
 fn group_has_text(alloc: Global, group: &Group<'_>, canonical: &[u8]) -> Option<bool> {
     let mut out = vec![in alloc; b'='; 2_000].ok()?;
     group.canon_into(&mut out).ok()?;
-    Some(is_text(&out, canonical, group.canon_len()))
+    Some(is_appended(&out, canonical, group.canon_len()))
 }
 
 #[test]

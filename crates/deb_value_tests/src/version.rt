@@ -1,6 +1,7 @@
 //! Tests of versions: the first fault of a text that isn't one, and canonical text and order of
 //! short and long ones.
 
+use crate::appended::is_appended;
 use deb_version::{BadVersion, Version};
 use indexmap::IndexMap;
 use std::alloc::Global;
@@ -49,12 +50,7 @@ fn has_text(alloc: Global, text: &[u8], canonical: &[u8]) -> Option<bool> {
     let version = Version::parse(text).ok()?;
     let mut out = vec![in alloc; b'='; 2_000].ok()?;
     version.canon_into(&mut out).ok()?;
-    Some(is_text(&out, canonical, version.canon_len()))
-}
-
-/// Whether a list has a text of this length after two thousand bytes.
-fn is_text(out: &[u8], text: &[u8], len: u64) -> bool {
-    len == text.len() as u64 && out.get(2_000..) == Some(text)
+    Some(is_appended(&out, canonical, version.canon_len()))
 }
 
 #[test]
