@@ -1,8 +1,8 @@
-//! Tests of relations: the first step that fails and its offset, the parts of a relation, canonical
-//! text of short and long ones; and environments.
+//! Tests of relations: the first step that fails and its offset, and canonical text of short and
+//! long ones; and a long environment.
 
 use crate::appended::is_appended;
-use deb_relation::{Alternative, Env, EnvFault, Group, Op, Reason, Relation, RelationFault};
+use deb_relation::{Env, Group, Reason, Relation, RelationFault};
 use deb_version::BadVersion;
 use std::alloc::{AllocError, Global};
 use std::test::Fail;
@@ -195,86 +195,6 @@ fn groups_in_the_order_of_their_texts(rt: HostRuntime) {
     assert!(rt; groups_have_texts(rt.alloc(), LONGEST, texts) == Some(true));
 }
 
-#[test]
-fn parts_of_alternatives(rt: HostRuntime) {
-    let text = b"aa:any(>=1.)[!i386 !amd64]<y !x><z> | bb";
-    assert!(rt; has_parts(rt.alloc(), text) == Some(true));
-}
-
-/// Whether a text has one group, of an alternative with each part and one with none; None where a
-/// call fails.
-fn has_parts(alloc: Global, text: &[u8]) -> Option<bool> {
-    let relation = Relation::parse(alloc, text).ok()?;
-    match relation.groups() {
-        [group] => are_two(group.alternatives()),
-        _ => None,
-    }
-}
-
-fn are_two(alternatives: &[Alternative<'_>]) -> Option<bool> {
-    match alternatives {
-        [first, second] => Some(has_names(first) && has_lists(first) && is_plain(second)),
-        _ => None,
-    }
-}
-
-/// Whether the alternative is `aa:any (>= 1.0)`, and then has lists.
-fn has_names(alternative: &Alternative<'_>) -> bool {
-    let bound = alternative.bound();
-    alternative.name() == b"aa".as_slice()
-        && alternative.qualifier() == Some(b"any".as_slice())
-        && matches!(bound, Some((Op::LaterEqual, version)) if version.canon_len() == 3)
-}
-
-/// Whether the lists are `[!amd64 !i386] <!x y> <z>`.
-fn has_lists(alternative: &Alternative<'_>) -> bool {
-    let architectures = alternative.architectures();
-    matches!(architectures, Some((true, [b"amd64", b"i386"])))
-        && match alternative.formula() {
-            [first, _] => matches!(first.as_slice(), [(true, b"x"), ..]),
-            _ => false,
-        }
-}
-
-/// Whether the alternative is `bb`.
-fn is_plain(alternative: &Alternative<'_>) -> bool {
-    alternative.name() == b"bb".as_slice()
-        && alternative.qualifier().is_none()
-        && alternative.bound().is_none()
-        && alternative.architectures().is_none()
-        && alternative.formula().is_empty()
-}
-
-/// A text, and whether some group has two alternatives, whether there is a wildcard, and whether
-/// each bound is `=`.
-struct Asked(&'static str, bool, bool, bool);
-
-const ASKED: [Asked; 5] = [
-    Asked("", false, false, true),
-    Asked("aa [linux-any]", false, true, true),
-    Asked("bb, cc [amd64] | aa [!any-i386]", true, true, true),
-    Asked("aa:any (= 1), bb [all]", false, false, true),
-    Asked("aa (= 1) | bb (<< 1), cc", true, false, false),
-];
-
-#[test]
-fn tests_of_relations(rt: HostRuntime) {
-    for row in &ASKED {
-        assert!(rt; is_answered(rt.alloc(), row), "{}", row.0);
-    }
-}
-
-fn is_answered(alloc: Global, row: &Asked) -> bool {
-    match Relation::parse(alloc, row.0.as_bytes()) {
-        Ok(relation) => {
-            relation.has_alternatives() == row.1
-                && relation.has_wildcard() == row.2
-                && relation.only_equals() == row.3
-        }
-        Err(_) => false,
-    }
-}
-
 /// All 17,576 names of three letters, each at the index of its distance from this number.
 fn names(alloc: Global, from: u32, between: &[u8]) -> Option<Vec<u8>> {
     let mut text = Vec::new(alloc);
@@ -360,51 +280,6 @@ fn are_long_lists(alloc: Global) -> Option<bool> {
     has_text(alloc, &text, &text)
 }
 
-/// A relation whose one alternative applies for amd64 with the profile nocheck, or doesn't.
-const APPLY: [(&str, bool); 4] = [
-    ("bb [i386 amd64] <nocheck !nodoc>", true),
-    ("cc <!nocheck> <nocheck>", true),
-    ("bb [!amd64]", false),
-    ("bb [amd64] <!nocheck>", false),
-];
-
-/// Whether the first alternative applies.
-fn first_applies(alloc: Global, text: &str, environment: &Env) -> Option<bool> {
-    let relation = Relation::parse(alloc, text.as_bytes()).ok()?;
-    Some(first_of(&relation)?.applies(environment))
-}
-
-fn first_of<'r, 'a>(relation: &'r Relation<'a>) -> Option<&'r Alternative<'a>> {
-    relation.groups().first()?.alternatives().first()
-}
-
-#[test]
-fn alternatives_that_apply(rt: HostRuntime) -> Result<(), Fail> {
-    let environment = Env::new(rt.alloc(), b"amd64", &[b"nocheck"])?;
-    for (text, wanted) in APPLY {
-        assert!(rt; first_applies(rt.alloc(), text, &environment) == Some(wanted));
-    }
-    Ok(())
-}
-
-#[test]
-fn parts_of_an_environment(rt: HostRuntime) {
-    assert!(rt; is_environment(rt.alloc(), &[b"nocheck"], true));
-    assert!(rt; is_environment(rt.alloc(), &[], false));
-}
-
-/// Whether there is an environment of amd64 with these profiles, one of which is nocheck or isn't.
-fn is_environment(alloc: Global, profiles: &[&[u8]], nocheck: bool) -> bool {
-    match Env::new(alloc, b"amd64", profiles) {
-        Ok(environment) => {
-            environment.target() == b"amd64".as_slice()
-                && environment.active(b"nocheck") == nocheck
-                && !environment.active(b"nodoc")
-        }
-        Err(_) => false,
-    }
-}
-
 /// A target of ten thousand bytes, and a thousand profiles.
 #[test]
 fn a_long_environment(rt: HostRuntime) -> Result<(), Fail> {
@@ -423,13 +298,6 @@ fn is_long(alloc: Global, name: &[u8]) -> bool {
         }
         Err(_) => false,
     }
-}
-
-#[test]
-fn no_environments(rt: HostRuntime) {
-    let bad = Some(EnvFault::BadEnvironment);
-    assert!(rt; Env::new(rt.alloc(), b"any", &[]).err() == bad);
-    assert!(rt; Env::new(rt.alloc(), b"amd64", &[b"nocheck", b"+x"]).err() == bad);
 }
 
 /// Appends the canonical text twice to a list without room. Whether the list has after each call

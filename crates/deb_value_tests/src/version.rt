@@ -1,11 +1,10 @@
-//! Tests of versions: the first fault of a text that isn't one, and canonical text and order of
-//! short and long ones.
+//! Tests of versions: the first fault of a text that isn't one, canonical text and keys of short
+//! and long ones, and versions as keys of sets and maps, and sorted by std.
 
 use crate::appended::is_appended;
 use deb_version::{BadVersion, Version};
 use indexmap::IndexMap;
 use std::alloc::Global;
-use std::cmp::Ordering;
 use std::collections::{BTreeMap, HashSet};
 use std::test::Fail;
 
@@ -93,23 +92,6 @@ fn keys_of_long_numbers(rt: HostRuntime) {
     assert!(rt; begins_key(rt.alloc(), 515, b"\x01\x00\x02\xf1\x02\x0399") == Some(true));
 }
 
-/// How two versions compare; None where one is none.
-fn order_of(a: &[u8], b: &[u8]) -> Option<Ordering> {
-    Some(Version::parse(a).ok()?.cmp(&Version::parse(b).ok()?))
-}
-
-/// Whether the first is earlier; None where one is none.
-fn is_earlier(a: &[u8], b: &[u8]) -> Option<bool> {
-    Some(Version::parse(a).ok()? < Version::parse(b).ok()?)
-}
-
-#[test]
-fn order(rt: HostRuntime) {
-    assert!(rt; order_of(b"1.0~rc1", b"1.0") == Some(Ordering::Less));
-    assert!(rt; order_of(b"0:1.0-0", b"1.00") == Some(Ordering::Equal));
-    assert!(rt; is_earlier(b"1.0~rc1", b"1.0") == Some(true));
-}
-
 /// Spellings of one version, and of one with a long epoch.
 const SPELLINGS: [&[u8]; 4] = [b"1.01", b"1.1", b"0:1.1-0", b"01.001"];
 
@@ -177,7 +159,15 @@ fn have_texts(versions: &[Version<'_>], texts: &[&[u8]]) -> bool {
 fn are_sorted(alloc: Global) -> Option<bool> {
     let mut versions = descending(alloc)?;
     let is_sorted = versions.sort().is_ok();
-    Some(is_sorted && have_texts(&versions, &ASCENDING))
+    Some(is_sorted && have_texts(&versions, &ASCENDING) && ascend(&versions))
+}
+
+/// Whether the first version is earlier than the second one.
+fn ascend(versions: &[Version<'_>]) -> bool {
+    match versions {
+        [first, second, ..] => first < second,
+        _ => false,
+    }
 }
 
 #[test]
@@ -200,57 +190,6 @@ fn canonical_text_of_a_long_version(rt: HostRuntime) -> Result<(), Fail> {
     let canonical = long_version(rt.alloc(), 0, b'7').ok_or("memory")?;
     assert!(rt; has_text(rt.alloc(), &text, &canonical) == Some(true));
     Ok(())
-}
-
-/// Whether a long version with so many zeros is earlier than another one, also if they change
-/// places; None where a call fails.
-fn is_long_order(alloc: Global, zeros: usize) -> Option<bool> {
-    let earlier = long_version(alloc, zeros, b'7')?;
-    let later = long_version(alloc, 0, b'8')?;
-    Some(are_ordered(&earlier, &later))
-}
-
-fn are_ordered(earlier: &[u8], later: &[u8]) -> bool {
-    order_of(earlier, later) == Some(Ordering::Less)
-        && order_of(later, earlier) == Some(Ordering::Greater)
-}
-
-#[test]
-fn order_of_long_versions(rt: HostRuntime) -> Result<(), Fail> {
-    assert!(rt; is_long_order(rt.alloc(), 1_000_000) == Some(true));
-    assert!(rt; is_long_order(rt.alloc(), 0) == Some(true));
-    let text = long_version(rt.alloc(), 0, b'8').ok_or("memory")?;
-    assert!(rt; order_of(&text, &text) == Some(Ordering::Equal));
-    Ok(())
-}
-
-/// An epoch of a million digits.
-fn long_epoch(alloc: Global, last: u8) -> Option<Vec<u8>> {
-    let mut text = vec![in alloc; b'9'; 999_999].ok()?;
-    text.extend_from_slice(&[last, b':', b'1']).ok()?;
-    Some(text)
-}
-
-#[test]
-fn order_of_long_epochs(rt: HostRuntime) -> Result<(), Fail> {
-    let later = long_epoch(rt.alloc(), b'9').ok_or("memory")?;
-    let earlier = long_epoch(rt.alloc(), b'8').ok_or("memory")?;
-    assert!(rt; order_of(&later, &earlier) == Some(Ordering::Greater));
-    assert!(rt; has_text(rt.alloc(), &later, &later) == Some(true));
-    Ok(())
-}
-
-/// How versions of a million and more tildes compare; None where a call fails.
-fn order_of_tildes(alloc: Global, a: usize, b: usize) -> Option<Ordering> {
-    let first = vec![in alloc; b'~'; a].ok()?;
-    let second = vec![in alloc; b'~'; b].ok()?;
-    order_of(&first, &second)
-}
-
-#[test]
-fn order_of_many_tildes(rt: HostRuntime) {
-    assert!(rt; order_of_tildes(rt.alloc(), 1_000_001, 1_000_000) == Some(Ordering::Less));
-    assert!(rt; order_of_tildes(rt.alloc(), 1_000_000, 1_000_000) == Some(Ordering::Equal));
 }
 
 /// Appends the canonical text to a list with room for the epoch alone, which is written by then.
