@@ -2,7 +2,6 @@
 
 use debctl_args::{Call, Job, Task, job_of};
 use std::alloc::{AllocError, Global};
-use std::process::Abort;
 use std::test::Fail;
 
 /// The program's name, and the arguments of a command line, which are between its spaces.
@@ -26,254 +25,140 @@ fn push_word(words: &mut Vec<String>, alloc: Global, word: &str) -> Result<(), A
     Ok(())
 }
 
-/// A command line, and the task or the fault that it has.
-const LINES: [(&str, &str); 55] = [
-    (
-        "check",
-        "Ok(Run(Call { job: Check(Packages), first: None, second: None }))",
-    ),
-    (
-        "check --kind=binary x",
-        "Ok(Run(Call { job: Check(Binary), first: Some(\"x\"), second: None }))",
-    ),
-    (
-        "check --all -k any x",
-        "Ok(Run(Call { job: CheckAll(Any), first: Some(\"x\"), second: None }))",
-    ),
-    (
-        "check -a x",
-        "Ok(Run(Call { job: CheckAll(Packages), first: Some(\"x\"), second: None }))",
-    ),
-    (
-        "check --complete --least 2 x",
-        "Ok(Run(Call { job: CheckWhole { doc: Packages, demands: Demands { complete: true, \
-        least: 2 } }, first: Some(\"x\"), second: None }))",
-    ),
-    (
-        "check --least 02 x",
-        "Err(Usage(\"usage: --least takes a number\"))",
-    ),
-    (
-        "audit --all --complete x",
-        "Err(Usage(\"usage: --all takes neither --complete nor --least\"))",
-    ),
-    (
-        "normalise --kind source x",
-        "Ok(Run(Call { job: Normalise(Source), first: Some(\"x\"), second: None }))",
-    ),
-    (
-        "same x y",
-        "Ok(Run(Call { job: Same(Packages), first: Some(\"x\"), second: Some(\"y\") }))",
-    ),
-    (
-        "diff x -",
-        "Ok(Run(Call { job: Diff { kind: Packages, detail: Fields, versions: Canonical }, \
-        first: Some(\"x\"), second: Some(\"-\") }))",
-    ),
-    (
-        "diff --values --spelled -k source x y",
-        "Ok(Run(Call { job: Diff { kind: Source, detail: Values, versions: Spelled }, \
-        first: Some(\"x\"), second: Some(\"y\") }))",
-    ),
-    (
-        "diff --kind status x y",
-        "Ok(Run(Call { job: Diff { kind: Status, detail: Fields, versions: Canonical }, \
-        first: Some(\"x\"), second: Some(\"y\") }))",
-    ),
-    (
-        "diff --kind any x y",
-        "Err(Usage(\"usage: diff takes no --kind any\"))",
-    ),
-    (
-        "compare 1 lt 2",
-        "Ok(Run(Call { job: Compare(\"1\", Less, \"2\"), first: None, second: None }))",
-    ),
-    (
-        "canon-version 00:1:02-0",
-        "Ok(Run(Call { job: CanonVersion(\"00:1:02-0\"), first: None, second: None }))",
-    ),
-    (
-        "sort --reverse x",
-        "Ok(Run(Call { job: Sort { reverse: true }, first: Some(\"x\"), second: None }))",
-    ),
-    (
-        "query --arch amd64 --profiles a,,b aa x",
-        "Ok(Run(Call { job: Query { arch: \"amd64\", profiles: [\"a\", \"\", \"b\"], \
-        relation: \"aa\", members: All, detail: Verdicts, versions: Canonical }, \
-        first: Some(\"x\"), second: None }))",
-    ),
-    (
-        "query --arch amd64 --why --spelled --installed --relation-from f x",
-        "Ok(Run(Call { job: QueryFrom { arch: \"amd64\", profiles: [], members: Installed, \
-        detail: Reasons, versions: Spelled }, first: Some(\"f\"), second: Some(\"x\") }))",
-    ),
-    (
-        "version-key 1 2",
-        "Ok(Run(Call { job: VersionKey([\"1\", \"2\"]), first: None, second: None }))",
-    ),
-    (
-        "unmet --arch amd64 --recommends x",
-        "Ok(Run(Call { job: Unmet { arch: \"amd64\", profiles: [], members: All, \
-        dependents: Index(Recommends), versions: Canonical }, first: Some(\"x\"), second: None }))",
-    ),
-    (
-        "unmet --arch amd64 --installed --spelled --kind sources x -",
-        "Ok(Run(Call { job: Unmet { arch: \"amd64\", profiles: [], members: Installed, \
-        dependents: Sources, versions: Spelled }, first: Some(\"x\"), second: Some(\"-\") }))",
-    ),
-    (
-        "unmet --arch amd64 -k source x",
-        "Err(Usage(\"usage: unmet takes another --kind only with a second path\"))",
-    ),
-    (
-        "unmet --arch amd64 --kind status x y",
-        "Err(Usage(\"usage: unmet takes no --kind status\"))",
-    ),
-    (
-        "unmet --arch amd64 --kind any x y",
-        "Err(Usage(\"usage: unmet takes no --kind any\"))",
-    ),
-    (
-        "healthy --arch amd64 x",
-        "Ok(Run(Call { job: Healthy { arch: \"amd64\", members: All, strength: Depends }, \
-        first: Some(\"x\"), second: None }))",
-    ),
-    (
-        "healthy --recommends --installed --arch=amd64",
-        "Ok(Run(Call { job: Healthy { arch: \"amd64\", members: Installed, strength: Recommends }, \
-        first: None, second: None }))",
-    ),
-    (
-        "installable --arch amd64 x",
-        "Ok(Run(Call { job: Installable { arch: \"amd64\", members: All, strength: Depends, \
-        terms: Terms { essential: false, without: [] }, names: [], budget: 100000, \
-        reasons: false }, first: Some(\"x\"), second: None }))",
-    ),
-    (
-        "installable --recommends --installed --budget 1000000000 --arch=amd64",
-        "Ok(Run(Call { job: Installable { arch: \"amd64\", members: Installed, \
-        strength: Recommends, terms: Terms { essential: false, without: [] }, names: [], \
-        budget: 1000000000, reasons: false }, first: None, second: None }))",
-    ),
-    (
-        "installable --arch amd64 --only a,,b x",
-        "Ok(Run(Call { job: Installable { arch: \"amd64\", members: All, strength: Depends, \
-        terms: Terms { essential: false, without: [] }, names: [\"a\", \"\", \"b\"], \
-        budget: 100000, reasons: false }, first: Some(\"x\"), second: None }))",
-    ),
-    (
-        "installable --arch amd64 --installed --witness=b,a --budget 1",
-        "Ok(Run(Call { job: Witness { arch: \"amd64\", members: Installed, strength: Depends, \
-        terms: Terms { essential: false, without: [] }, names: [\"b\", \"a\"], budget: 1, \
-        reasons: false }, first: None, second: None }))",
-    ),
-    (
-        "installable --arch amd64 --essential --without a,,b --why x",
-        "Ok(Run(Call { job: Installable { arch: \"amd64\", members: All, strength: Depends, \
-        terms: Terms { essential: true, without: [\"a\", \"\", \"b\"] }, names: [], \
-        budget: 100000, reasons: true }, first: Some(\"x\"), second: None }))",
-    ),
-    (
-        "installable --arch amd64 --why --witness a --without b",
-        "Ok(Run(Call { job: Witness { arch: \"amd64\", members: All, strength: Depends, \
-        terms: Terms { essential: false, without: [\"b\"] }, names: [\"a\"], budget: 100000, \
-        reasons: true }, first: None, second: None }))",
-    ),
-    (
-        "installable --arch amd64 --only a --witness b x",
-        "Err(Usage(\"usage: installable takes --only or --witness\"))",
-    ),
-    (
-        "installable --arch amd64 --kind source --index i --witness b x",
-        "Err(Usage(\"usage: installable takes --only and --witness only for binary packages\"))",
-    ),
-    (
-        "installable --arch amd64 --budget 1000000001 x",
-        "Err(Usage(\"usage: --budget takes a number from 1 to 1000000000\"))",
-    ),
-    (
-        "installable --arch amd64 --profiles a,b --kind sources --index i --installed x",
-        "Ok(Run(Call { job: Buildable { arch: \"amd64\", profiles: [\"a\", \"b\"], \
-        members: Installed, sources: Sources, terms: Terms { essential: false, without: [] }, \
-        budget: 100000, reasons: false }, first: Some(\"i\"), second: Some(\"x\") }))",
-    ),
-    (
-        "installable --arch amd64 --kind source --index i --why --essential --without=b x",
-        "Ok(Run(Call { job: Buildable { arch: \"amd64\", profiles: [], members: All, \
-        sources: Source, terms: Terms { essential: true, without: [\"b\"] }, budget: 100000, \
-        reasons: true }, first: Some(\"i\"), second: Some(\"x\") }))",
-    ),
-    (
-        "installable --arch amd64 --kind source --index i",
-        "Err(Usage(\"usage: installable takes source packages only with --index and PATH\"))",
-    ),
-    (
-        "installable --arch amd64 --kind status x",
-        "Err(Usage(\"usage: installable takes --kind packages, sources or source\"))",
-    ),
-    ("compare 1 xx 2", "Err(Usage(\"usage: unknown operator\"))"),
-    ("check --kind foo", "Err(Usage(\"usage: unknown kind\"))"),
-    (
-        "explain --kind source x",
-        "Ok(Explain(File { doc: Source, path: Some(\"x\") }))",
-    ),
-    (
-        "explain --all -",
-        "Ok(Explain(All { doc: Packages, path: Some(\"-\") }))",
-    ),
-    ("explain --code 18", "Ok(Explain(Rule(BadVersion)))"),
-    ("explain --code BadVersion", "Ok(Explain(Rule(BadVersion)))"),
-    (
-        "audit y --kind any - x",
-        "Ok(Audit(Audit { doc: Any, files: Paths([\"y\", \"-\", \"x\"]), extent: First, \
-        end: Newline, demands: Demands { complete: false, least: 0 } }))",
-    ),
-    (
-        "audit --files0-from -",
-        "Ok(Audit(Audit { doc: Packages, files: Listed(\"-\"), extent: First, end: Newline, \
-        demands: Demands { complete: false, least: 0 } }))",
-    ),
-    (
-        "audit -0 x",
-        "Ok(Audit(Audit { doc: Packages, files: Paths([\"x\"]), extent: First, end: Nul, \
-        demands: Demands { complete: false, least: 0 } }))",
-    ),
-    (
-        "audit --all x",
-        "Ok(Audit(Audit { doc: Packages, files: Paths([\"x\"]), extent: All, end: Newline, \
-        demands: Demands { complete: false, least: 0 } }))",
-    ),
-    ("explain --relation aa|", "Ok(Explain(Relation(\"aa|\")))"),
-    ("explain --version-text=1-", "Ok(Explain(Version(\"1-\")))"),
-    (
-        "explain --relation aa --code 1",
-        "Err(Usage(\"usage: explain takes one file, code, relation or version\"))",
-    ),
-    (
-        "explain --all --code 1",
-        "Err(Usage(\"usage: explain takes one file, code, relation or version\"))",
-    ),
-    ("explain --code 24", "Err(Usage(\"usage: unknown code\"))"),
-    (
-        "audit",
-        "Err(Usage(\"usage: audit takes paths, or --files0-from\"))",
-    ),
-];
+/// A command line and the task or the fault that it has, in each line: one text is proved sooner
+/// than a table of rows.
+const LINES: &str = "\
+    check => Ok(Run(Call { job: Check(Packages), first: None, second: None }))\n\
+    check --kind=binary x => Ok(Run(Call { job: Check(Binary), first: Some(\"x\"), second: None \
+    }))\n\
+    check --all -k any x => Ok(Run(Call { job: CheckAll(Any), first: Some(\"x\"), second: None \
+    }))\n\
+    check -a x => Ok(Run(Call { job: CheckAll(Packages), first: Some(\"x\"), second: None }))\n\
+    check --complete --least 2 x => Ok(Run(Call { job: CheckWhole { doc: Packages, demands: \
+    Demands { complete: true, least: 2 } }, first: Some(\"x\"), second: None }))\n\
+    check --least 02 x => Err(Usage(\"usage: --least takes a number\"))\n\
+    audit --all --complete x => Err(Usage(\"usage: --all takes neither --complete nor \
+    --least\"))\n\
+    normalise --kind source x => Ok(Run(Call { job: Normalise(Source), first: Some(\"x\"), \
+    second: None }))\n\
+    same x y => Ok(Run(Call { job: Same(Packages), first: Some(\"x\"), second: Some(\"y\") }))\n\
+    diff x - => Ok(Run(Call { job: Diff { kind: Packages, detail: Fields, versions: Canonical \
+    }, first: Some(\"x\"), second: Some(\"-\") }))\n\
+    diff --values --spelled -k source x y => Ok(Run(Call { job: Diff { kind: Source, detail: \
+    Values, versions: Spelled }, first: Some(\"x\"), second: Some(\"y\") }))\n\
+    diff --kind status x y => Ok(Run(Call { job: Diff { kind: Status, detail: Fields, versions: \
+    Canonical }, first: Some(\"x\"), second: Some(\"y\") }))\n\
+    diff --kind any x y => Err(Usage(\"usage: diff takes no --kind any\"))\n\
+    compare 1 lt 2 => Ok(Run(Call { job: Compare(\"1\", Less, \"2\"), first: None, second: None \
+    }))\n\
+    canon-version 00:1:02-0 => Ok(Run(Call { job: CanonVersion(\"00:1:02-0\"), first: None, \
+    second: None }))\n\
+    sort --reverse x => Ok(Run(Call { job: Sort { reverse: true }, first: Some(\"x\"), second: \
+    None }))\n\
+    query --arch amd64 --profiles a,,b aa x => Ok(Run(Call { job: Query { arch: \"amd64\", \
+    profiles: [\"a\", \"\", \"b\"], relation: \"aa\", members: All, detail: Verdicts, versions: \
+    Canonical }, first: Some(\"x\"), second: None }))\n\
+    query --arch amd64 --why --spelled --installed --relation-from f x => Ok(Run(Call { job: \
+    QueryFrom { arch: \"amd64\", profiles: [], members: Installed, detail: Reasons, versions: \
+    Spelled }, first: Some(\"f\"), second: Some(\"x\") }))\n\
+    version-key 1 2 => Ok(Run(Call { job: VersionKey([\"1\", \"2\"]), first: None, second: None \
+    }))\n\
+    unmet --arch amd64 --recommends x => Ok(Run(Call { job: Unmet { arch: \"amd64\", profiles: \
+    [], members: All, dependents: Index(Recommends), versions: Canonical }, first: Some(\"x\"), \
+    second: None }))\n\
+    unmet --arch amd64 --installed --spelled --kind sources x - => Ok(Run(Call { job: Unmet { \
+    arch: \"amd64\", profiles: [], members: Installed, dependents: Sources, versions: Spelled \
+    }, first: Some(\"x\"), second: Some(\"-\") }))\n\
+    unmet --arch amd64 -k source x => Err(Usage(\"usage: unmet takes another --kind only with a \
+    second path\"))\n\
+    unmet --arch amd64 --kind status x y => Err(Usage(\"usage: unmet takes no --kind \
+    status\"))\n\
+    unmet --arch amd64 --kind any x y => Err(Usage(\"usage: unmet takes no --kind any\"))\n\
+    healthy --arch amd64 x => Ok(Run(Call { job: Healthy { arch: \"amd64\", members: All, \
+    strength: Depends }, first: Some(\"x\"), second: None }))\n\
+    healthy --recommends --installed --arch=amd64 => Ok(Run(Call { job: Healthy { arch: \
+    \"amd64\", members: Installed, strength: Recommends }, first: None, second: None }))\n\
+    installable --arch amd64 x => Ok(Run(Call { job: Installable { arch: \"amd64\", members: \
+    All, strength: Depends, terms: Terms { essential: false, without: [] }, names: [], budget: \
+    100000, reasons: false }, first: Some(\"x\"), second: None }))\n\
+    installable --recommends --installed --budget 1000000000 --arch=amd64 => Ok(Run(Call { job: \
+    Installable { arch: \"amd64\", members: Installed, strength: Recommends, terms: Terms { \
+    essential: false, without: [] }, names: [], budget: 1000000000, reasons: false }, first: \
+    None, second: None }))\n\
+    installable --arch amd64 --only a,,b x => Ok(Run(Call { job: Installable { arch: \"amd64\", \
+    members: All, strength: Depends, terms: Terms { essential: false, without: [] }, names: \
+    [\"a\", \"\", \"b\"], budget: 100000, reasons: false }, first: Some(\"x\"), second: None \
+    }))\n\
+    installable --arch amd64 --installed --witness=b,a --budget 1 => Ok(Run(Call { job: Witness \
+    { arch: \"amd64\", members: Installed, strength: Depends, terms: Terms { essential: false, \
+    without: [] }, names: [\"b\", \"a\"], budget: 1, reasons: false }, first: None, second: \
+    None }))\n\
+    installable --arch amd64 --essential --without a,,b --why x => Ok(Run(Call { job: \
+    Installable { arch: \"amd64\", members: All, strength: Depends, terms: Terms { essential: \
+    true, without: [\"a\", \"\", \"b\"] }, names: [], budget: 100000, reasons: true }, first: \
+    Some(\"x\"), second: None }))\n\
+    installable --arch amd64 --why --witness a --without b => Ok(Run(Call { job: Witness { \
+    arch: \"amd64\", members: All, strength: Depends, terms: Terms { essential: false, without: \
+    [\"b\"] }, names: [\"a\"], budget: 100000, reasons: true }, first: None, second: None }))\n\
+    installable --arch amd64 --only a --witness b x => Err(Usage(\"usage: installable takes \
+    --only or --witness\"))\n\
+    installable --arch amd64 --kind source --index i --witness b x => Err(Usage(\"usage: \
+    installable takes --only and --witness only for binary packages\"))\n\
+    installable --arch amd64 --budget 1000000001 x => Err(Usage(\"usage: --budget takes a \
+    number from 1 to 1000000000\"))\n\
+    installable --arch amd64 --profiles a,b --kind sources --index i --installed x => \
+    Ok(Run(Call { job: Buildable { arch: \"amd64\", profiles: [\"a\", \"b\"], members: \
+    Installed, sources: Sources, terms: Terms { essential: false, without: [] }, budget: \
+    100000, reasons: false }, first: Some(\"i\"), second: Some(\"x\") }))\n\
+    installable --arch amd64 --kind source --index i --why --essential --without=b x => \
+    Ok(Run(Call { job: Buildable { arch: \"amd64\", profiles: [], members: All, sources: \
+    Source, terms: Terms { essential: true, without: [\"b\"] }, budget: 100000, reasons: true \
+    }, first: Some(\"i\"), second: Some(\"x\") }))\n\
+    installable --arch amd64 --kind source --index i => Err(Usage(\"usage: installable takes \
+    source packages only with --index and PATH\"))\n\
+    installable --arch amd64 --kind status x => Err(Usage(\"usage: installable takes --kind \
+    packages, sources or source\"))\n\
+    compare 1 xx 2 => Err(Usage(\"usage: unknown operator\"))\n\
+    check --kind foo => Err(Usage(\"usage: unknown kind\"))\n\
+    explain --kind source x => Ok(Explain(File { doc: Source, path: Some(\"x\") }))\n\
+    explain --all - => Ok(Explain(All { doc: Packages, path: Some(\"-\") }))\n\
+    explain --code 18 => Ok(Explain(Rule(BadVersion)))\n\
+    explain --code BadVersion => Ok(Explain(Rule(BadVersion)))\n\
+    audit y --kind any - x => Ok(Audit(Audit { doc: Any, files: Paths([\"y\", \"-\", \"x\"]), \
+    extent: First, end: Newline, demands: Demands { complete: false, least: 0 } }))\n\
+    audit --files0-from - => Ok(Audit(Audit { doc: Packages, files: Listed(\"-\"), extent: \
+    First, end: Newline, demands: Demands { complete: false, least: 0 } }))\n\
+    audit -0 x => Ok(Audit(Audit { doc: Packages, files: Paths([\"x\"]), extent: First, end: \
+    Nul, demands: Demands { complete: false, least: 0 } }))\n\
+    audit --all x => Ok(Audit(Audit { doc: Packages, files: Paths([\"x\"]), extent: All, end: \
+    Newline, demands: Demands { complete: false, least: 0 } }))\n\
+    explain --relation aa| => Ok(Explain(Relation(\"aa|\")))\n\
+    explain --version-text=1- => Ok(Explain(Version(\"1-\")))\n\
+    explain --relation aa --code 1 => Err(Usage(\"usage: explain takes one file, code, relation \
+    or version\"))\n\
+    explain --all --code 1 => Err(Usage(\"usage: explain takes one file, code, relation or \
+    version\"))\n\
+    explain --code 24 => Err(Usage(\"usage: unknown code\"))\n\
+    audit => Err(Usage(\"usage: audit takes paths, or --files0-from\"))";
 
 #[test]
-fn calls_and_faults(rt: HostRuntime) -> Result<(), Fail> {
-    for (line, wanted) in LINES {
-        assert_line(&rt, rt.alloc(), line, wanted)?;
+fn calls_and_faults(rt: HostRuntime) {
+    for line in LINES.split('\n') {
+        assert!(rt; is_answered(rt.alloc(), line) == Some(true), "{line}");
     }
-    Ok(())
 }
 
-fn assert_line(rt: &impl Abort, alloc: Global, line: &str, wanted: &str) -> Result<(), Fail> {
-    let words = words(alloc, line)?;
-    let answer = job_of(alloc, &words);
-    let told = format!(in alloc; "{answer:?}")?;
-    assert!(rt; told.as_str() == wanted, "{line}: {told}");
-    Ok(())
+/// Whether a line's arguments have its task or its fault; None where a call fails.
+fn is_answered(alloc: Global, line: &str) -> Option<bool> {
+    let (arguments, wanted) = line.split_once(" => ")?;
+    let words = words(alloc, arguments).ok()?;
+    is_answer(alloc, &words, wanted)
+}
+
+fn is_answer(alloc: Global, words: &[String], wanted: &str) -> Option<bool> {
+    let answer = job_of(alloc, words);
+    let told = format!(in alloc; "{answer:?}").ok()?;
+    Some(told.as_str() == wanted)
 }
 
 /// A query with a thousand profiles and a relation of ten thousand bytes.
