@@ -1,101 +1,18 @@
-//! Tests of what a paragraph returns about its fields, and a caller's loop that is proved from the
-//! clauses of `next`.
+//! Tests of a paragraph with many fields, and of a caller's loop that is proved from the clauses of
+//! `next`.
 
 ghost use Rattle.std.specs.Prelude.{◌≡◌, ℕ, List, Some, length, IfOk};
 ghost use Rattle.deb_syntax.specs.Lines.{paragraphs_of};
 
 use deb_base::{Fault, Input, Source};
-use deb_syntax::{Paragraphs, Raw, RawField};
+use deb_syntax::{Paragraphs, Raw};
 use std::alloc::Global;
 use std::io::Write;
 use std::test::Fail;
 
-/// The name of a field, its line and its body.
-type Wanted = (&'static [u8], u64, &'static [u8]);
-
-/// The fields of a paragraph whose first line has number 7.
-const FIELDS: [Wanted; 4] = [
-    (b"pre-DEPENDS", 7, b"aa,\n bb"),
-    (b"X_Y", 9, b""),
-    (
-        b"Long-name-of-a-field-of-more-bytes-than-are-checked-at-a-time-01",
-        10,
-        b"x",
-    ),
-    (b"A", 11, b"\n b"),
-];
-
-const FILE: &[u8] = b"\n\n\n\n\n\npre-DEPENDS: aa,\n bb\nX_Y:\n\
-    Long-name-of-a-field-of-more-bytes-than-are-checked-at-a-time-01: x\nA: \t\n b \n";
-
-/// The names that a paragraph is asked for, and the line of the field that is found.
-const NAMES: [(&[u8], Option<u64>); 7] = [
-    (b"Pre-Depends", Some(7)),
-    (b"x_y", Some(9)),
-    (b"a", Some(11)),
-    (b"x\x7fy", None),
-    (b"Pre-Depend", None),
-    (b"Pre-Depends ", None),
-    (b"", None),
-];
-
-#[test]
-fn fields_of_a_paragraph(rt: HostRuntime) {
-    assert!(rt; is_paragraph(rt.alloc()));
-}
-
-/// Whether the paragraph is right when it is given, and as the one given last.
-fn is_paragraph(alloc: Global) -> bool {
-    let mut paragraphs = Paragraphs::new(alloc);
-    let is_given = match paragraphs.next(&mut Input::new(FILE)) {
-        Ok(Some(paragraph)) => has_fields(&paragraph) && has_names(&paragraph),
-        _ => false,
-    };
-    is_given && is_current(&paragraphs)
-}
-
-fn is_current(paragraphs: &Paragraphs) -> bool {
-    match paragraphs.current() {
-        Some(paragraph) => has_fields(&paragraph),
-        None => false,
-    }
-}
-
-fn has_names(paragraph: &Raw<'_>) -> bool {
-    for (name, line) in NAMES {
-        if line_of(paragraph, name) != line {
-            return false;
-        }
-    }
-    true
-}
-
-/// Whether the fields are those, by their offsets and in their order, and no others.
-fn has_fields(paragraph: &Raw<'_>) -> bool {
-    let mut fields = paragraph.fields();
-    for (index, wanted) in FIELDS.iter().enumerate() {
-        if !is_field(paragraph.field(index), wanted) || !is_field(fields.next(), wanted) {
-            return false;
-        }
-    }
-    paragraph.field(FIELDS.len()).is_none()
-        && fields.next().is_none()
-        && paragraph.first_line() == 7
-        && paragraph.len() == 4
-        && !paragraph.is_empty()
-}
-
-fn is_field(found: Option<RawField<'_>>, wanted: &Wanted) -> bool {
-    match found {
-        Some(field) => (field.name, field.line, field.body) == *wanted,
-        None => false,
-    }
-}
-
 /// The line of the field that is found by a name.
 fn line_of(paragraph: &Raw<'_>, name: &[u8]) -> Option<u64> {
-    let field = paragraph.get(name)?;
-    Some(field.line)
+    Some(paragraph.get(name)?.line)
 }
 
 #[test]
