@@ -14,11 +14,11 @@
  *                   NAME=NUMBER, of all names in `write_record`
  *   FAULTS_STACK    the number of an open descriptor, to which the stack of the first growth that is
  *                   refused is written, from the address to which that call returns
- *   FAULTS_RUNS     the number of a socket, on which runs are asked for in place of the first six:
- *                   each `struct asked` is one run, of a process that is forked off before `main`;
- *                   behind it the status with which `waitpid` ends is written there. A run begins with
- *                   empty outputs, record and stack, at the start of its input, and a signal ends it
- *                   after 10 seconds.
+ *   FAULTS_RUNS     the number of a socket, from which runs are read in place of the first six: each
+ *                   `struct asked` is one run, of a process that is forked off before `main`; after
+ *                   it the status that `waitpid` returns is written there. A run begins with empty
+ *                   outputs, record and stack, at the start of its input, and a signal ends it after
+ *                   10 seconds.
  *
  * growth: malloc, calloc, realloc, aligned_alloc, memalign and posix_memalign; their errno is
  * always ENOMEM. A realloc to a smaller size is none: a program may go on without it.
@@ -108,7 +108,7 @@ static void begin_again(int descriptor, int is_read)
     lseek(descriptor, 0, SEEK_SET);
 }
 
-/* Forks off a process for each run that is asked for on a socket, and tells there how it ended. Only
+/* Forks off a process for each run that is read from a socket, and writes there how it ended. Only
  * these processes return. */
 static void serve_runs(int socket)
 {

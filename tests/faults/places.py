@@ -14,7 +14,7 @@ from collections import Counter, defaultdict
 
 TAKES = {"malloc", "realloc", "calloc", "aligned_alloc", "memalign", "posix_memalign"}
 OWN = re.compile(r"deb(ctl)?(_\w+)?::")
-# Stands for the address behind a call that isn't known.
+# Stands for the address after a call that isn't known.
 LOST = -1
 LEAVES = {"jmp", "ret", "ud2", "hlt"}
 INSTRUCTION = re.compile(
@@ -129,8 +129,8 @@ class Places:
             more = {it for it, called in calls.items() if called & taking} - taking
         return taking
 
-    def behind(self, stack, entry):
-        """The addresses behind the calls in which a growth was refused, by its stack and the address of
+    def calls_in(self, stack, entry):
+        """The addresses after the calls in which a growth was refused, by its stack and the address of
         the program's entry, and LOST if they end before `main`."""
         if not self.calls:
             return []
@@ -144,7 +144,7 @@ class Places:
 
     def rows(self, refused):
         """For each function with places: how many it has, how many of them were refused memory, and
-        how often, by how often it was refused behind each address."""
+        how often, by how often it was refused at each address."""
         rows = defaultdict(lambda: [0, 0, 0])
         for behind, (function, called, _) in self.calls.items():
             if OWN.match(function) and called in self.taking:
