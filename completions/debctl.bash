@@ -6,7 +6,7 @@ _debctl() {
     # What each command offers: its options, their values, and its words by their number.
     local -A offers=(
         [:options]='--help --version'
-        [:0]='check explain audit normalise same diff compare canon-version version-key sort query unmet healthy installable help'
+        [:0]='check explain audit normalise same diff compare canon-version version-key sort query unmet healthy installable latest help'
         [check:options]='--kind --all --complete --least --help'
         [check:0]=files
         [check:-k]='binary packages source sources status any'
@@ -51,17 +51,21 @@ _debctl() {
         [sort:0]=files
         [query:options]='--arch --profiles --why --spelled --installed --relation-from --help'
         [query:0]=''
-        [query:1]=files
+        [query:more]=files
         [query:--arch]='$(dpkg-architecture -L 2>/dev/null)'
         [query:--profiles]=''
         [query:--relation-from]=files
-        [unmet:options]='--arch --profiles --kind --recommends --spelled --installed --help'
+        [unmet:options]='--arch --profiles --kind --recommends --spelled --installed --index --unless-in --without --all-sources --all-for --help'
         [unmet:0]=files
         [unmet:1]=files
         [unmet:--arch]='$(dpkg-architecture -L 2>/dev/null)'
         [unmet:--profiles]=''
         [unmet:-k]='binary packages source sources'
         [unmet:--kind]='binary packages source sources'
+        [unmet:--index]=files
+        [unmet:--unless-in]=files
+        [unmet:--without]=''
+        [unmet:--all-for]='$(dpkg-architecture -L 2>/dev/null)'
         [healthy:options]='--arch --recommends --installed --help'
         [healthy:0]=files
         [healthy:--arch]='$(dpkg-architecture -L 2>/dev/null)'
@@ -76,8 +80,14 @@ _debctl() {
         [installable:--budget]=''
         [installable:--only]=''
         [installable:--witness]=''
+        [latest:options]='--kind --by --before --help'
+        [latest:more]=files
+        [latest:-k]='packages sources'
+        [latest:--kind]='packages sources'
+        [latest:--by]='name name,arch'
+        [latest:--before]=''
         [help:options]=--help
-        [help:0]='check explain audit normalise same diff compare canon-version version-key sort query unmet healthy installable help kinds'
+        [help:0]='check explain audit normalise same diff compare canon-version version-key sort query unmet healthy installable latest help kinds'
     )
     local command='' given=0 ended='' i key offer
     for ((i = 1; i < cword; i++)); do
@@ -87,7 +97,7 @@ _debctl() {
         fi
         case ${words[i]} in
             --) ended=yes ;;
-            -k | --kind | --least | --arch | --profiles | --index | --without | --budget | --only | --witness) ((i++)) ;;
+            -k | --kind | --least | --arch | --profiles | --index | --unless-in | --without | --all-for | --budget | --only | --witness | --by | --before) ((i++)) ;;
             # The value is in place of a word, as it is if it is a word of its own.
             --code=* | --relation=* | --version-text=* | --files0-from=* | --relation-from=*) ((given++)) ;;
         esac

@@ -9,7 +9,7 @@ function __debctl_arguments
             case --
                 string join -- \n $words[2..]
                 return
-            case -k --kind --least --arch --profiles --index --without --budget --only --witness
+            case -k --kind --least --arch --profiles --index --unless-in --without --all-for --budget --only --witness --by --before
                 set words $words[2..]
             case - '--code=*' '--relation=*' '--version-text=*' '--files0-from=*' '--relation-from=*'
                 printf '%s\n' $words[1]
@@ -22,10 +22,15 @@ function __debctl_arguments
 end
 
 # Returns whether this is the command, or without one whether there is none yet; and whether this many
-# arguments come after it, if a number is given.
+# arguments come after it, if a number is given, or at least so many, if a third argument is.
 function __debctl_at
     set -l words (__debctl_arguments)
-    test "$words[1]" = "$argv[1]"; and contains -- "$argv[2]" '' (math (count $words) - 1)
+    test "$words[1]" = "$argv[1]"; or return
+    if set -q argv[3]
+        test (count $words) -gt $argv[2]
+    else
+        contains -- "$argv[2]" '' (math (count $words) - 1)
+    end
 end
 
 complete -c debctl -f
@@ -39,10 +44,11 @@ complete -c debctl -n __debctl_at -a compare -d 'Compares two versions in Debian
 complete -c debctl -n __debctl_at -a canon-version -d 'Prints the canonical text of a version'
 complete -c debctl -n __debctl_at -a version-key -d 'Prints keys whose byte order is the order of their versions'
 complete -c debctl -n __debctl_at -a sort -d 'Sorts the lines of a file, each a version, in Debian'"'"'s order'
-complete -c debctl -n __debctl_at -a query -d 'Finds the packages of an index that meet a relation'
-complete -c debctl -n __debctl_at -a unmet -d 'Finds the dependencies of a whole file that no package of an index meets'
+complete -c debctl -n __debctl_at -a query -d 'Finds the packages of indexes that meet a relation'
+complete -c debctl -n __debctl_at -a unmet -d 'Finds the dependencies of a whole file that no package of indexes meets'
 complete -c debctl -n __debctl_at -a healthy -d 'Checks whether a set of packages is consistent'
 complete -c debctl -n __debctl_at -a installable -d 'Finds the packages that can'"'"'t be installed, or the sources that can'"'"'t be built'
+complete -c debctl -n __debctl_at -a latest -d 'Writes the paragraph with the latest version of each package of some files'
 complete -c debctl -n __debctl_at -a help -d 'Prints the help of the program or of a command'
 complete -c debctl -n __debctl_at -s h -l help -d 'Print help'
 complete -c debctl -n __debctl_at -s V -l version -d 'Print version'
@@ -59,7 +65,7 @@ complete -c debctl -n '__debctl_at explain' -l code -x -d 'Explain an error code
 complete -c debctl -n '__debctl_at explain' -l relation -x -d 'Explain a relation instead of a file'
 complete -c debctl -n '__debctl_at explain' -l version-text -x -d 'Explain a version instead of a file'
 complete -c debctl -n '__debctl_at explain' -s h -l help -d 'Print help'
-complete -c debctl -n '__debctl_at audit' -F
+complete -c debctl -n '__debctl_at audit 0 more' -F
 complete -c debctl -n '__debctl_at audit' -s k -l kind -x -a 'binary packages source sources status any' -d 'The kind of file'
 complete -c debctl -n '__debctl_at audit' -s a -l all -d 'Report every error, not only the first one'
 complete -c debctl -n '__debctl_at audit' -l complete -d 'Refuse a file that doesn'"'"'t end with a newline'
@@ -87,7 +93,7 @@ complete -c debctl -n '__debctl_at version-key' -s h -l help -d 'Print help'
 complete -c debctl -n '__debctl_at sort 0' -F
 complete -c debctl -n '__debctl_at sort' -s r -l reverse -d 'Sort the latest version first'
 complete -c debctl -n '__debctl_at sort' -s h -l help -d 'Print help'
-complete -c debctl -n '__debctl_at query 1' -F
+complete -c debctl -n '__debctl_at query 1 more' -F
 complete -c debctl -n '__debctl_at query' -l arch -x -a '(dpkg-architecture -L 2>/dev/null)' -d 'The target architecture, such as amd64'
 complete -c debctl -n '__debctl_at query' -l profiles -x -d 'The active build profiles, separated by commas'
 complete -c debctl -n '__debctl_at query' -l why -d 'Say below each unmet or ignored group why it is'
@@ -103,6 +109,11 @@ complete -c debctl -n '__debctl_at unmet' -s k -l kind -x -a 'binary packages so
 complete -c debctl -n '__debctl_at unmet' -l recommends -d 'Try the groups of Recommends too'
 complete -c debctl -n '__debctl_at unmet' -l spelled -d 'Print each version as its file spells it'
 complete -c debctl -n '__debctl_at unmet' -l installed -d 'Read a status file such as /var/lib/dpkg/status'
+complete -c debctl -n '__debctl_at unmet' -l index -r -F -d 'A further index, read before INDEX'
+complete -c debctl -n '__debctl_at unmet' -l unless-in -r -F -d 'Print only groups that this index meets'
+complete -c debctl -n '__debctl_at unmet' -l without -x -d 'Leave out the binary packages with one of these names'
+complete -c debctl -n '__debctl_at unmet' -l all-sources -d 'Try the source packages of every architecture'
+complete -c debctl -n '__debctl_at unmet' -l all-for -x -a '(dpkg-architecture -L 2>/dev/null)' -d 'The target of packages for `all`'
 complete -c debctl -n '__debctl_at unmet' -s h -l help -d 'Print help'
 complete -c debctl -n '__debctl_at healthy 0' -F
 complete -c debctl -n '__debctl_at healthy' -l arch -x -a '(dpkg-architecture -L 2>/dev/null)' -d 'The target architecture, such as amd64'
@@ -123,5 +134,10 @@ complete -c debctl -n '__debctl_at installable' -l only -x -d 'Print lines only 
 complete -c debctl -n '__debctl_at installable' -l witness -x -d 'Print a healthy set that contains a package with one of these names'
 complete -c debctl -n '__debctl_at installable' -l why -d 'Say below each uninstallable package why it is'
 complete -c debctl -n '__debctl_at installable' -s h -l help -d 'Print help'
-complete -c debctl -n '__debctl_at help 0' -a 'check explain audit normalise same diff compare canon-version version-key sort query unmet healthy installable help kinds'
+complete -c debctl -n '__debctl_at latest 0 more' -F
+complete -c debctl -n '__debctl_at latest' -s k -l kind -x -a 'packages sources' -d 'The kind of all files'
+complete -c debctl -n '__debctl_at latest' -l by -x -a 'name name,arch' -d 'What one package is'
+complete -c debctl -n '__debctl_at latest' -l before -x -d 'Consider only versions earlier than this one'
+complete -c debctl -n '__debctl_at latest' -s h -l help -d 'Print help'
+complete -c debctl -n '__debctl_at help 0' -a 'check explain audit normalise same diff compare canon-version version-key sort query unmet healthy installable latest help kinds'
 complete -c debctl -n '__debctl_at help' -s h -l help -d 'Print help'

@@ -347,7 +347,8 @@ struct deb_answer deb_query_why(const uint8_t *target, size_t target_length,
  * these build profiles active: a line for each group that is unmet, or may be. They are the lines
  * that the program `debctl unmet` writes. `kind` is that of the file: DEB_PACKAGES and DEB_BINARY ask
  * Pre-Depends and Depends, and Recommends too unless `recommends` is 0; DEB_SOURCES and DEB_SOURCE
- * ask Build-Depends, Build-Depends-Arch and Build-Depends-Indep, and `recommends` must be 0.
+ * ask Build-Depends, Build-Depends-Arch and Build-Depends-Indep of the source packages that are built
+ * for the target (deb_index_unmet_with says which they are), and `recommends` must be 0.
  * DEB_YES: there is no line; DEB_NO: there is one; both with the number of paragraphs of the file.
  * DEB_REFUSED: the target or a profile (DEB_BAD_ENVIRONMENT) or the index, in this order;
  * DEB_SECOND_REFUSED: the file; DEB_NO_ROOM; DEB_NO_MEMORY; DEB_NO_KIND: `kind` is none of these
@@ -445,8 +446,8 @@ struct deb_answer deb_buildable(uint8_t kind, uint8_t essential, uint8_t reasons
  *
  * The caller ensures that `index` points to memory that deb_index_read has filled and deb_index_free
  * hasn't emptied since. No function can check that: a pointer that is NULL or freed is undefined
- * behaviour. Any number of threads may ask one index at once, as long as no call of deb_index_read
- * or deb_index_free on it runs at the same time. */
+ * behaviour. Any number of threads may ask one index at once, as long as no call that changes it runs
+ * at the same time: of deb_index_read, deb_index_read_more, deb_index_without or deb_index_free. */
 struct deb_index;
 
 /* Returns how many bytes of memory an index has. */
@@ -459,6 +460,21 @@ void deb_index_read(struct deb_index *index, const uint8_t *text, size_t text_le
 
 /* Frees the memory that an index took, and leaves that in which it lies to the caller. */
 void deb_index_free(struct deb_index *index);
+
+/* Reads one more file of packages into an index. They follow those that it has: the first has the
+ * next number. The text isn't needed afterwards. `answer` becomes DEB_YES, with the number of all
+ * packages; DEB_REFUSED or DEB_NO_MEMORY: the index holds none from then on; DEB_NO_INDEX. No other
+ * thread may ask the index in the meantime. */
+void deb_index_read_more(struct deb_index *index, const uint8_t *text, size_t text_length,
+                         struct deb_answer *answer);
+
+/* Takes the packages that have one of these names out of an index. The others keep their order, and
+ * have new numbers from 1; a file of which no package is left still counts as one. A name that no
+ * package has changes nothing. `names` is an array of `name_count` names. `answer` becomes DEB_YES,
+ * with the number of packages that are left; DEB_NO_MEMORY: the index holds none from then on;
+ * DEB_NO_INDEX. No other thread may ask the index in the meantime. */
+void deb_index_without(struct deb_index *index, const struct deb_text *names, size_t name_count,
+                       struct deb_answer *answer);
 
 /* Reads an index into memory of malloc, which deb_index_delete frees. `answer` becomes that of
  * deb_index_read. Returns NULL, with nothing to free, unless it is DEB_YES. */
@@ -488,7 +504,9 @@ static inline void deb_index_delete(struct deb_index *index) {
     }
 }
 
-/* Writes the report that deb_query writes for this index, without reading it again.
+/* Writes the report that deb_query writes for this index, without reading it again. If the index was
+ * read of several files, the line of each package ends with the file that it is of: ` @2` is the
+ * second that was read.
  * The statuses of deb_query; DEB_NO_INDEX. */
 struct deb_answer deb_index_query(const struct deb_index *index,
                                   const uint8_t *target, size_t target_length,
@@ -496,7 +514,8 @@ struct deb_answer deb_index_query(const struct deb_index *index,
                                   const uint8_t *relation, size_t relation_length,
                                   uint8_t *out, size_t out_size, size_t *length);
 
-/* Writes the report that deb_query_why writes for this index, without reading it again.
+/* Writes the report that deb_query_why writes for this index, without reading it again; of several
+ * files, as deb_index_query does.
  * The statuses of deb_query; DEB_NO_INDEX. */
 struct deb_answer deb_index_query_why(const struct deb_index *index,
                                       const uint8_t *target, size_t target_length,
@@ -511,6 +530,34 @@ struct deb_answer deb_index_unmet(const struct deb_index *index, uint8_t kind, u
                                   const struct deb_text *profiles, size_t profile_count,
                                   const uint8_t *text, size_t text_length,
                                   uint8_t *out, size_t out_size, size_t *length);
+
+/* What deb_index_unmet_with asks besides: any of these numbers, added. */
+enum deb_option {
+    DEB_RECOMMENDS = 1,  /* of binary packages: Recommends too */
+    DEB_ALL_SOURCES = 2, /* of source packages: also those that aren't built for the target */
+    DEB_UNLESS = 4       /* a group has a line only if the index `unless` meets or ignores it for sure */
+};
+
+/* Writes the lines that deb_index_unmet writes, with the options of the program `debctl unmet`:
+ * `options` are those of deb_option. `unless` is an index, too; without DEB_UNLESS it isn't asked, but
+ * may not be NULL: pass `index` again. Without DEB_ALL_SOURCES a source package is asked only if its
+ * Architecture has `any`, `all` or the target, or it has no such field; if another of its names may hold
+ * the target, such as `linux-any`, its lines all say `unsure`. A package of DEB_PACKAGES or DEB_BINARY is
+ * asked for its own architecture; if that can't be a target, as `all`, for `all_for`, or if that is empty
+ * for `target`. No binary package of `text` with one of the names `without` is asked; deb_index_without
+ * takes their packages out of an index.
+ * The statuses of deb_index_unmet; DEB_REFUSED also: `all_for` (DEB_BAD_ENVIRONMENT); DEB_NO_KIND also:
+ * an option that the kind doesn't have, or `all_for` for source packages; DEB_NO_INDEX also: with
+ * DEB_UNLESS nothing is loaded in `unless`. */
+struct deb_answer deb_index_unmet_with(const struct deb_index *index,
+                                       const struct deb_index *unless,
+                                       uint8_t kind, uint8_t options,
+                                       const uint8_t *target, size_t target_length,
+                                       const uint8_t *all_for, size_t all_for_length,
+                                       const struct deb_text *profiles, size_t profile_count,
+                                       const struct deb_text *without, size_t without_count,
+                                       const uint8_t *text, size_t text_length,
+                                       uint8_t *out, size_t out_size, size_t *length);
 
 /* Writes the numbers of the packages that have a name, in ascending order. The first package of an
  * index has the number 1. `numbers` has room for `numbers_size` numbers; `count` is how many there
@@ -541,6 +588,29 @@ struct deb_answer deb_index_package(const struct deb_index *index, uint64_t numb
 struct deb_answer deb_index_details(const struct deb_index *index, uint64_t number,
                                     uint8_t *out, size_t out_size, size_t *length);
 
+/* Finds which file the package with a number is of: `file` becomes 1 if it is of the one that was read
+ * first, and 0 if the status isn't DEB_YES. Takes no memory.
+ * DEB_YES; DEB_NO: the index has no such package; DEB_NO_INDEX. */
+struct deb_answer deb_index_file(const struct deb_index *index, uint64_t number, size_t *file);
+
+/* Which paragraphs are of one package. */
+enum deb_by {
+    DEB_NAME = 0,                 /* those with one name */
+    DEB_NAME_AND_ARCHITECTURE = 1 /* those with one name and one architecture */
+};
+
+/* Writes of each package over several files the paragraph with the latest version, as its file has it,
+ * with an empty line between two, in the order of the files: what the program `debctl latest` writes.
+ * Of equal versions it is the first. `kind` is DEB_PACKAGES or DEB_SOURCES, `by` one of deb_by; a source
+ * package has one name only. Unless `before` is empty, only versions earlier than it are considered.
+ * DEB_YES, with the number of these paragraphs; DEB_REFUSED: `before` isn't a version (DEB_BAD_VERSION,
+ * `count` 0), or a text is refused, whose place in `texts`, from 1, is `count`; DEB_NO_ROOM;
+ * DEB_NO_MEMORY; DEB_NO_KIND: `kind` is neither of these two, or `by` none of deb_by. */
+struct deb_answer deb_latest(uint8_t kind, uint8_t by,
+                             const uint8_t *before, size_t before_length,
+                             const struct deb_text *texts, size_t text_count,
+                             uint8_t *out, size_t out_size, size_t *length);
+
 /* A part of a text: the offset of its first byte, and the number of its bytes. */
 struct deb_span {
     size_t start;
@@ -550,7 +620,7 @@ struct deb_span {
 /* What wrote a text. */
 enum deb_form {
     DEB_REPORT = 0,      /* deb_query, deb_index_query, and both with _why; deb_witness, DEB_YES */
-    DEB_UNMET_LINES = 1, /* deb_unmet, deb_index_unmet */
+    DEB_UNMET_LINES = 1, /* deb_unmet, deb_index_unmet, deb_index_unmet_with */
     DEB_DIFF_LINES = 2,  /* deb_diff */
     DEB_EXPLANATION = 3, /* deb_explain, deb_explain_all, deb_explain_relation, deb_explain_version */
     DEB_HEALTH_LINES = 4, /* deb_healthy */
@@ -591,7 +661,9 @@ enum deb_row_kind {
     DEB_ROW_UNDECIDED = 28,     /* the same */
     DEB_ROW_NEED = 29,          /* number, package, version, architecture, group, candidates */
     DEB_ROW_EXCLUSION = 30,     /* number, package, version, architecture of both packages */
-    DEB_ROW_LEFT_OUT = 31       /* number, package, version, architecture */
+    DEB_ROW_LEFT_OUT = 31,      /* number, package, version, architecture */
+    DEB_ROW_PACKAGE_OF_FILE = 32, /* as DEB_ROW_PACKAGE, and the file; of an index of several files */
+    DEB_ROW_PACKAGE_REASON_OF_FILE = 33 /* as DEB_ROW_PACKAGE_REASON, and the file, likewise */
 };
 
 /* A line of a text. `fields` is one cell, with a space between two names. `candidates` is one, too:

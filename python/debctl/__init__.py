@@ -34,6 +34,7 @@ from ._files import (
     buildable, check, check_all, diff, healthy, installable, normalise, query, same, unmet, witness,
 )
 from ._index import Details, Index, Package
+from ._latest import latest
 from ._library import Kind, Text, lib
 from ._paragraphs import Paragraph, paragraphs
 from ._refusals import Code, Refused
@@ -59,7 +60,7 @@ __all__ = [
     "Kind", "LeftOut", "Need", "NotInstallable", "NumberedPackage", "Package", "Paragraph", "Parts",
     "Reason", "Refused", "Report", "Text", "UnmetGroup", "UnmetReport", "Version", "WitnessReport",
     "applies", "buildable", "canonical", "check", "check_all", "compare", "diff", "explain",
-    "explain_all", "explain_relation", "explain_version", "healthy", "installable", "key",
+    "explain_all", "explain_relation", "explain_version", "healthy", "installable", "key", "latest",
     "library_version", "normalise", "paragraphs", "query", "relations", "same", "satisfies",
     "unmet", "witness",
 ]

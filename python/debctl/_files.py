@@ -238,7 +238,8 @@ def unmet(
     """Finds the relations of a file that no package of an index meets, for this architecture and
     these build profiles: the lines that the program `debctl unmet` writes. `kind` is that of the
     file. Of `packages` and `binary` Pre-Depends and Depends are asked, with `recommends` Recommends
-    too; of `sources` and `source` the three fields Build-Depends.
+    too; of `sources` and `source` the three fields Build-Depends of the packages that are built for
+    the architecture. `Index.unmet` has more options.
 
     Raises Refused if the architecture, a profile, the index or the file is refused; its `second`
     is true if the file is. Raises ValueError for another kind, or if Recommends is asked of

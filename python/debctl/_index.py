@@ -1,5 +1,6 @@
 """An index that is read once and asked often."""
 
+import ctypes
 import functools
 from array import array
 from types import TracebackType
@@ -8,8 +9,8 @@ from typing import Any, Iterable, List, NamedTuple, NoReturn, Optional, Tuple, T
 from ._explanations import answered_file
 from ._files import Report, UnmetReport, unmet_report
 from ._library import (
-    NO, YES, Answer, IndexMemory, Kind, Memory, Text, answered, given, kind_of, lib, tables,
-    text_of, texts_of, written,
+    NO, UNFILLED, YES, Answer, IndexMemory, Kind, Memory, Text, answered, given, kind_of, lib,
+    tables, text_of, texts_of, written,
 )
 from ._paragraphs import paragraphs
 from ._relations import Alternative
@@ -42,9 +43,9 @@ class Index:
     """An index of packages, which is read once and asked often, by any number of threads at once.
 
     Raises Refused if the text isn't accepted as an index of packages. `len` is the number of
-    packages. They have the numbers from 1 in the order of the text, which isn't kept. After
-    `close`, or at the end of a `with` statement, each question raises ValueError. An index can't
-    be copied.
+    packages. They have the numbers from 1 in the order of the text, which isn't kept. `read_more`
+    reads another file, and `leave_out` takes packages out. After `close`, or at the end of a
+    `with` statement, each question raises ValueError. An index can't be copied.
 
         >>> import debctl
         >>> text = "Package: mailer\\nVersion: 2\\nArchitecture: all\\nProvides: mta\\n"
@@ -71,6 +72,52 @@ class Index:
         if loaded is None:
             raise ValueError("the index is closed, or was never read")
         return loaded
+
+    def _change(self, function: Any, words: Tuple[Any, ...], data: bytes) -> None:
+        """Calls what changes the index, or raises the exception of its answer."""
+        memory, _ = self._open()
+        answer = Answer(UNFILLED)
+        try:
+            memory.change(lambda at: function(at, *words, ctypes.byref(answer)))
+        finally:
+            if answer.status != UNFILLED:
+                self._loaded = (memory, answer.count) if answer.status == YES else None
+        answered_file(answer, _PACKAGES, data)
+
+    def read_more(self, text: Text) -> None:
+        """Reads one more file of packages. They follow those that the index has: their numbers
+        count on. Reports then name the file of each package.
+
+            >>> import debctl
+            >>> aa = "Package: aa\\nVersion: 1\\nArchitecture: all\\n"
+            >>> index = debctl.Index(aa)
+            >>> index.read_more(aa.replace("1", "2"))
+            >>> print(len(index), index.query("aa (>> 1)", "amd64").text, end="")
+            2 met aa (>> 1)
+             2 aa 2 all @2
+            >>> index.file(2), index.file(3)
+            (2, None)
+
+        Raises Refused if the text isn't accepted as an index of packages; then, and if memory runs
+        out, the index is closed. Raises ValueError if another thread asks or changes the index at
+        that time; nothing is changed then.
+        """
+        data, length = text_of(text)
+        self._change(lib.deb_index_read_more, (data, length), data)
+
+    def leave_out(self, names: Iterable[Text]) -> None:
+        """Takes the packages that have one of these names out of the index. The others keep their
+        order, and have new numbers from 1. Raises ValueError as `read_more` does.
+
+            >>> import debctl
+            >>> aa = "Package: aa\\nVersion: 1\\nArchitecture: all\\n"
+            >>> index = debctl.Index(aa + "\\n" + aa.replace("aa", "bb"))
+            >>> index.leave_out(["aa"])
+            >>> len(index), index.package(1).name
+            (1, 'bb')
+        """
+        texts = texts_of(names, "names")
+        self._change(lib.deb_index_without, (texts, len(texts)), b"")
 
     def close(self) -> None:
         """Closes the index. Its memory is freed when the last question that runs has been
@@ -130,19 +177,46 @@ class Index:
         profiles: Iterable[Text] = (),
         kind: Kind = "packages",
         recommends: bool = False,
+        *,
+        all_sources: bool = False,
+        all_for: Text = "",
+        without: Iterable[Text] = (),
+        unless: Optional["Index"] = None,
     ) -> UnmetReport:
         """Finds the relations of a file that no package meets, as `debctl.unmet` does, without
         reading the index again.
 
-        Raises Refused if the architecture, a profile or the file is refused; its `second` is true
-        if the file is. Raises ValueError for another kind, or if Recommends is asked of sources.
+        A source package is asked if it is built for the architecture, with `all_sources` each. A
+        binary package of no architecture, as `all`, is asked for `all_for`, or if that is empty for
+        `arch`. A binary package with one of the names `without` isn't asked; `leave_out` takes the
+        packages with these names out of the index. If there is an index `unless`, a group has a
+        line only if that one meets or ignores it for sure.
+
+            >>> import debctl
+            >>> aa = "Package: aa\\nVersion: 1\\nArchitecture: all\\n"
+            >>> old, new = debctl.Index(aa), debctl.Index("")
+            >>> file = "Package: cc\\nVersion: 1\\nArchitecture: all\\nDepends: aa, bb\\n"
+            >>> [it.group for it in new.unmet(file, "amd64", unless=old).groups]
+            ['aa']
+
+        Raises Refused if the architecture, `all_for`, a profile or the file is refused; its
+        `second` is true if the file is. Raises ValueError for another kind, if Recommends or
+        `all_for` is asked of sources, and if `all_sources` is asked of binary packages.
         """
-        number, active, (data, length) = kind_of(kind), texts_of(profiles), text_of(file)
-        words = number, bool(recommends), *text_of(arch), active, len(active), data, length
-        memory, _ = self._open()
+        active, names = texts_of(profiles), texts_of(without, "names")
+        data, length = text_of(file)
+        options = bool(recommends) + 2 * bool(all_sources) + 4 * (unless is not None)
+        words = (
+            kind_of(kind), options, *text_of(arch), *text_of(all_for), active, len(active), names,
+            len(names), data, length,
+        )
+        (memory, _), (old, _) = self._open(), (self if unless is None else unless)._open()
         answer = memory.ask(
-            lambda at: written(
-                length + _REPORT_ROOM, functools.partial(lib.deb_index_unmet, at, *words)
+            lambda at: old.ask(
+                lambda other: written(
+                    length + _REPORT_ROOM,
+                    functools.partial(lib.deb_index_unmet_with, at, other, *words),
+                )
             )
         )
         return unmet_report(answer, (kind, recommends), b"", data)
@@ -179,6 +253,17 @@ class Index:
             kept["Package"], kept["Version"], kept["Architecture"], kept.get("Multi-Arch"),
             [group[0] for group in kept.relations("Provides")], answer.line,
         )
+
+    def file(self, number: int) -> Optional[int]:
+        """Returns which file the package with a number is of, from 1 for the one that was read
+        first, or None if there is no such package."""
+        memory, count = self._open()
+        known, place = number if 0 < number <= count else 0, ctypes.c_size_t()
+        def ask(at: int) -> Answer:
+            answer: Answer = lib.deb_index_file(at, known, ctypes.byref(place))
+            return answer
+
+        return place.value if memory.ask(ask).status == YES else None
 
     def _numbered(self, function: Any, number: int) -> Tuple[Answer, bytes]:
         """Returns the answer of a call about the package with a number, and what it wrote."""

@@ -15,7 +15,7 @@ Text = Union[str, bytes, bytearray, memoryview]
 Kind = Literal["packages", "binary", "sources", "source", "status", "any"]
 
 YES, NO, REFUSED, SECOND_REFUSED, NO_ROOM, NO_MEMORY, NO_KIND, NO_INDEX = range(8)
-_UNFILLED = 255  # the status of an answer that no call has written
+UNFILLED = 255  # the status of an answer that no call has written
 _LONG = 1 << 18  # the length from which a buffer's pages are taken as they are written
 _KINDS = {"binary": 0, "packages": 1, "source": 2, "sources": 3, "any": 4, "status": 5}
 _TEXT: List[Any] = [ctypes.c_char_p, ctypes.c_size_t]
@@ -83,6 +83,7 @@ _TO_ANSWER: List[Any] = [ctypes.POINTER(Answer)]
 _NUMBER: List[Any] = [ctypes.c_uint64]
 _BUDGET: List[Any] = [ctypes.c_uint32]
 _QUERY: List[Any] = _TEXT + _TEXTS + _TEXT
+_ASKED: List[Any] = 2 * _TEXT + 2 * _TEXTS + _TEXT
 _SEARCH: List[Any] = 3 * _KIND + _BUDGET + _TEXT
 _FUNCTIONS: List[Tuple[str, Any, List[Any]]] = [
     ("deb_version_compare", Comparison, _TEXT + _TEXT),
@@ -104,14 +105,19 @@ _FUNCTIONS: List[Tuple[str, Any, List[Any]]] = [
     ("deb_buildable", Answer, _SEARCH + 2 * _TEXTS + 2 * _TEXT + _BUFFER),
     ("deb_index_size", ctypes.c_size_t, []),
     ("deb_index_read", None, _MEMORY + _TEXT + _TO_ANSWER),
+    ("deb_index_read_more", None, _MEMORY + _TEXT + _TO_ANSWER),
+    ("deb_index_without", None, _MEMORY + _TEXTS + _TO_ANSWER),
     ("deb_index_free", None, _MEMORY),
     ("deb_index_query", Answer, _MEMORY + _QUERY + _BUFFER),
     ("deb_index_query_why", Answer, _MEMORY + _QUERY + _BUFFER),
     ("deb_index_unmet", Answer, _MEMORY + _KIND + _KIND + _QUERY + _BUFFER),
+    ("deb_index_unmet_with", Answer, 2 * _MEMORY + 2 * _KIND + _ASKED + _BUFFER),
     ("deb_index_packages", Answer, _MEMORY + _TEXT + _TABLE),
     ("deb_index_providers", Answer, _MEMORY + _TEXT + _TABLE),
     ("deb_index_package", Answer, _MEMORY + _NUMBER + _BUFFER),
     ("deb_index_details", Answer, _MEMORY + _NUMBER + _BUFFER),
+    ("deb_index_file", Answer, _MEMORY + _NUMBER + [_LENGTH]),
+    ("deb_latest", Answer, 2 * _KIND + _TEXT + _TEXTS + _BUFFER),
     ("deb_version_parts", VersionParts, _TEXT),
     ("deb_relation_parts", Answer, _TEXT + _TABLE),
     ("deb_explain_relation", Answer, _TEXT + _BUFFER),
@@ -263,7 +269,8 @@ class Memory:
     It is freed once, when nothing refers to this object. The collector of garbage may end it
     before the last question: one of `__del__` in the same cycle, or of a thread that this starts.
     A question after that raises ValueError, and as long as one is being answered, nothing is
-    freed. No lock is taken, since a signal handler may ask too: each step below is a single one of
+    freed. A question during a change raises ValueError, and so does a change during a question or
+    another change. No lock is taken, since a signal handler may ask too: each step below is a single one of
     the interpreter's. A handler may also raise at any step: the answer, which the call writes, says
     whether the memory is filled.
     """
@@ -275,8 +282,9 @@ class Memory:
 
     def __init__(self, fill: Callable[[int, Any], object]) -> None:
         self._asking: Set[object] = set()  # an item for each question that is being answered
+        self._changing: Set[object] = set()  # and for each change
         self._memory = (ctypes.c_uint64 * -(-self.size // 8))()
-        self.answer = Answer(_UNFILLED)
+        self.answer = Answer(UNFILLED)
         address = ctypes.addressof(self._memory)
         self._filled = [address]  # the address, until it is freed
         fill(address, ctypes.byref(self.answer))
@@ -288,6 +296,8 @@ class Memory:
             self._asking.add(question)
             if self._ended:
                 raise ValueError("the memory is closed")
+            if self._changing:
+                raise ValueError("the memory is being changed")
             found = call(self._filled[0])
         finally:
             self._asking.discard(question)
@@ -295,13 +305,28 @@ class Memory:
                 self._free()
         return found
 
+    def change(self, call: Callable[[int], object]) -> None:
+        """Calls what takes the address and changes what lies there."""
+        change = object()
+        try:
+            self._changing.add(change)
+            if self._ended:
+                raise ValueError("the memory is closed")
+            if self._asking or len(self._changing) > 1:
+                raise ValueError("the memory is in use")
+            call(self._filled[0])
+        finally:
+            self._changing.discard(change)
+            if self._ended:
+                self._free()
+
     def _free(self) -> None:
-        if self._filled and not self._asking:
+        if self._filled and not self._asking and not self._changing:
             try:
                 address = self._filled.pop()
             except IndexError:
                 return
-            if self.answer.status != _UNFILLED:
+            if self.answer.status != UNFILLED:
                 self.free(address)
 
     def __del__(self) -> None:

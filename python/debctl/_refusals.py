@@ -37,11 +37,17 @@ class Refused(ValueError):
 
     `line` is counted from 1, and 0 for a text that isn't a file; `code` is a number from 1 to 23,
     and `name` its name; `field` is the name of the field that is refused, as it is spelled in the
-    file, or that is missing, or None; `second` is true if it is the second of two files.
+    file, or that is missing, or None; `second` is true if it is the second of two files. `text` is
+    the place of the text among those of `latest`, from 1, or None.
     """
 
     def __init__(
-        self, code: int, line: int, second: bool = False, field: Optional[str] = None
+        self,
+        code: int,
+        line: int,
+        second: bool = False,
+        field: Optional[str] = None,
+        text: Optional[int] = None,
     ) -> None:
         super().__init__(f"line {line}: {code} {Code(code).name}")
         self.code = Code(code)
@@ -49,6 +55,7 @@ class Refused(ValueError):
         self.name = self.code.name
         self.second = second
         self.field = field
+        self.text = text
 
     def __reduce__(self) -> Tuple[Any, ...]:
-        return Refused, (int(self.code), self.line, self.second, self.field)
+        return Refused, (int(self.code), self.line, self.second, self.field, self.text)

@@ -11,8 +11,8 @@ REPORT, UNMET_LINES, DIFF_LINES, EXPLANATION, HEALTH_LINES, INSTALLABLE_LINES = 
     MET, UNMET, IGNORED, PACKAGE, REASON, PACKAGE_REASON, UNMET_GROUP, UNSURE_GROUP, REMOVED,
     CHANGED, UPGRADED, ADDED, OLD_LINE, NEW_LINE, KEY, END, OK, SUMMARY, VALID,
     DOWNGRADED, UNMET_NEED, UNSURE_NEED, CONFLICT, UNSURE_CONFLICT, DUPLICATE, STATE, UNINSTALLABLE,
-    UNSURE, UNDECIDED, NEED, EXCLUSION, LEFT_OUT,
-) = range(32)
+    UNSURE, UNDECIDED, NEED, EXCLUSION, LEFT_OUT, PACKAGE_OF_FILE, PACKAGE_REASON_OF_FILE,
+) = range(34)
 _ROW = struct.Struct("@BB6x20N")  # its kind, how many cells it has, and where they are
 
 Row = Tuple[int, List[str]]
@@ -44,12 +44,14 @@ def rows_of(form: int, text: str) -> Iterator[Row]:
 
 
 class NumberedPackage(NamedTuple):
-    """A package of a file: its number, its name, its canonical version and its architecture."""
+    """A package of a file: its number, its name, its canonical version and its architecture. In the
+    report of an index that was read of several files, `file` is that of the package, from 1."""
 
     number: int
     name: str
     version: str
     architecture: str
+    file: Optional[int] = None
 
 
 class Reason(NamedTuple):
@@ -175,7 +177,13 @@ class Change(NamedTuple):
 
 
 def _package(cells: List[str]) -> NumberedPackage:
-    return NumberedPackage(int(cells[0]), *cells[1:4])
+    name, version, architecture = cells[1:4]
+    return NumberedPackage(int(cells[0]), name, version, architecture)
+
+
+def _file(cells: List[str]) -> Optional[int]:
+    """Returns the file that the last cell is, if there is one."""
+    return int(cells[0]) if cells else None
 
 
 def groups_of(text: str) -> List[Group]:
@@ -184,12 +192,13 @@ def groups_of(text: str) -> List[Group]:
     packages: List[List[NumberedPackage]] = []
     reasons: List[List[Reason]] = []
     for kind, cells in rows_of(REPORT, text):
-        if kind == PACKAGE:
-            packages[-1].append(_package(cells))
+        if kind in (PACKAGE, PACKAGE_OF_FILE):
+            packages[-1].append(_package(cells)._replace(file=_file(cells[4:])))
         elif kind == REASON:
             reasons[-1].append(Reason(cells[0], cells[1], None))
-        elif kind == PACKAGE_REASON:
-            reasons[-1].append(Reason(cells[0], cells[5], _package(cells[1:])))
+        elif kind in (PACKAGE_REASON, PACKAGE_REASON_OF_FILE):
+            package = _package(cells[1:])._replace(file=_file(cells[6:]))
+            reasons[-1].append(Reason(cells[0], cells[5], package))
         else:
             verdicts.append((_VERDICTS[kind], cells[0]))
             packages.append([])

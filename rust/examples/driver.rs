@@ -4,6 +4,8 @@
 
 #[path = "driver/printed.rs"]
 mod printed;
+#[path = "driver/several.rs"]
+mod several;
 
 use debctl::{
     buildable, canonical, check, check_all, compare, diff, explain, explain_all, explain_relation,
@@ -12,6 +14,7 @@ use debctl::{
     Index, Kind, Members, ReadError, Reader, Refusal, Report, Search, SourceKind, Version,
 };
 use printed::Printed;
+use several::{of_files, of_latest, with_options};
 use std::io::{stdin, stdout, BufRead, Read, Write};
 use std::num::NonZeroU32;
 
@@ -303,6 +306,9 @@ fn answer(call: &str, number: usize, files: &[Vec<u8>]) -> Result<Vec<u8>, Error
             return Ok([head.into_bytes(), canonical].concat());
         }
         "query" | "why" => of_query(call, files)?,
+        "query-files" | "why-files" => of_files(call, number, files).unwrap_or_else(|it| it),
+        "unmet-with" => with_options(number, files).unwrap_or_else(|it| it),
+        "latest" => return Ok(of_latest(number, files)),
         "unmet" => of_unmet(number, files)?,
         "healthy" | "installable" | "witness" => of_set(call, number, files)?,
         "buildable" => of_sources(number, files)?,

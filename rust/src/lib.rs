@@ -30,6 +30,7 @@ mod explanations;
 mod files;
 mod index;
 mod kinds;
+mod latest;
 mod library;
 mod not_installable;
 mod paragraphs;
@@ -46,8 +47,9 @@ pub use explanations::{
     explain, explain_all, explain_relation, explain_version, AllExplained, Explanation,
 };
 pub use files::{check, check_all, normalise, same, AllChecked};
-pub use index::{Details, Index, Package};
+pub use index::{Details, Index, Options, Package};
 pub use kinds::{Asked, Compared, Kind, Members, SourceKind, UnknownKind};
+pub use latest::{latest, Latest, LatestError};
 pub use not_installable::{InstallFault, InstallReason, NotInstallable};
 pub use paragraphs::{paragraphs, Field, Iter, Paragraph, Paragraphs};
 pub use reader::{ReadError, Reader};

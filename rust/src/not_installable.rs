@@ -112,6 +112,7 @@ mod tests {
             name: name.to_owned(),
             version: version.to_owned(),
             architecture: architecture.to_owned(),
+            file: None,
         }
     }
 

@@ -234,6 +234,15 @@ pub(crate) fn package(row: &Row, first: usize) -> Package {
         name: row.text(first + 1),
         version: row.text(first + 2),
         architecture: row.text(first + 3),
+        file: None,
+    }
+}
+
+/// Returns the package in the cells of a row, of which one is its file.
+fn package_of_file(row: &Row, first: usize, file: usize) -> Package {
+    Package {
+        file: Some(row.number(file)),
+        ..package(row, first)
     }
 }
 
@@ -270,7 +279,11 @@ pub(crate) fn report((answer, text): (Answer, Vec<u8>)) -> Report {
 fn add_to_group(group: &mut Group, row: &Row) {
     let (package, reason) = match row.kind {
         texts::PACKAGE => return group.packages.push(package(row, 0)),
+        texts::PACKAGE_OF_FILE => {
+            return group.packages.push(package_of_file(row, 0, 4));
+        }
         texts::PACKAGE_REASON => (Some(package(row, 1)), row.text(5)),
+        texts::PACKAGE_REASON_OF_FILE => (Some(package_of_file(row, 1, 6)), row.text(5)),
         _ => (None, row.text(1)),
     };
     group.reasons.push(Reason {
@@ -311,6 +324,7 @@ fn health_reason(row: Row) -> HealthReason {
                 name: row.text(1),
                 version: row.text(5),
                 architecture: row.text(6),
+                file: None,
             },
         },
         texts::STATE => HealthFault::State {
@@ -396,8 +410,9 @@ fn query_index(
 }
 
 /// Finds the relations of a file that no package of an index meets, for a target architecture and
-/// with these build profiles active: the lines that the program `debctl unmet` writes. If the file
-/// is refused, the error is [`Error::SecondRefused`].
+/// with these build profiles active: the lines that the program `debctl unmet` writes. Source
+/// packages are asked if they are built for the target; [`Index::unmet_with`](crate::Index::unmet_with)
+/// has more options. If the file is refused, the error is [`Error::SecondRefused`].
 pub fn unmet(
     asked: Asked,
     target: impl AsRef<[u8]>,

@@ -102,6 +102,8 @@ pub(crate) const UNSURE: u8 = 27;
 pub(crate) const UNDECIDED: u8 = 28;
 pub(crate) const NEED: u8 = 29;
 pub(crate) const EXCLUSION: u8 = 30;
+pub(crate) const PACKAGE_OF_FILE: u8 = 32;
+pub(crate) const PACKAGE_REASON_OF_FILE: u8 = 33;
 
 impl Row<'_> {
     /// Returns the number in a cell.

@@ -189,7 +189,8 @@ def read_cases(folder):
     if not cases:
         raise Malformed(f"{folder}: there is no file of cases")
     long = [*many_fields(), *long_paragraph(), *many_groups(), *many_versions(), *many_choices()]
-    return [*cases, *long, *several_writes(), *several_refusals(), *many_paragraphs(), *lengths()]
+    several = [*several_writes(), *several_refusals(), *many_paragraphs(), *many_latest()]
+    return [*cases, *long, *several, *lengths()]
 
 
 P3 = b"Package: aa\nVersion: 1\nArchitecture: all\n"
@@ -295,6 +296,9 @@ def many_paragraphs():
         (["installable", *arch, "--why", "new"], b"uninstallable 400 p400 2 all\n" + needs, 1),
         (["installable", *arch, "--witness", "p007", "chain"], met, 0),
         (["unmet", *installed, "status"], b"unmet 400 p400 1 all Depends zz\n", 1),
+        (["unmet", *arch, "--without", "p007,p008", "--unless-in", "chain", "old"], b"", 0),
+        (["unmet", *arch, "--index", "old", "new"], b"unmet 400 p400 2 all Depends zz\n", 1),
+        (["query", *arch, "p007", "old", "new"], b"met p007\n 7 p007 1 all @1\n 407 p007 1 all @2\n", 0),
         (["query", *installed, "vv", "status"], b"met vv\n" + met, 0),
         (["sort", "versions"], files["versions"], 0), (["audit", "old", "new"], audited, 0),
         (["check", "--all", "bad"], b"".join(refused), 2),
@@ -305,6 +309,19 @@ def many_paragraphs():
         Case("400 paragraphs", explain, files, "bad", explained, b"", 2, open_ended=("out",)),
         *(Case("400 paragraphs", words, files, None, out, b"", status) for words, out, status in cases),
     ]
+
+
+def many_latest():
+    """Two files of 70 packages, each in two versions, so that what is kept of them grows often."""
+    text = b"Package: p%03d\nVersion: %d\nArchitecture: all\n"
+    numbers = range(70)
+    files = {
+        "old": b"\n".join(text % (at, 2 - at % 2) for at in numbers),
+        "new": b"\n".join(text % (at, 1 + at % 2) for at in reversed(numbers)),
+    }
+    latest = [text % (at, 2) for at in numbers if not at % 2]
+    latest += [text % (at, 2) for at in reversed(numbers) if at % 2]
+    return [Case("70 packages", ["latest", "old", "new"], files, None, b"\n".join(latest))]
 
 
 def many_groups():

@@ -237,10 +237,10 @@ def asks_for_hint(case: Case, status):
 def is_asked_for_less(case: Case, fault: Fault, answer: Answer):
     """Whether std asked once more for memory, for less of it. It does so in `collect`, by which
     `sort` gathers its lines, `audit` the paths of a list, `installable` the packages that have one of
-    many versions of a name, and clap the letters of a word that may be similar to a wrong one: where the
-    room for all that may come is refused, it asks for that of one. Then there are more growths than
-    where nothing fails."""
-    has_collect = case.words[0] in ("sort", "audit", "installable") or b"\n  tip: a similar " in case.err
+    many versions of a name, `latest` the numbers of its paragraphs, and clap the letters of a word
+    that may be similar to a wrong one: where the room for all that may come is refused, it asks for
+    that of one. Then there are more growths than where nothing fails."""
+    has_collect = case.words[0] in ("sort", "audit", "installable", "latest") or b"\n  tip: a similar " in case.err
     if fault.calls != "growth" or fault.is_lasting or not has_collect:
         return False
     growths = answer.record.get("growths", 0) - asks_for_hint(case, answer.status)
@@ -286,9 +286,10 @@ def wanted_of(case: Case, fault: Fault, k, answer: Answer):
         return wanted_of_all(case, fault, record)
     if case.words[0] in ("unmet", "healthy"):
         return Wanted(case.out, line, FAULT_STATUS, "whole lines")
-    if case.words[0] != "normalise":
+    if case.words[0] not in ("normalise", "latest"):
         return Wanted(b"", line, FAULT_STATUS)
-    most = paragraphs_read(case, record) if fault.calls == "read" else None
+    is_bounded = fault.calls == "read" and case.words[0] == "normalise"
+    most = paragraphs_read(case, record) if is_bounded else None
     return Wanted(case.out, line, FAULT_STATUS, "whole paragraphs", most_paragraphs=most)
 
 

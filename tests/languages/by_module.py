@@ -5,7 +5,7 @@ import io
 import debctl
 
 from printed import printed
-from questions import KINDS
+from questions import KINDS, OLD
 
 
 def by_rows(text, it):
@@ -59,6 +59,72 @@ def report_of(call, number, texts, loaded):
         return debctl.Index(first).unmet(second, *more) if loaded else debctl.unmet(first, second, *more)
     more = (target, profiles, call == "why")
     return debctl.Index(second).query(first, *more) if loaded else debctl.query(first, second, *more)
+
+
+def index_of(texts):
+    """An index of several files; a refusal has the place of its file."""
+    index = None
+    for place, text in enumerate(texts, 1):
+        try:
+            if index is None:
+                index = debctl.Index(text)
+            else:
+                index.read_more(text)
+        except debctl.Refused as refused:
+            refused.text = place
+            raise
+    return index
+
+
+def files_agree(index, report):
+    """Whether the index has of each package of a report the file that the report has."""
+    groups = report.groups
+    packages = [it for group in groups for it in group.packages]
+    packages += [it.package for group in groups for it in group.reasons if it.package]
+    return all(index.file(it.number) == it.file for it in packages)
+
+
+def of_files(call, number, texts):
+    """The answer of a query of several indexes. The words are refused before them, but not a wildcard."""
+    target, relation, *more = texts
+    texts, profiles = more[:number], more[number:]
+    try:
+        debctl.query(relation, "", target, profiles)
+    except debctl.Refused as refused:
+        if refused.code != debctl.Code.Wildcard:
+            raise
+    index = index_of(texts)
+    it = index.query(relation, target, profiles, call == "why-files")
+    more = b"" if files_agree(index, it) else b"files differ\n"
+    return b"%d 0 0 0\n" % (not it) + by_rows(it.text, it) + more
+
+
+def with_options(number, texts):
+    """The answer on unmet relations with options."""
+    target, all_for, file, names, *more = texts
+    names, count = names.split(b",") if names else [], number // 64
+    options = {
+        "kind": KINDS[number % 8], "recommends": number // 8 % 2 == 1, "all_for": all_for,
+        "all_sources": number // 16 % 2 == 1, "without": names,
+    }
+    olds, more = more[: number // 32 % 2], more[number // 32 % 2 :]
+    texts, profiles = more[:count], more[count:]
+    try:
+        debctl.Index("").unmet("", target, profiles, **options)
+    except debctl.Refused as refused:
+        if not refused.second:
+            raise
+    if olds:
+        try:
+            options["unless"] = debctl.Index(*olds)
+        except debctl.Refused as refused:
+            refused.text = OLD
+            raise
+    index = index_of(texts)
+    if names:
+        index.leave_out(names)
+    it = index.unmet(file, target, profiles, **options)
+    return b"%d 0 0 0\n" % (not it) + by_rows(it.text, it)
 
 
 def explained(call, number, texts):
@@ -127,6 +193,13 @@ def answered(call, number, texts, loaded):
         it = report_of(call, number, texts, loaded)
         more = b"" if call == "unmet" or relation_agrees(texts[1]) else b"parts differ\n"
         return b"%d 0 0 0\n" % (not it) + by_rows(it.text, it) + more
+    if call in ("query-files", "why-files"):
+        return of_files(call, number, texts)
+    if call == "unmet-with":
+        return with_options(number, texts)
+    if call == "latest":
+        by = "name,arch" if number >= 8 else "name"
+        return b"0 0 0 0\n" + debctl.latest(texts[1:], KINDS[number % 8], by, texts[0])
     if call == "healthy":
         more = {"kind": KINDS[number % 8], "recommends": number >= 8}
         it = debctl.healthy(texts[1], texts[0], **more)
@@ -156,7 +229,7 @@ def answer_of(call, number, texts, loaded=False):
         status = 3 if refused.second else 2
         if call == "compare":
             return b"%d %d 0\n" % (status, refused.code)
-        return b"%d %d %d 0\n" % (status, refused.code, refused.line)
+        return b"%d %d %d %d\n" % (status, refused.code, refused.line, refused.text or 0)
 
 
 def loads(call, _, texts):

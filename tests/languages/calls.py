@@ -144,6 +144,46 @@ def from_one_index():
     return answers == ["met hello\n 1 hello 1.0 amd64\n"] * 2000
 
 
+def changed():
+    """What an index has after another file was read, and after packages were left out."""
+    index = debctl.Index(HELLO)
+    index.read_more(HELLO.replace("01.0-0", "2"))
+    found = [len(index), index.query("hello (>> 1.0)", "amd64").text, index.file(2), index.file(3)]
+    group = index.query("hello (>> 2)", "amd64", why=True).groups[0]
+    found += [[it.package.file for it in group.reasons], index.package(2)]
+    index.leave_out(["hello", "zz"])
+    return [*found, len(index), index.file(1)]
+
+
+def closed_by_refusal():
+    """Whether a refused file closes an index, and names keep it open."""
+    index = debctl.Index(HELLO)
+    refused = refusal(index.read_more, BAD)
+    return refused == (15, 4, "BadNumber", False) and error(len, index) is ValueError
+
+
+def with_options():
+    """The groups of unmet relations with each option."""
+    empty, old = debctl.Index(""), debctl.Index(HELLO)
+    file = HELLO.replace("hello", "aa").replace("amd64", "all") + "Depends: hello, zz [i386]\n"
+    source = "Package: ss\nVersion: 1\nArchitecture: i386\nBuild-Depends: bb\n"
+    asked = [
+        empty.unmet(file, "amd64"), empty.unmet(file, "amd64", unless=old),
+        empty.unmet(file, "amd64", all_for="i386"), empty.unmet(file, "amd64", without=["aa"]),
+        empty.unmet(source, "amd64", kind="sources"),
+        empty.unmet(source, "amd64", kind="sources", all_sources=True),
+    ]
+    return [[it.group for it in report.groups] for report in asked]
+
+
+def latest_refused(*texts, **more):
+    """The place, the code and the line of a text that is refused."""
+    try:
+        return debctl.latest(texts, **more)
+    except Refused as refused:
+        return refused.text, int(refused.code), refused.line
+
+
 INDEX = debctl.Index(HELLO + "\n" + "Package: mailer\nVersion: 2\nArchitecture: all\nProvides: mta\n")
 
 # Two paragraphs that pass, and between them a bad version, a line without a colon, a name twice and a
@@ -275,6 +315,29 @@ TESTS = {
     "an index and a bad relation": refusal(INDEX.query, "a (", "amd64") == (19, 0, "BadRelation", False),
     "an index and no text": error(debctl.Index, 5) is TypeError,
     "threads ask one index": from_one_index(),
+    "an index of two files": changed() == [
+        2, "met hello (>> 1.0)\n 2 hello 2 amd64 @2\n", 2, None, [1, 2], ("hello", "2", "amd64"), 0, None,
+    ],
+    "an index is closed by a refusal": closed_by_refusal(),
+    "unmet with options": with_options() == [
+        ["hello"], ["hello"], ["hello", "zz [i386]"], [], [], ["bb"],
+    ],
+    "unmet with wrong options": [
+        error(INDEX.unmet, HELLO, "amd64", all_sources=True),
+        error(INDEX.unmet, "", "amd64", kind="sources", all_for="i386"),
+        refusal(INDEX.unmet, HELLO, "amd64", all_for="all"),
+    ] == [ValueError, ValueError, (23, 0, "BadEnvironment", False)],
+    "latest": debctl.latest([HELLO, HELLO.replace("01.0-0", "1.1")], before="2")
+    == HELLO.replace("01.0-0", "1.1").encode(),
+    "latest by architecture": debctl.latest([HELLO, HELLO.replace("amd64", "i386")], by="name,arch")
+    == (HELLO + "\n" + HELLO.replace("amd64", "i386")).encode(),
+    "latest, refused": [
+        latest_refused(HELLO, BAD), latest_refused(BAD, HELLO), latest_refused(BAD, before="1_"),
+    ] == [(2, 15, 4), (1, 15, 4), (None, 18, 0)],
+    "latest, wrong words": [
+        error(debctl.latest, [HELLO], kind="binary"), error(debctl.latest, [HELLO], by="arch"),
+        error(debctl.latest, HELLO), error(debctl.latest, [5]),
+    ] == [ValueError, ValueError, TypeError, TypeError],
 }
 
 failed = [name for name, passed in TESTS.items() if not passed]

@@ -7,6 +7,7 @@
 #define _POSIX_C_SOURCE 200809L
 #include "fed.h"
 #include "printed.h"
+#include "several.h"
 
 #include <stdio.h>
 
@@ -18,7 +19,8 @@ struct file {
 };
 
 /* What is asked: the number, three files or, of `witness` and `buildable`, four, and all further files
- * as profiles; `out` gathers the answer. The number is that of a kind, and with more that is asked: 8
+ * as profiles; of `unmet-with` four, of a question to an index of several files two, and of `latest` one.
+ * `out` gathers the answer. The number is that of a kind, and with more that is asked: 8
  * times a detail or whether Recommends is asked, 16 times whether essential packages are, 32 times
  * whether reasons are, and 64 times a budget. The second file of `witness` is the name. The last file of
  * a search is the names that are left out, with commas between them; there are none if it is empty. */
@@ -46,9 +48,18 @@ static int calls(const struct question *q, const char *call) { return strcmp(q->
 
 static int is_query(const struct question *q) { return calls(q, "query") || calls(q, "why"); }
 
+/* Whether an index of several files is asked. */
+static int is_of_files(const struct question *q) {
+    return calls(q, "query-files") || calls(q, "why-files");
+}
+
 /* How many files aren't profiles. */
 static int own_files(const struct question *q) {
-    return calls(q, "witness") || calls(q, "buildable") ? 4 : 3;
+    if (calls(q, "latest"))
+        return 1;
+    if (is_of_files(q))
+        return 2;
+    return calls(q, "witness") || calls(q, "buildable") || calls(q, "unmet-with") ? 4 : 3;
 }
 
 /* Splits the names that are left out. */
@@ -63,6 +74,16 @@ static void leave_out(struct question *q) {
             q->without[q->without_count++] = (struct deb_text){file->bytes + start, at - start};
             start = at + 1;
         }
+}
+
+/* The same question, to several files. */
+static struct asked of_several(const struct question *q) {
+    struct asked it = {calls(q, "unmet-with"), calls(q, "why-files"), q->number, {{NULL, 0}},
+                       q->profiles, q->profile_count, q->without, q->without_count};
+    int at;
+    for (at = 0; at < own_files(q); at++)
+        it.own[at] = (struct deb_text){q->files[at].bytes, q->files[at].length};
+    return it;
 }
 
 /* The answer of a call about one file, or about two of a kind. */
@@ -123,6 +144,13 @@ static struct deb_answer search(const struct question *q, uint8_t *out, size_t r
     uint8_t essential = (uint8_t)(q->number / 16 % 2), reasons = (uint8_t)(q->number / 32 % 2);
     uint32_t budget = (uint32_t)(q->number / 64);
     *length = 0;
+    if (is_of_files(q) || calls(q, "unmet-with")) {
+        struct asked several = of_several(q);
+        return ask_several(&several, out, room, length);
+    }
+    if (calls(q, "latest"))
+        return deb_latest(kind, recommends, target->bytes, target->length, q->profiles,
+                          q->profile_count, out, room, length);
     if (calls(q, "installable"))
         return deb_installable(kind, recommends, essential, reasons, budget, target->bytes,
                                target->length, q->without, q->without_count, first->bytes,
@@ -171,8 +199,9 @@ static size_t rows_of(uint8_t form, const uint8_t *text, size_t length, struct d
 static int rows_agree(const struct question *q, struct deb_answer answer, const uint8_t *text,
                       size_t length) {
     int is_set = calls(q, "witness") && answer.status == DEB_YES;
-    uint8_t form = is_query(q) || is_set ? DEB_REPORT
+    uint8_t form = is_query(q) || is_of_files(q) || is_set ? DEB_REPORT
                    : calls(q, "unmet") ? DEB_UNMET_LINES
+                   : calls(q, "unmet-with") ? DEB_UNMET_LINES
                    : calls(q, "healthy") ? DEB_HEALTH_LINES
                    : calls(q, "installable") ? DEB_INSTALLABLE_LINES
                    : calls(q, "witness") ? DEB_INSTALLABLE_LINES
@@ -186,6 +215,10 @@ static int rows_agree(const struct question *q, struct deb_answer answer, const 
         return 1;
     count = rows_of(form, text, length, &rows);
     agree = count != SIZE_MAX && prints_as(rows, count, text, length);
+    if (agree && is_of_files(q)) {
+        struct asked several = of_several(q);
+        agree = files_agree(&several, rows, count, text);
+    }
     free(rows);
     return agree;
 }

@@ -287,6 +287,110 @@ static void try_refused(void) {
 }
 
 static const struct deb_index *shared;
+/* One more file, and packages that are left out; nothing is loaded after a refusal. */
+static void try_more(void) {
+    static const char *more = "Package: hello\nVersion: 3\nArchitecture: all\n";
+    struct deb_text names[] = {{bytes("mailer"), 6}, {bytes("zz"), 2}};
+    struct deb_answer answer;
+    struct deb_index *index = loaded(text_of_three, strlen(text_of_three), &answer);
+    uint8_t out[128];
+    uint64_t numbers[4];
+    size_t length, file;
+    IS(is(deb_index_file(index, 3, &file), DEB_YES, 0, 0, 0) && file == 1);
+    deb_index_read_more(index, bytes(more), strlen(more), &answer);
+    IS(is(answer, DEB_YES, 0, 0, 4));
+    IS(is(query(index, "hello (>= 3)", out, sizeof out, &length), DEB_YES, 0, 0, 0) &&
+       length == 35 && memcmp(out, "met hello (>= 3)\n 4 hello 3 all @2\n", length) == 0);
+    deb_index_without(index, names, 2, &answer);
+    IS(is(answer, DEB_YES, 0, 0, 3));
+    IS(is(deb_index_packages(index, bytes("hello"), 5, numbers, 4, &length), DEB_YES, 0, 0, 0) &&
+       length == 3 && numbers[0] == 1 && numbers[2] == 3);
+    IS(is(deb_index_file(index, 3, &file), DEB_YES, 0, 0, 0) && file == 2);
+    IS(is(deb_index_file(index, 4, &file), DEB_NO, 0, 0, 0) && file == 0);
+    IS(is(deb_index_file(index, 0, &file), DEB_NO, 0, 0, 0) && file == 0);
+    deb_index_read_more(index, bytes(bad), strlen(bad), &answer);
+    IS(is(answer, DEB_REFUSED, DEB_BAD_NUMBER, 4, 0));
+    IS(is(deb_index_file(index, 1, &file), DEB_NO_INDEX, 0, 0, 0) && file == 0);
+    deb_index_read_more(index, bytes(more), strlen(more), &answer);
+    IS(is(answer, DEB_NO_INDEX, 0, 0, 0));
+    deb_index_without(index, names, 2, &answer);
+    IS(is(answer, DEB_NO_INDEX, 0, 0, 0));
+    release(index);
+}
+
+/* Unmet relations with options. */
+static struct deb_answer with_options(const struct deb_index *index, const struct deb_index *unless,
+                                      uint8_t kind, uint8_t options, const char *all_for,
+                                      const struct deb_text *without, const char *file,
+                                      uint8_t *out, size_t room, size_t *length) {
+    return deb_index_unmet_with(index, unless, kind, options, bytes("amd64"), 5, bytes(all_for),
+                                strlen(all_for), NULL, 0, without, without != NULL, bytes(file),
+                                strlen(file), out, room, length);
+}
+
+static void try_options(void) {
+    static const char *file = "Package: aa\nVersion: 1\nArchitecture: all\nDepends: hello, zz\n";
+    static const char *source = "Package: ss\nVersion: 1\nArchitecture: i386\nBuild-Depends: zz\n";
+    struct deb_text name = {bytes("aa"), 2};
+    struct deb_answer answer;
+    struct deb_index *index = loaded("", 0, &answer), *none = loaded(bad, strlen(bad), &answer);
+    struct deb_index *old = loaded(text_of_three, strlen(text_of_three), &answer);
+    uint8_t out[128];
+    size_t length;
+    IS(is(with_options(index, index, DEB_PACKAGES, 0, "", NULL, file, out, sizeof out, &length),
+          DEB_NO, 0, 0, 1) && length == 59);
+    IS(is(with_options(index, old, DEB_PACKAGES, DEB_UNLESS, "", NULL, file, out, sizeof out,
+                       &length), DEB_NO, 0, 0, 1));
+    IS(length == 31 && memcmp(out, "unmet 1 aa 1 all Depends hello\n", length) == 0);
+    IS(is(with_options(index, index, DEB_PACKAGES, 0, "", &name, file, out, sizeof out, &length),
+          DEB_YES, 0, 0, 1) && length == 0);
+    IS(is(with_options(index, index, DEB_PACKAGES, 0, "all", NULL, file, out, sizeof out, &length),
+          DEB_REFUSED, DEB_BAD_ENVIRONMENT, 0, 0) && length == 0);
+    IS(is(with_options(index, none, DEB_PACKAGES, DEB_UNLESS, "", NULL, file, out, sizeof out,
+                       &length), DEB_NO_INDEX, 0, 0, 0));
+    IS(is(with_options(none, index, DEB_PACKAGES, 0, "", NULL, file, out, sizeof out, &length),
+          DEB_NO_INDEX, 0, 0, 0));
+    IS(is(with_options(index, none, DEB_SOURCES, 0, "", NULL, source, out, sizeof out, &length),
+          DEB_YES, 0, 0, 1) && length == 0);
+    IS(is(with_options(index, none, DEB_SOURCES, DEB_ALL_SOURCES, "", NULL, source, NULL, 0, &length),
+          DEB_NO_ROOM, 0, 0, 0) && length == 37);
+    IS(is(with_options(index, none, DEB_SOURCES, DEB_RECOMMENDS, "", NULL, source, out, sizeof out,
+                       &length), DEB_NO_KIND, 0, 0, 0));
+    IS(is(with_options(index, none, DEB_SOURCES, 0, "i386", NULL, source, out, sizeof out, &length),
+          DEB_NO_KIND, 0, 0, 0));
+    IS(is(with_options(index, none, DEB_PACKAGES, 8, "", NULL, file, out, sizeof out, &length),
+          DEB_NO_KIND, 0, 0, 0));
+    release(index);
+    release(none);
+    release(old);
+}
+
+/* The latest versions. */
+static void try_latest(void) {
+    static const char *first = "Package: aa\nVersion: 1\nArchitecture: all\n";
+    static const char *second = "Package: aa\nVersion: 1.1\nArchitecture: i386";
+    struct deb_text texts[] = {
+        {bytes(first), 41}, {bytes(second), 43}, {bytes(bad), strlen(bad)}};
+    uint8_t out[128];
+    size_t length;
+    IS(is(deb_latest(DEB_PACKAGES, DEB_NAME, NULL, 0, texts, 2, out, sizeof out, &length), DEB_YES,
+          0, 0, 1) && length == 44 && memcmp(out, second, 43) == 0 && out[43] == '\n');
+    IS(is(deb_latest(DEB_PACKAGES, DEB_NAME, bytes("1.1"), 3, texts, 2, out, sizeof out, &length),
+          DEB_YES, 0, 0, 1) && length == 41 && memcmp(out, first, 41) == 0);
+    IS(is(deb_latest(DEB_PACKAGES, DEB_NAME_AND_ARCHITECTURE, NULL, 0, texts, 2, NULL, 0, &length),
+          DEB_NO_ROOM, 0, 0, 0) && length == 86);
+    IS(is(deb_latest(DEB_PACKAGES, DEB_NAME, NULL, 0, NULL, 0, NULL, 0, &length), DEB_YES, 0, 0,
+          0) && length == 0);
+    IS(is(deb_latest(DEB_PACKAGES, DEB_NAME, NULL, 0, texts, 3, out, sizeof out, &length),
+          DEB_REFUSED, DEB_BAD_NUMBER, 4, 3) && length == 0);
+    IS(is(deb_latest(DEB_PACKAGES, DEB_NAME, bytes("1_"), 2, texts, 3, out, sizeof out, &length),
+          DEB_REFUSED, DEB_BAD_VERSION, 0, 0));
+    IS(is(deb_latest(DEB_BINARY, DEB_NAME, NULL, 0, texts, 2, out, sizeof out, &length),
+          DEB_NO_KIND, 0, 0, 0));
+    IS(is(deb_latest(DEB_SOURCES, 2, NULL, 0, texts, 2, out, sizeof out, &length), DEB_NO_KIND, 0,
+          0, 0));
+}
+
 static int turns = 2000;
 
 static void *ask(void *wrong) {
@@ -341,5 +445,8 @@ int main(int count, char **words) {
     try_details();
     try_new();
     try_refused();
+    try_more();
+    try_options();
+    try_latest();
     return counted("index");
 }

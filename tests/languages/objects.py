@@ -188,8 +188,8 @@ def reasons():
     bb, ff = NumberedPackage(2, "bb", "1:2", "amd64"), LeftOut(7, "ff", "1", "all")
     wanted = [
         NotInstallable("unsure", 1, "aa", "1", "all"),
-        NotInstallable("uninstallable", *bb, (
-            Need(*bb, "cc:any (>= 1:2) | dd", (3, 12)), Need(3, "cc", "1:3", "all", "ee", ()),
+        NotInstallable("uninstallable", *bb[:4], (
+            Need(*bb[:4], "cc:any (>= 1:2) | dd", (3, 12)), Need(3, "cc", "1:3", "all", "ee", ()),
             Need(3, "cc", "1:3", "all", "ff (Essential)", (7,)), Exclusion(12, "dd", "4", "i386", bb), ff,
         )),
         NotInstallable("uninstallable", *ff, (ff,)), NotInstallable("undecided", 8, "gg", "1", "all", ()),

@@ -19,6 +19,7 @@ static const char *const rules[] = {
     "state | | | | |",
     "uninstallable | | | |", "unsure | | | |", "undecided | | | |",
     " | | | | needs |: |", " | | | | excludes | | | |", " | | | | is left out",
+    " | | | | @|", " |: | | | | | @|",
 };
 
 /* Appends a row to `to`, with the newline, and returns its end; NULL if the row isn't one of its

@@ -11,13 +11,18 @@ def of_package(package):
     return f"{package.number} {package.name} {package.version} {package.architecture}"
 
 
+def with_file(line, package):
+    """A line about a package, which ends with its file if it is of one of several."""
+    return line if package is None or package.file is None else f"{line} @{package.file}"
+
+
 def of_group(group):
     """The lines of a group of a relation."""
     lines = [f"{group.verdict} {group.text}"]
-    lines += [f" {of_package(package)}" for package in group.packages]
+    lines += [with_file(f" {of_package(package)}", package) for package in group.packages]
     for why in group.reasons:
         package = f"{of_package(why.package)} " if why.package else ""
-        lines.append(f" {why.alternative}: {package}{why.reason}")
+        lines.append(with_file(f" {why.alternative}: {package}{why.reason}", why.package))
     return lines
 
 

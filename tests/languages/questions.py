@@ -7,11 +7,15 @@ ORDERS = {
     "lt": {-1}, "le": {-1, 0}, "eq": {0}, "ne": {-1, 1}, "ge": {0, 1}, "gt": {1},
     "<<": {-1}, "<=": {-1, 0}, "=": {0}, ">=": {0, 1}, ">>": {1},
 }
+OPTIONS = {"--index", "--unless-in", "--without", "--all-sources", "--all-for"}
+OLD = 999  # the place of a refused file that is the old index
 LONGEST_RELATION = 16_777_216  # in a file that the program reads; the libraries have no such limit
-FLAGS = ["--recommends", "--installed", "--all", "--why", "--values", "--essential"]
+FLAGS = [
+    "--recommends", "--installed", "--all", "--why", "--values", "--essential", "--all-sources",
+]
 VALUES = [
     "--kind", "--arch", "--profiles", "--relation", "--version-text", "--relation-from", "--budget",
-    "--index", "--witness", "--without",
+    "--index", "--witness", "--without", "--unless-in", "--all-for", "--by", "--before",
 ]
 
 
@@ -31,6 +35,8 @@ def options_of(words):
             ended = True
         elif word in FLAGS and name not in options:
             options[name] = ""
+        elif name == "--index":
+            options.setdefault(name, []).append(value if equals else next(words, ""))
         elif name in VALUES and name not in options:
             options[name] = value if equals else next(words, "")
         else:
@@ -67,12 +73,47 @@ def unmet_question(options, others, given):
     kind = options.pop("--kind", "packages")
     if not 0 < len(others) < 3 or kind not in KINDS:
         raise Unknown
+    if OPTIONS & set(options):
+        return options_question(kind, options, others, given)
     index = read(others[0], given)
     file = read(others[1], given) if len(others) > 1 else index
     number = KINDS.index(kind) + 8 * ("--recommends" in options)
     texts = [bytes_of(options.pop("--arch")), index, file, *profiles_of(options)]
     options.pop("--recommends", None)
     return "unmet", number, texts
+
+
+def options_question(kind, options, others, given):
+    """A question for unmet relations with options: its number is that of the kind, 8 more if Recommends is
+    asked, 16 more for all source packages, 32 more if there is an old index, and 64 times how many indexes
+    there are; its texts are the target, that of packages without one, the file, the names that are left
+    out, the old index, the indexes and the profiles."""
+    paths, old = [*options.pop("--index", []), others[0]], options.pop("--unless-in", None)
+    olds = [] if old is None else [old]
+    all_for, without = options.pop("--all-for", None), options.pop("--without", None)
+    if [*paths, *others[1:], *olds].count("-") > 1 or "" in (all_for, without):
+        raise Unknown
+    texts = [read(path, given) for path in [*olds, *paths]]
+    file = read(others[1], given) if len(others) > 1 else texts[-1]
+    flags = [options.pop(it, None) is not None for it in ("--recommends", "--all-sources")]
+    number = KINDS.index(kind) + 8 * flags[0] + 16 * flags[1] + 32 * len(olds) + 64 * len(paths)
+    words = [bytes_of(options.pop("--arch")), bytes_of(all_for or ""), file, bytes_of(without or "")]
+    return "unmet-with", number, words + texts + profiles_of(options)
+
+
+def latest_question(options, others, given):
+    """A question for the latest versions: its number is that of the kind, and 8 more by architecture; its
+    texts are the version before which they are, and the files."""
+    kind, by = options.pop("--kind", "packages"), options.pop("--by", "name")
+    before = options.pop("--before", None)
+    if kind not in ("packages", "sources") or by not in ("name", "name,arch") or before == "":
+        raise Unknown
+    if not others or any(path.startswith(("/dev/", "/proc/")) for path in others):
+        raise Unknown  # what a path there is depends on the process
+    if not all(Path(path).is_file() for path in others):
+        raise Unknown
+    texts = [bytes_of(before or ""), *(read(path, given) for path in others)]
+    return "latest", KINDS.index(kind) + 8 * (by != "name"), texts
 
 
 def healthy_question(options, others, given):
@@ -121,8 +162,8 @@ def search_number(options):
 def buildable_question(kind, asked, options, others, given):
     """A question which source packages can be built: its number is that of the kind and of the search;
     its texts are the target, the index, the file, the names that are left out and the profiles."""
-    index = options.pop("--index")
-    if len(others) != 1 or [index] == others == ["-"]:
+    index, *more = options.pop("--index")
+    if more or len(others) != 1 or [index] == others == ["-"]:
         raise Unknown
     search, names = asked
     texts = [bytes_of(options.pop("--arch")), read(index, given), read(others[0], given), names]
@@ -130,14 +171,14 @@ def buildable_question(kind, asked, options, others, given):
 
 
 def query_question(options, others, given):
-    """A query, whose number is how many profiles are active; its texts are the target, the relation, the
-    index and the profiles."""
+    """A query, whose number is how many profiles are active, or how many indexes there are if there is more
+    than one; its texts are the target, the relation, the indexes and the profiles."""
     why = options.pop("--why", None)
     if options.pop("--kind", "packages") != "packages":
         raise Unknown
     if "--relation-from" in options:
         path = options.pop("--relation-from")
-        if path == "-" and others in ([], ["-"]):
+        if path == "-" and (not others or "-" in others):
             raise Unknown
         relation = read(path, given)
         if len(relation) > LONGEST_RELATION:
@@ -146,11 +187,14 @@ def query_question(options, others, given):
         relation = bytes_of(others.pop(0))
     else:
         raise Unknown
-    if len(others) > 1:
+    if others.count("-") > 1:
         raise Unknown
-    texts = [bytes_of(options.pop("--arch")), relation, read(others[0] if others else None, given)]
-    profiles = profiles_of(options)
-    return "query" if why is None else "why", len(profiles), texts + profiles
+    texts = [bytes_of(options.pop("--arch")), relation]
+    texts += [read(path, given) for path in others or [None]]
+    profiles, call = profiles_of(options), "query" if why is None else "why"
+    if len(others) > 1:
+        return f"{call}-files", len(others), texts + profiles
+    return call, len(profiles), texts + profiles
 
 
 def text_question(call, options, others):
@@ -199,6 +243,8 @@ def question(words, given):
             asked = installable_question(options, others, given)
         elif call == "query":
             asked = query_question(options, others, given)
+        elif call == "latest":
+            asked = latest_question(options, others, given)
         else:
             asked = text_question(call, options, others)
             asked = asked or file_question(call, options, others, given)

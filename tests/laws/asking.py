@@ -12,6 +12,7 @@ from laws.documents import alternative, made, mistaken, read, text_of
 from laws.explained import HEAD, Explained, cut
 from laws.reasons import FIELDS, Fault, fault_of, nearly
 from laws.refusals import REFUSAL, AllRefusals
+from laws.several import File, Several
 from laws.spelling import planted, respelled, spoiled
 from laws.universes import NAMES, package, sources, universe
 
@@ -79,7 +80,8 @@ class Program:
         os.kill(self.running, signal.SIGKILL)
 
     def run(self, words, files, piece=0) -> Answer:
-        """Runs it over files, which are named 0, 1, ..; with a piece no read gives more bytes."""
+        """Runs it over files, which are named 0, 1, ..: their paths come last, or where the words name
+        them. With a piece no read gives more bytes."""
         for name, text in enumerate(files):
             with open(f"{self.folder}/{name}", "wb") as it:
                 it.write(text)
@@ -94,7 +96,9 @@ class Program:
         if piece:
             slow = {"FAULTS_CALLS": "read", "FAULTS_SLOW": "read", "FAULTS_BYTES": str(piece)}
             asked = {"LD_PRELOAD": self.library, **slow}
-        words = [self.path, *words, *(f"{self.folder}/{name}" for name in range(len(files)))]
+        paths = [f"{self.folder}/{name}" for name in range(len(files))]
+        named = [paths[it.number] if isinstance(it, File) else it for it in words]
+        words = [self.path, *named, *(paths if named == [*words] else ())]
         self.running = os.posix_spawn(self.path, words, asked, file_actions=actions)
         signal.alarm(SECONDS)
         _, status = os.waitpid(self.running, 0)
@@ -146,6 +150,8 @@ class Asked:
         if case.kind in ("source", "sources"):
             yield from self.of_source_file(normal)
         yield from self.of_sources()
+        refusal = normal.err if normal.status == 2 else b""
+        yield from Several(self.program, case.random).wrong(case.kind, case.text, refusal)
 
     def of_check(self, normal):
         """`check` and `normalise` agree, and the number of paragraphs is that of the text."""
@@ -544,7 +550,8 @@ class Asked:
         if answer.status not in (0, 1) or answer != again:
             yield f"installable with {index!r}: {shown(answer)}; of normal text {shown(again)}"
         found = words_of(answer.out)
-        for line in LINE.findall(self.program.run(["unmet", *words], [index, self.case.text]).out):
+        tried = [*words, *["--all-sources"] * self.case.random.randint(0, 1)]
+        for line in LINE.findall(self.program.run(["unmet", *tried], [index, self.case.text]).out):
             word, number, *_ = line.split(b" ")
             if found.get(int(number)) not in ({b"uninstallable"} if word == b"unmet" else MAYBE):
                 yield f"installable with {index!r}: {found!r}, but unmet has {line!r}"

@@ -6,20 +6,21 @@ mod failing;
 mod given;
 mod memory;
 
+use crate::long::long_text;
 use deb_base::{Code, Fault, Input, Output, Refusal};
 use deb_control::{Checked, Paragraph, check, normalise};
 use deb_devices::{Pieces, SIZES};
 use deb_field::Doc;
-use deb_syntax::Paragraphs;
+use deb_syntax::{Paragraphs, Raw};
 use std::alloc::Global;
-use std::process::Abort;
 use std::test::Fail;
 
 /// A kind of document, a file, how many paragraphs it has or the code and the line of its refusal,
 /// and what is written of it.
-struct Row(Doc, &'static [u8], Result<u64, (Code, u64)>, &'static [u8]);
+#[derive(Drop)]
+struct Row<'a>(Doc, &'a [u8], Result<u64, (Code, u64)>, &'a [u8]);
 
-const ROWS: [Row; 6] = [
+const ROWS: [Row<'static>; 6] = [
     Row(Doc::Packages, b" \n\t \n ", Ok(0), b""),
     Row(
         Doc::Packages,
@@ -69,42 +70,37 @@ fn refusal_at(code: Code, line: u64) -> Fault {
 }
 
 #[test]
-fn files_in_pieces(rt: HostRuntime) -> Result<(), Fail> {
-    for Row(doc, file, answer, written) in &ROWS {
-        let wanted = answer_of(*answer);
+fn files_in_pieces(rt: HostRuntime) {
+    for row in &ROWS {
         for size in SIZES {
-            assert_file(&rt, rt.alloc(), *doc, file, size, wanted, written)?;
+            assert!(rt; is_right(rt.alloc(), row, size), "pieces of {size}");
         }
     }
-    Ok(())
 }
 
-/// What each call answers and writes of a file, in pieces of a size.
-fn assert_file(
-    rt: &impl Abort,
-    alloc: Global,
-    doc: Doc,
-    file: &[u8],
-    size: usize,
-    wanted: Result<u64, Fault>,
-    written: &[u8],
-) -> Result<(), Fail> {
-    let answer = check(alloc, doc, &mut Input::new(Pieces::new(file, size, 0)));
-    assert!(rt; answer == wanted, "check in pieces of {size}: {answer:?}");
+/// Whether each call answers and writes what it should of a file, in pieces of a size.
+fn is_right(alloc: Global, row: &Row<'_>, size: usize) -> bool {
+    checks(alloc, row, size) && normalises(alloc, row, size) && gives(alloc, row, size)
+}
 
+fn checks(alloc: Global, row: &Row<'_>, size: usize) -> bool {
+    let Row(doc, file, answer, _) = row;
+    let found = check(alloc, *doc, &mut Input::new(Pieces::new(file, size, 0)));
+    found == answer_of(*answer)
+}
+
+fn normalises(alloc: Global, row: &Row<'_>, size: usize) -> bool {
+    let Row(doc, file, answer, written) = row;
     let mut held = Vec::new(alloc);
-    let answer = normalise_pieces(alloc, doc, &mut Pieces::new(file, size, 0), &mut held);
-    assert!(rt;
-        answer == wanted,
-        "normalise in pieces of {size}: {answer:?}"
-    );
-    assert!(rt; held.as_slice() == written, "normalise in pieces of {size}");
+    let found = normalise_pieces(alloc, *doc, &mut Pieces::new(file, size, 0), &mut held);
+    found == answer_of(*answer) && held.as_slice() == *written
+}
 
+fn gives(alloc: Global, row: &Row<'_>, size: usize) -> bool {
+    let Row(doc, file, answer, written) = row;
     let mut given = Vec::new(alloc);
-    let answer = read_all(rt, alloc, doc, &mut Pieces::new(file, size, 0), &mut given)?;
-    assert!(rt; answer == wanted, "next in pieces of {size}: {answer:?}");
-    assert!(rt; given.as_slice() == written, "next in pieces of {size}");
-    Ok(())
+    let found = read_all(alloc, *doc, &mut Pieces::new(file, size, 0), &mut given);
+    found == Some(answer_of(*answer)) && given.as_slice() == *written
 }
 
 fn normalise_pieces(
@@ -118,31 +114,38 @@ fn normalise_pieces(
 }
 
 /// Reads a file to its end, and returns how many paragraphs it has, or to a fault. Their canonical
-/// texts are appended, with an empty line between them.
+/// texts are appended, with an empty line between them. None if the last answer isn't repeated.
 fn read_all(
-    rt: &impl Abort,
     alloc: Global,
     doc: Doc,
     reader: &mut Pieces<'_>,
     text: &mut Vec<u8>,
-) -> Result<Result<u64, Fault>, Fail> {
+) -> Option<Result<u64, Fault>> {
     let mut checked = Checked::new(alloc, doc);
     for count in 0..u64::MAX {
-        let found = next_text(&mut checked, reader, count, text)?;
-        if found == Ok(true) {
-            continue;
+        let found = next_text(&mut checked, reader, count, text);
+        if found != Ok(true) {
+            return repeated(&mut checked, reader, found, text, count);
         }
-        let repeats = repeats(&mut checked, reader, found, text)?;
-        assert!(rt; repeats, "another answer after the last one");
-        return Ok(count_of(found, count));
     }
-    Err("no end")?
+    None
 }
 
-/// The last answer of all, once so many paragraphs were given.
-fn count_of(last: Result<bool, Fault>, count: u64) -> Result<u64, Fault> {
-    last?;
-    Ok(count)
+/// The last answer of all, once so many paragraphs were given, if each later one is it.
+fn repeated(
+    checked: &mut Checked,
+    reader: &mut Pieces<'_>,
+    last: Result<bool, Fault>,
+    text: &mut Vec<u8>,
+    count: u64,
+) -> Option<Result<u64, Fault>> {
+    if !repeats(checked, reader, last, text) {
+        return None;
+    }
+    match last {
+        Ok(_) => Some(Ok(count)),
+        Err(fault) => Some(Err(fault)),
+    }
 }
 
 /// Whether the last answer is given again, twice, without a read.
@@ -151,14 +154,14 @@ fn repeats(
     reader: &mut Pieces<'_>,
     last: Result<bool, Fault>,
     text: &mut Vec<u8>,
-) -> Result<bool, Fail> {
+) -> bool {
     let calls = reader.calls;
     for _ in 0..2 {
-        if next_text(checked, reader, 0, text)? != last {
-            return Ok(false);
+        if next_text(checked, reader, 0, text) != last {
+            return false;
         }
     }
-    Ok(reader.calls == calls)
+    reader.calls == calls
 }
 
 /// Whether there is a next paragraph, whose canonical text is appended.
@@ -167,47 +170,48 @@ fn next_text(
     reader: &mut Pieces<'_>,
     count: u64,
     text: &mut Vec<u8>,
-) -> Result<Result<bool, Fault>, Fail> {
+) -> Result<bool, Fault> {
     match checked.next(&mut Input::new(&mut *reader)) {
-        Ok(Some(paragraph)) => {
-            if count > 0 {
-                text.push(b'\n')?;
-            }
-            text.extend_from_slice(paragraph.canonical_text())?;
-            Ok(Ok(true))
-        }
-        Ok(None) => Ok(Ok(false)),
-        Err(fault) => Ok(Err(fault)),
+        Ok(Some(paragraph)) => append(text, count, paragraph.canonical_text()),
+        Ok(None) => Ok(false),
+        Err(fault) => Err(fault),
     }
+}
+
+fn append(text: &mut Vec<u8>, count: u64, canonical: &[u8]) -> Result<bool, Fault> {
+    if count > 0 {
+        text.push(b'\n')?;
+    }
+    text.extend_from_slice(canonical)?;
+    Ok(true)
 }
 
 /// A paragraph of 16,777,216 bytes, and as many in its canonical text, which is the same.
 #[test]
 fn a_long_paragraph(rt: HostRuntime) -> Result<(), Fail> {
-    let mut file = Vec::new(rt.alloc());
-    file.extend_from_slice(b"Architecture: all\nPackage: aa\nVersion: 1\nX: ")?;
-    file.resize(16_777_215, b'x')?;
-    file.push(b'\n')?;
-    assert_file(&rt, rt.alloc(), Doc::Packages, &file, 65_536, Ok(1), &file)?;
-    let len = typed_len(rt.alloc(), Doc::Binary, &file)?;
-    assert!(rt; len == Ok(16_777_216), "{len:?}");
+    let front = b"Architecture: all\nPackage: aa\nVersion: 1\nX: ";
+    let file = long_text(rt.alloc(), front, 16_777_215, b"\n")?;
+    assert!(rt; is_right(rt.alloc(), &Row(Doc::Packages, &file, Ok(1), &file), 65_536));
+    assert!(rt; typed_len(rt.alloc(), Doc::Binary, &file) == Some(Ok(16_777_216)));
     Ok(())
 }
 
-/// The length of the canonical text of a file's first paragraph, or its refusal.
-fn typed_len(alloc: Global, doc: Doc, file: &[u8]) -> Result<Result<u64, Fault>, Fail> {
+/// The length of the canonical text of a file's first paragraph, or its refusal; None if there is
+/// no paragraph.
+fn typed_len(alloc: Global, doc: Doc, file: &[u8]) -> Option<Result<u64, Fault>> {
     let mut paragraphs = Paragraphs::new(alloc);
-    let raw = paragraphs
-        .next(&mut Input::new(file))?
-        .ok_or("no paragraph")?;
-    match Paragraph::build(alloc, doc, &raw) {
-        Ok(paragraph) => Ok(Ok(paragraph.canon_len())),
-        Err(fault) => Ok(Err(fault)),
+    match paragraphs.next(&mut Input::new(file)) {
+        Ok(Some(raw)) => Some(built_len(alloc, doc, &raw)),
+        _ => None,
     }
 }
 
+fn built_len(alloc: Global, doc: Doc, raw: &Raw<'_>) -> Result<u64, Fault> {
+    Ok(Paragraph::build(alloc, doc, raw)?.canon_len())
+}
+
 #[test]
-fn typed_paragraphs(rt: HostRuntime) -> Result<(), Fail> {
+fn typed_paragraphs(rt: HostRuntime) {
     for (doc, text, wanted) in [
         (Doc::Packages, PACKAGE, Ok(41)),
         (Doc::Source, PACKAGE, Err((Code::MissingField, 1))),
@@ -217,10 +221,8 @@ fn typed_paragraphs(rt: HostRuntime) -> Result<(), Fail> {
             Err((Code::BadNumber, 3)),
         ),
     ] {
-        let len = typed_len(rt.alloc(), doc, text)?;
-        assert!(rt; len == answer_of(wanted), "{len:?}");
+        assert!(rt; typed_len(rt.alloc(), doc, text) == Some(answer_of(wanted)));
     }
-    Ok(())
 }
 
 /// A paragraph whose canonical text has 41 bytes.

@@ -111,19 +111,17 @@ const PAIRS: [Pair; 10] = [
 /// Each pair, in pieces of several sizes.
 #[test]
 fn lines_of_two_files(rt: HostRuntime) {
-    for Pair(form, old, new, lines) in &PAIRS {
+    for pair in &PAIRS {
         for size in SIZES {
-            let (answer, written) = in_pieces(rt.alloc(), *form, old, new, size);
-            assert!(rt;
-                answer == Ok(lines.is_empty()),
-                "in pieces of {size}: {answer:?}"
-            );
-            assert!(rt;
-                written.bytes() == *lines,
-                "in pieces of {size}: {written:?}"
-            );
+            assert!(rt; has_lines(rt.alloc(), pair, size), "pieces of {size}");
         }
     }
+}
+
+fn has_lines(alloc: Global, pair: &Pair, size: usize) -> bool {
+    let Pair(form, old, new, lines) = pair;
+    let (answer, written) = in_pieces(alloc, *form, old, new, size);
+    answer == Ok(lines.is_empty()) && written.bytes() == *lines
 }
 
 /// Nothing is written if a file is refused; the first one is read first.
@@ -135,14 +133,17 @@ fn refused_files(rt: HostRuntime) {
         (OLD, BAD, Side::Second),
         (OLD, REFUSED_LATER, Side::Second),
     ] {
-        let (answer, written) = in_pieces(rt.alloc(), ALL_VALUES, old, new, 7);
-        let fault = Fault::Refused(Refusal {
-            code: Code::MissingField,
-            line: 5,
-        });
-        assert!(rt; answer == Err(SideFault { side, fault }), "{answer:?}");
-        assert!(rt; written.bytes().is_empty(), "{written:?}");
+        assert!(rt; is_refused(rt.alloc(), old, new, side), "{side:?}");
     }
+}
+
+fn is_refused(alloc: Global, old: &[u8], new: &[u8], side: Side) -> bool {
+    let (answer, written) = in_pieces(alloc, ALL_VALUES, old, new, 7);
+    let fault = Fault::Refused(Refusal {
+        code: Code::MissingField,
+        line: 5,
+    });
+    answer == Err(SideFault { side, fault }) && written.bytes().is_empty()
 }
 
 fn in_pieces(

@@ -4,68 +4,94 @@
 mod failing;
 mod raw;
 
+use crate::long::long_text;
 use deb_base::{Code, Fault, Input, Refusal};
 use deb_devices::{Pieces, SIZES};
 use deb_syntax::{Paragraphs, Raw};
 use std::alloc::Global;
-use std::process::Abort;
 use std::test::Fail;
 
 /// Reads a file to its end, and returns how many lines it has, or to a fault. A line `@N` is shown
 /// for each paragraph, where N is its first line, and one for each of its fields: its line, its
-/// name, and its body or a long one's length.
+/// name, and its body or a long one's length. None if something else doesn't hold.
 fn read_all(
-    rt: &impl Abort,
     alloc: Global,
     reader: &mut Pieces<'_>,
     begins: bool,
     told: &mut String,
-) -> Result<Result<u64, Fault>, Fail> {
+) -> Option<Result<u64, Fault>> {
     let mut paragraphs = Paragraphs::new(alloc);
-    assert!(rt; paragraphs.held() == 0, "the buffer of a new reader");
+    let is_empty = paragraphs.held() == 0;
     for _ in 0..u64::MAX {
-        assert!(rt; paragraphs.lines() == 0, "lines before the end");
-        let found = if begins {
-            next_begun(rt, &mut paragraphs, reader, told)?
-        } else {
-            next_within(rt, &mut paragraphs, reader, told)?
-        };
-        if let Ok(Some(_)) = found {
-            continue;
+        let found = next_asked(&mut paragraphs, reader, begins, told);
+        if !matches!(found, Some(Ok(Some(_)))) {
+            return last_of(&mut paragraphs, reader, found, is_empty, told);
         }
-        let repeats = repeats(&mut paragraphs, reader, found, told)?;
-        assert!(rt; repeats, "another answer after the last one");
-        return Ok(lines_of(&paragraphs, found));
     }
-    Err("no end")?
+    None
+}
+
+/// What `next` answers, with or without `begins` before it; None if something else doesn't hold.
+fn next_asked(
+    paragraphs: &mut Paragraphs,
+    reader: &mut Pieces<'_>,
+    begins: bool,
+    told: &mut String,
+) -> Option<Result<Option<u64>, Fault>> {
+    if paragraphs.lines() != 0 {
+        return None;
+    }
+    if begins {
+        next_begun(paragraphs, reader, told)
+    } else {
+        next_within(paragraphs, reader, told)
+    }
+}
+
+/// How many lines the file has, or its fault, if each later answer is the last one.
+fn last_of(
+    paragraphs: &mut Paragraphs,
+    reader: &mut Pieces<'_>,
+    found: Option<Result<Option<u64>, Fault>>,
+    is_empty: bool,
+    told: &mut String,
+) -> Option<Result<u64, Fault>> {
+    let last = found?;
+    if is_empty && repeats(paragraphs, reader, last, told) {
+        Some(lines_of(paragraphs, last))
+    } else {
+        None
+    }
 }
 
 /// What `next` answers after `begins`.
 fn next_begun(
-    rt: &impl Abort,
     paragraphs: &mut Paragraphs,
     reader: &mut Pieces<'_>,
     told: &mut String,
-) -> Result<Result<Option<u64>, Fault>, Fail> {
+) -> Option<Result<Option<u64>, Fault>> {
     let first = begins(paragraphs, reader);
-    assert!(rt; is_within(paragraphs, reader), "after `begins`");
-    let again = begins(paragraphs, reader);
-    assert!(rt; again == first, "`begins` asked again");
-    let found = next_within(rt, paragraphs, reader, told)?;
-    assert!(rt; begins_so(first, found), "{first:?}, and then {found:?}");
-    Ok(found)
+    let is_begun = is_within(paragraphs, reader) && begins(paragraphs, reader) == first;
+    let found = next_within(paragraphs, reader, told)?;
+    if is_begun && begins_so(first, found) {
+        Some(found)
+    } else {
+        None
+    }
 }
 
-/// What `next` answers, and what holds when it returns.
+/// What `next` answers, if what should hold when it returns does.
 fn next_within(
-    rt: &impl Abort,
     paragraphs: &mut Paragraphs,
     reader: &mut Pieces<'_>,
     told: &mut String,
-) -> Result<Result<Option<u64>, Fault>, Fail> {
-    let found = next_line(paragraphs, reader, told)?;
-    assert!(rt; is_within(paragraphs, reader), "after `next`");
-    Ok(found)
+) -> Option<Result<Option<u64>, Fault>> {
+    let found = next_line(paragraphs, reader, told);
+    if is_within(paragraphs, reader) {
+        Some(found)
+    } else {
+        None
+    }
 }
 
 /// Whether the buffer, and the room that each read was given, have as few bytes as they may at a
@@ -80,16 +106,16 @@ fn repeats(
     reader: &mut Pieces<'_>,
     last: Result<Option<u64>, Fault>,
     told: &mut String,
-) -> Result<bool, Fail> {
+) -> bool {
     let (calls, lines) = (reader.calls, paragraphs.lines());
     for _ in 0..2 {
-        let next = next_line(paragraphs, reader, told)?;
+        let next = next_line(paragraphs, reader, told);
         let first = begins(paragraphs, reader);
         if next != last || first != last || paragraphs.lines() != lines {
-            return Ok(false);
+            return false;
         }
     }
-    Ok(reader.calls == calls)
+    reader.calls == calls
 }
 
 /// How many lines the file has, after the last answer.
@@ -107,36 +133,32 @@ fn next_line(
     paragraphs: &mut Paragraphs,
     reader: &mut Pieces<'_>,
     told: &mut String,
-) -> Result<Result<Option<u64>, Fault>, Fail> {
+) -> Result<Option<u64>, Fault> {
     match paragraphs.next(&mut Input::new(&mut *reader)) {
-        Ok(Some(raw)) => {
-            tell(told, &raw)?;
-            Ok(Ok(Some(raw.first_line())))
-        }
-        Ok(None) => Ok(Ok(None)),
-        Err(fault) => Ok(Err(fault)),
+        Ok(Some(raw)) => tell(told, &raw),
+        Ok(None) => Ok(None),
+        Err(fault) => Err(fault),
     }
 }
 
-fn tell(told: &mut String, raw: &Raw<'_>) -> Result<(), Fail> {
+fn tell(told: &mut String, raw: &Raw<'_>) -> Result<Option<u64>, Fault> {
     let first_line = raw.first_line();
-    writeln!(told, "@{first_line}")?;
+    writeln!(told, "@{first_line}").or(Err(Fault::Memory))?;
     for field in raw.fields() {
         tell_field(told, field.line, field.name, field.body)?;
     }
-    Ok(())
+    Ok(Some(first_line))
 }
 
-fn tell_field(told: &mut String, line: u64, name: &[u8], body: &[u8]) -> Result<(), Fail> {
+fn tell_field(told: &mut String, line: u64, name: &[u8], body: &[u8]) -> Result<(), Fault> {
     let name = name.escape_ascii();
     let len = body.len();
     if len < 1_000 {
         let body = body.escape_ascii();
-        writeln!(told, "{line} {name}: {body}")?;
+        writeln!(told, "{line} {name}: {body}").or(Err(Fault::Memory))
     } else {
-        writeln!(told, "{line} {name}: {len} bytes")?;
+        writeln!(told, "{line} {name}: {len} bytes").or(Err(Fault::Memory))
     }
-    Ok(())
 }
 
 /// Whether `next` may answer so after an answer of `begins`.
@@ -184,13 +206,15 @@ const ROWS: [Row; 6] = [
 ];
 
 #[test]
-fn files_in_pieces(rt: HostRuntime) -> Result<(), Fail> {
+fn files_in_pieces(rt: HostRuntime) {
     for Row(file, told, end) in &ROWS {
         for size in SIZES {
-            assert_read(&rt, rt.alloc(), file, size, told, end_of(*end))?;
+            assert!(rt;
+                is_told(rt.alloc(), file, size, told, *end),
+                "pieces of {size}"
+            );
         }
     }
-    Ok(())
 }
 
 /// What the reading of a file answers at last.
@@ -201,42 +225,50 @@ fn end_of(end: Result<u64, (Code, u64)>) -> Result<u64, Fault> {
     }
 }
 
-/// What is reported of a file, and what is answered at last, with `begins` and without it.
-fn assert_read(
-    rt: &impl Abort,
+/// Whether this is reported of a file, and answered at last, with `begins` and without it.
+fn is_told(
     alloc: Global,
     file: &[u8],
     size: usize,
+    told: &str,
+    end: Result<u64, (Code, u64)>,
+) -> bool {
+    is_read(
+        alloc,
+        &mut Pieces::new(file, size, 0),
+        false,
+        told,
+        end_of(end),
+    ) && is_read(
+        alloc,
+        &mut Pieces::new(file, size, 0),
+        true,
+        told,
+        end_of(end),
+    )
+}
+
+fn is_read(
+    alloc: Global,
+    reader: &mut Pieces<'_>,
+    begins: bool,
     wanted: &str,
-    wanted_end: Result<u64, Fault>,
-) -> Result<(), Fail> {
-    for begins in [false, true] {
-        let mut told = String::new(alloc);
-        let end = read_all(
-            rt,
-            alloc,
-            &mut Pieces::new(file, size, 0),
-            begins,
-            &mut told,
-        )?;
-        assert_eq!(rt; end, wanted_end, "pieces of {size}, {begins}");
-        assert_eq!(rt; told.as_str(), wanted, "pieces of {size}, {begins}");
-    }
-    Ok(())
+    end: Result<u64, Fault>,
+) -> bool {
+    let mut told = String::new(alloc);
+    read_all(alloc, reader, begins, &mut told) == Some(end) && told.as_str() == wanted
 }
 
 /// A paragraph of the most bytes, and one of a byte more.
 #[test]
 fn long_paragraphs(rt: HostRuntime) -> Result<(), Fail> {
-    let mut file = Vec::new(rt.alloc());
-    file.extend_from_slice(b"A: ")?;
-    file.resize(16_777_215, b'x')?;
-    file.push(b'\n')?;
+    let mut file = long_text(rt.alloc(), b"A: ", 16_777_215, b"\n")?;
     let told = "@1\n1 A: 16777212 bytes\n";
-    assert_read(&rt, rt.alloc(), &file, 65_536, told, Ok(1))?;
+    assert!(rt; is_told(rt.alloc(), &file, 65_536, told, Ok(1)));
     file.push(b' ')?;
-    assert_read(&rt, rt.alloc(), &file, 65_536, told, Ok(2))?;
+    assert!(rt; is_told(rt.alloc(), &file, 65_536, told, Ok(2)));
     file.push(b'x')?;
-    let end = end_of(Err((Code::ParagraphTooLong, 2)));
-    assert_read(&rt, rt.alloc(), &file, 65_536, "", end)
+    let end = Err((Code::ParagraphTooLong, 2));
+    assert!(rt; is_told(rt.alloc(), &file, 65_536, "", end));
+    Ok(())
 }

@@ -26,6 +26,7 @@ use Rattle.deb_unmet.specs.Fields.{environment_for, heading, paragraph_lines}
 use Rattle.deb_unmet.specs.Files.{Asks, is_nothing, lines_of}
 use Rattle.deb_unmet.specs.Own.{OwnAsks, asks_over, other_line, parts_from}
 use Rattle.deb_unmet.specs.Readings.{applies_by, may}
+use Rattle.deb_unmet.specs.Scopes.{plain}
 use Rattle.deb_unmet.specs.Spelled.{fields_after}
 use Rattle.deb_unmet.specs.Troubles.{group_lines as needed_lines, trouble}
 use Rattle.deb_unmet.specs.declared.applying.Applies.{Applies}
@@ -155,12 +156,12 @@ module _ (members : Members) (strength : Strength) (environment : Environment) (
   abbrev asks : Asks
   asks = asks_over own packages
 
-  nothing-needs : (number : ℕ) (version : List ℕ) (values : ValueEntries ValueMeaning) → is_nothing (paragraph_lines (Packages strength) environment packages number version values) ≡ is_abundant strength environment packages values
+  nothing-needs : (number : ℕ) (version : List ℕ) (values : ValueEntries ValueMeaning) → is_nothing (paragraph_lines (Packages strength) environment (plain packages) number version values) ≡ is_abundant strength environment packages values
   nothing-needs number version values =
       let e = environment_for (Packages strength) environment values in
       let h = heading (Packages strength) number version values in
-      nothing-flat (λ field. flat_map (needed_lines e packages h field) (groups_of (value_under field values))) (λ field. list_all (λ group. is_none (trouble e packages group)) (groups_of (value_under field values)))
-      (λ field. nothing-flat (needed_lines e packages h field) (λ group. is_none (trouble e packages group)) (λ group. nothing-group e packages h field group) (groups_of (value_under field values))) (fields_with strength)
+      nothing-flat (λ field. flat_map (needed_lines e (plain packages) Surely h field) (groups_of (value_under field values))) (λ field. list_all (λ group. is_none (trouble e packages group)) (groups_of (value_under field values)))
+      (λ field. nothing-flat (needed_lines e (plain packages) Surely h field) (λ group. is_none (trouble e packages group)) (λ group. nothing-group e packages h field group) (groups_of (value_under field values))) (fields_with strength)
 
   nothing-excludes : (h : List ℕ) (values : ValueEntries ValueMeaning) → is_nothing (exclusion_lines (environment_for (Packages strength) environment values) environment.native packages h values) ≡ is_peaceful strength environment packages values
   nothing-excludes h values =
@@ -190,7 +191,7 @@ module _ (members : Members) (strength : Strength) (environment : Environment) (
   nothing-member front more p n values lines settled rest is all later fields =
       let v = word_under (codes "Version") values in
       let h = heading (Packages strength) (n + 1) v values in
-      let needs = paragraph_lines (Packages strength) environment packages (n + 1) v values in
+      let needs = paragraph_lines (Packages strength) environment (plain packages) (n + 1) v values in
       let others = exclusion_lines (environment_for (Packages strength) environment values) environment.native packages h values in
       let repeats = duplicate_lines environment.native packages h (n + 1) in
       let abundant = is_abundant strength environment packages values in

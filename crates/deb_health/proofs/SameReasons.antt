@@ -20,6 +20,7 @@ use Rattle.deb_index.proofs.Numbered.{at-front}
 use Rattle.deb_unmet.specs.Asked.{fields_asked, fields_with}
 use Rattle.deb_unmet.specs.Fields.{environment_for, heading, paragraph_lines}
 use Rattle.deb_unmet.specs.Readings.{applies_by, may, surely}
+use Rattle.deb_unmet.specs.Scopes.{plain}
 use Rattle.deb_unmet.specs.Troubles.{can_be_otherwise, can_be_unmet, is_met, trouble, trouble_line}
 use Rattle.deb_unmet.specs.declared.asked.Asked.TheVariants.{Packages}
 use Rattle.deb_unmet.specs.declared.asked.Strength.{Strength}
@@ -119,7 +120,7 @@ module _ (packages others : List Listed) (moved : IsPermutation packages others)
     abbrev own : Environment
     own = environment_for (Packages strength) environment values
 
-    lines-rearranged : (number : ℕ) (version : List ℕ) → paragraph_lines (Packages strength) environment packages number version values ≡ paragraph_lines (Packages strength) environment others number version values
+    lines-rearranged : (number : ℕ) (version : List ℕ) → paragraph_lines (Packages strength) environment (plain packages) number version values ≡ paragraph_lines (Packages strength) environment (plain others) number version values
     lines-rearranged number version = λ i. flat_map
         (λ field. flat_map (λ group. trouble_line (troubles-rearranged own group i) (heading (Packages strength) number version values) field (group_text group)) (groups_of (value_under field values)))
         (fields_asked (Packages strength))

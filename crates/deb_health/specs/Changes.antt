@@ -15,6 +15,7 @@ use Rattle.deb_index.specs.Alternatives.{alone}
 use Rattle.deb_index.specs.Listed.{Listed}
 use Rattle.deb_index.specs.Named.{numbers_of, package_at}
 use Rattle.deb_unmet.specs.Fields.{paragraph_lines}
+use Rattle.deb_unmet.specs.Scopes.{plain}
 use Rattle.deb_unmet.specs.Troubles.{can_be_otherwise, trouble}
 use Rattle.deb_unmet.specs.declared.asked.Asked.TheVariants.{Packages}
 use Rattle.deb_unmet.specs.declared.asked.Strength.{Strength}
@@ -33,8 +34,8 @@ pub record HaveSameReasons (packages others : List Listed) : Type 0 where
       → trouble environment others group ≡ trouble environment packages group
   pub same_unmet_lines : (strength : Strength) (environment : Environment) (number : ℕ)
       (version : List ℕ) (values : ValueEntries ValueMeaning)
-      → paragraph_lines (Packages strength) environment others number version values
-      ≡ paragraph_lines (Packages strength) environment packages number version values
+      → paragraph_lines (Packages strength) environment (plain others) number version values
+      ≡ paragraph_lines (Packages strength) environment (plain packages) number version values
   pub excludes_the_same : (target name : List ℕ) (a : Alternative)
       → IsPermutation (filter (excludes target name a) packages)
       (filter (excludes target name a) others)

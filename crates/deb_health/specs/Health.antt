@@ -35,6 +35,7 @@ asks_healthy members strength environment =
     record {
       members = members;
       versions = Canonical;
+      over = λ packages. packages;
       lines = member_lines strength environment;
       others = state_text;
     }

@@ -1,7 +1,7 @@
 -- Laws of the lines of a set: there is none exactly if the set is healthy and each package is in it
 -- or removed, those of a package begin as `unmet` writes them, and canonical text changes none.
 -- Debian Policy 5.1 and 7.2 to 7.5; the canonical text is this project's own.
-use Rattle.std.specs.Prelude.{◌≡◌, ◌&&◌, ℕ, List, ◌++◌}
+use Rattle.std.specs.Prelude.{◌≡◌, ◌&&◌, ℕ, List, [], ◌++◌}
 use Rattle.std.specs.List.{filter}
 use Rattle.deb_base.specs.declared.version_text.VersionText.TheVariants.{Canonical}
 use Rattle.deb_syntax.specs.Fields.{Field}
@@ -16,6 +16,7 @@ use Rattle.deb_index.specs.Members.{ListsMembers, doc_of, has_values}
 use Rattle.deb_index.specs.declared.members.Members.{Members}
 use Rattle.deb_unmet.specs.Files.{is_nothing, lines_of}
 use Rattle.deb_unmet.specs.Own.{asks_own, asks_over, own_lines}
+use Rattle.deb_unmet.specs.Scopes.{plain}
 use Rattle.deb_unmet.specs.declared.asked.Strength.{Strength}
 use Rattle.deb_health.specs.Health.{asks_healthy, is_healthy}
 use Rattle.deb_health.specs.States.{are_settled}
@@ -37,8 +38,9 @@ BeginsAsUnmet =
     (members : Members) (strength : Strength) (environment : Environment) (packages : List Listed)
     (number : ℕ) (fields : List Field) (values : ValueEntries ValueMeaning) → (others : List ℕ)
     × (lines_of (asks_over (asks_healthy members strength environment) packages) number fields
-    values ≡ lines_of (asks_over (asks_own members strength Canonical environment) packages) number
-    fields values ++ others)
+    values ≡ lines_of
+    (asks_over (asks_own members strength Canonical environment (plain [])) packages) number fields
+    values ++ others)
 
 -- The lines don't change if the file is replaced by its canonical text.
 abbrev pub CanonicalTextChangesNoLine : Type 0

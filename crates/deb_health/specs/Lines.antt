@@ -21,6 +21,7 @@ use Rattle.deb_index.specs.ReportText.{canonical_version, package_line}
 use Rattle.deb_index.specs.Reports.{Numbered}
 use Rattle.deb_unmet.specs.Fields.{environment_for, heading, paragraph_lines}
 use Rattle.deb_unmet.specs.Readings.{applies_by, may}
+use Rattle.deb_unmet.specs.Scopes.{plain}
 use Rattle.deb_unmet.specs.declared.applying.Applies.{Applies}
 use Rattle.deb_unmet.specs.declared.applying.Applies.TheVariants.{Surely, Maybe, Never}
 use Rattle.deb_unmet.specs.declared.asked.Asked.TheVariants.{Packages}
@@ -93,7 +94,7 @@ duplicate_lines target packages heading number =
 abbrev pub member_lines : Strength → Environment → List Listed → ℕ → List ℕ
     → ValueEntries ValueMeaning → List ℕ
 member_lines strength environment packages number version values =
-    paragraph_lines (Packages strength) environment packages number version values
+    paragraph_lines (Packages strength) environment (plain packages) number version values
     ++ (exclusion_lines (environment_for (Packages strength) environment values)
     environment.native packages (heading (Packages strength) number version values) values
     ++ duplicate_lines environment.native packages

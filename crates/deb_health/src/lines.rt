@@ -39,10 +39,10 @@ pub(crate) struct Set<'a> {
 }
 
 /// Appends the lines of the package with this number, of which this is kept.
-pub(crate) fn append_member(
+pub(crate) fn append_member<'a>(
     alloc: Global,
     out: &mut Vec<u8>,
-    set: &Set<'_>,
+    set: &Set<'a>,
     number: u64,
     kept: &Kept,
 ) -> Result<(), AllocError>
@@ -56,8 +56,11 @@ pub(crate) fn append_member(
         number,
         texts: &kept.unmet.line_texts(VersionText::Canonical),
     };
+    let unless: Option<&'a Index> = None;
     let question = Question {
         index: set.index,
+        unless,
+        without: &[],
         environment: set.environment,
     };
     append_lines(alloc, out, &question, &paragraph)?;

@@ -94,7 +94,8 @@ pub fn healthy<R: Source, W: Sink>(
         members,
         strength,
     };
-    write_in_itself(alloc, &lines, reader, writer)
+    let index = Index::new(alloc)?;
+    write_in_itself(alloc, index, &lines, reader, writer)
 }
 
 /// What the packages of a set are asked.
@@ -115,6 +116,10 @@ impl OwnLines for SetLines<'_> {
 
     fn members(&self) -> Members {
         self.members
+    }
+
+    fn over(&self, _alloc: Global, index: Index) -> Result<Index, AllocError> {
+        Ok(index)
     }
 
     fn keep(

@@ -7,6 +7,8 @@ pub mod Installed
 pub mod Indexed
 pub mod ReadLines
 pub mod ListedOnce
+pub mod FilesJoined
+pub mod FilesRead
 pub mod WrittenParts
 pub mod Lookups
 pub mod PutLast
@@ -24,6 +26,7 @@ pub mod TextPieces
 pub mod SomeMeets
 pub mod Reasoned
 pub mod Stored
+pub mod LeftOut
 pub mod KeptProvides
 pub mod Answered
 pub mod Details

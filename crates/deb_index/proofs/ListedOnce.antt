@@ -51,7 +51,7 @@ lists-same fields p q one other =
     ∙ ap (λ x. record { name = q.name; version = q.version; architecture = q.architecture; multi_arch = x; provisions = p.provisions }) words
     ∙ ap (λ x. record { name = q.name; version = q.version; architecture = q.architecture; multi_arch = q.multi_arch; provisions = x }) provisions
 
-all-same : (meaning : Meaning) (packages others : List Listed) → Pairwise Lists meaning packages → Pairwise Lists meaning others → packages ≡ others
+pub all-same : (meaning : Meaning) (packages others : List Listed) → Pairwise Lists meaning packages → Pairwise Lists meaning others → packages ≡ others
 all-same [] [] [] one other = refl
 all-same [] [] (q ∷ others) one other = absurd other
 all-same [] (p ∷ packages) others one other = absurd one

@@ -54,7 +54,7 @@ module _ (bytes more : List ℕ) where
       }
 
 -- the entries of a package are in the text of all
-own-in : (bytes : List ℕ) (entries : List Places) → All (IsIn bytes) entries → (r : Record) → All (IsIn bytes) (entries_by entries r)
+pub own-in : (bytes : List ℕ) (entries : List Places) → All (IsIn bytes) entries → (r : Record) → All (IsIn bytes) (entries_by entries r)
 own-in bytes entries within r = All-take (IsIn bytes) (r.entries_end - r.first) (drop r.first entries) (All-drop (IsIn bytes) r.first entries within)
 
 pub own-faultless : (bytes : List ℕ) (entries : List Places) → All (IsIn bytes) entries → (r : Record) → All (IsFaultless bytes) (entries_by entries r)
@@ -109,10 +109,10 @@ module _ (bytes more : List ℕ) (entries others : List Places) (within : All (I
 
 -- so all of them stay
 module _ (bytes more : List ℕ) (entries others : List Places) (within : All (IsIn bytes) entries) (records : List Record) (all : All (IsKept bytes entries) records) where
-  all-listed : map (listed_by (bytes ++ more) (entries ++ others)) records ≡ map (listed_by bytes entries) records
+  pub all-listed : map (listed_by (bytes ++ more) (entries ++ others)) records ≡ map (listed_by bytes entries) records
   all-listed = map-same (IsKept bytes entries) (listed_by (bytes ++ more) (entries ++ others)) (listed_by bytes entries) (stays-listed bytes more entries others within) records (recursion_from_All (IsKept bytes entries) records all)
 
-  all-spelled : map (spelling_by (bytes ++ more)) records ≡ map (spelling_by bytes) records
+  pub all-spelled : map (spelling_by (bytes ++ more)) records ≡ map (spelling_by bytes) records
   all-spelled = map-same (IsKept bytes entries) (spelling_by (bytes ++ more)) (spelling_by bytes) (spelling_stays bytes more entries others within) records (recursion_from_All (IsKept bytes entries) records all)
 
 no_version : first_fault [] ≡ Some Empty
@@ -136,10 +136,10 @@ module _ (canonical : List ℕ) (version : Version) where
       go false e = ap (λ t. cond t canonical text) (nonempty text s)
 
 -- the entries of packages have their numbers
-abbrev AreNumbered : List Places → List Record → Type 0
+abbrev pub AreNumbered : List Places → List Record → Type 0
 AreNumbered entries records = (k : ℕ) (d : Record) → k < length records → All (HasNumber (k + 1)) (entries_by entries (get_or records k d))
 
-numbered-push : (bytes : List ℕ) (entries more : List Places) (records : List Record) (r : Record) → All (IsKept bytes entries) records → AreNumbered entries records → All (HasNumber (length records + 1)) (entries_by (entries ++ more) r) → AreNumbered (entries ++ more) (records ++ r ∷ [])
+pub numbered-push : (bytes : List ℕ) (entries more : List Places) (records : List Record) (r : Record) → All (IsKept bytes entries) records → AreNumbered entries records → All (HasNumber (length records + 1)) (entries_by (entries ++ more) r) → AreNumbered (entries ++ more) (records ++ r ∷ [])
 numbered-push bytes entries more records r kept numbered last k d low =
     elim (cases_lt k (length records)) [
       | inl old ↦

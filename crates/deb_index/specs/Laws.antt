@@ -1,7 +1,7 @@
--- Laws of what a file lists, of reports on a relation, which canonical text doesn't change, and of
--- reasons.
+-- Laws of what a file lists, of two files and their join, of reports on a relation, which canonical
+-- text doesn't change, and of reasons.
 -- Debian Policy 5.1 and 7.1; the canonical text is this project's own.
-use Rattle.std.specs.Prelude.{◌≡◌, ℕ, List, map}
+use Rattle.std.specs.Prelude.{◌≡◌, ◌++◌, ℕ, List, codes, map}
 use Rattle.std.specs.Option.{is_none}
 use Rattle.deb_relation.specs.Applying.{Environment}
 use Rattle.deb_relation.specs.Grammar.{SpellsRelation}
@@ -14,9 +14,11 @@ use Rattle.deb_index.specs.Installed.{ListsInstalled}
 use Rattle.deb_index.specs.Listed.{Listed}
 use Rattle.deb_index.specs.Listing.{ListsAll}
 use Rattle.deb_index.specs.Meeting.{meets}
+use Rattle.deb_index.specs.Members.{ListsMembers}
 use Rattle.deb_index.specs.Reasons.{reason}
 use Rattle.deb_index.specs.Reports.{report}
 use Rattle.deb_index.specs.Why.{answer_in, detailed_report}
+use Rattle.deb_index.specs.declared.members.Members.{Members}
 
 -- A file lists one list of packages at most.
 abbrev pub ListsOnce : Type 0
@@ -37,6 +39,18 @@ pub record InstalledPackagesAreMeant : Type 0 where
   pub canonical : (text : List ℕ) (meaning : Meaning) (packages : List Listed)
       → Accepted Status text meaning → ListsInstalled text packages
       → ListsInstalled (canonical_text meaning) packages
+
+-- two newlines end the last line of a file, and its last paragraph
+abbrev pub two_newlines : List ℕ
+two_newlines = codes "\n\n"
+
+-- A file in which a further one follows two newlines, if it is accepted, lists what the first does
+-- and then what the further one does.
+abbrev pub FurtherFileJoins : Type 0
+FurtherFileJoins =
+    (members : Members) (text more : List ℕ) (packages others all : List Listed)
+    → ListsMembers members text packages → ListsMembers members more others
+    → ListsMembers members ((text ++ two_newlines) ++ more) all → all ≡ packages ++ others
 
 -- two relations over two lists have the same report, for every environment
 pub record ReportAlike (packages others : List Listed) (m n : Relation) : Type 0 where

@@ -16,6 +16,8 @@ pub mod ProvidedNames
 pub mod Kept
 pub mod PackageBuilder
 pub mod Stores
+pub mod Renumbering
+pub mod Without
 pub mod Named
 pub mod Maps
 pub mod Offers
@@ -24,6 +26,7 @@ pub mod Listing
 pub mod Keeping
 pub mod Installed
 pub mod Members
+pub mod Files
 pub mod Indexes
 pub mod AnswerStores
 pub mod Reported

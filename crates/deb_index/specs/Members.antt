@@ -1,6 +1,6 @@
 -- Which paragraphs of a file are packages of an index: all of an index of packages, or those of the
 -- installed packages of a status file. Debian Policy 5.3; dpkg(1).
-use Rattle.std.specs.Prelude.{◌≡◌, ℕ, Bool, true, false, List, [], ◌∷◌, map, codes, refl}
+use Rattle.std.specs.Prelude.{◌≡◌, ℕ, Bool, true, false, List, [], ◌∷◌, ◌++◌, map, codes, refl}
 use Rattle.std.specs.List.{filter}
 use Rattle.std.specs.Str.{is_utf8, chars}
 use lib.Utf8.{encode}
@@ -69,19 +69,22 @@ KeepsMembers Installed = KeepsInstalled
 abbrev pub HasBoth : Members → Seen → ValueEntries ValueMeaning → Type 0
 HasBoth members seen values = has_seen members seen ≡ has_values members values
 
--- What a store keeps of these paragraphs, of which each passes: the packages that the members among
--- them list, the lines at which these start, and how they spell their versions.
-pub record KeepsGiven (members : Members) (store : Store) (given : List Seen) : Type 0 where
-  pub kept : IsStore store
+-- What a store keeps of these paragraphs, of which each passes, after what it had: the packages
+-- that the members among them list, the lines at which these start, and how they spell their
+-- versions.
+pub record KeepsGiven (members : Members) (old new : Store) (given : List Seen) : Type 0 where
+  pub kept : IsStore new
   pub meaning : Meaning
   pub are : Pairwise (AreValuesOf (doc_of members)) given meaning
   pub same : Pairwise (HasBoth members) given meaning
   pub passing : Pairwise (AreValuesOf docs.Packages) (seen_in members given)
       (filter (has_values members) meaning)
-  pub listed : Pairwise Lists (filter (has_values members) meaning) (listed_in store)
-  pub lines : lines_in store ≡ map (λ seen. seen.first) (seen_in members given)
-  pub spellings : spellings_in store
-      ≡ map (λ seen. version_body seen.fields) (seen_in members given)
+  pub packages : List Listed
+  pub lists : Pairwise Lists (filter (has_values members) meaning) packages
+  pub listed : listed_in new ≡ listed_in old ++ packages
+  pub lines : lines_in new ≡ lines_in old ++ map (λ seen. seen.first) (seen_in members given)
+  pub spellings : spellings_in new
+      ≡ spellings_in old ++ map (λ seen. version_body seen.fields) (seen_in members given)
 
 worked-docs : map doc_of (All ∷ Installed ∷ []) ≡ docs.Packages ∷ docs.Status ∷ []
 worked-docs = refl

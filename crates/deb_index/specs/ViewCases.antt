@@ -1,6 +1,6 @@
 -- Worked cases of what the contracts see of the code's values, which are written out here: each
 -- field under its own name, and lists in their order.
-use Rattle.std.specs.Prelude.{◌≡◌, ℕ, ◌+◌, ◌==◌, ◌&&◌, true, false, List, [], ◌∷◌, map, None, Some, codes, refl, zero, suc, ◌<◌}
+use Rattle.std.specs.Prelude.{◌≡◌, ℕ, ◌+◌, ◌==◌, ◌&&◌, true, false, cond, List, [], ◌∷◌, map, Option, None, Some, codes, refl, zero, suc, ◌<◌}
 use Rattle.std.specs.Option.{option_map}
 use Rattle.std.specs.List.{All, AllPairs}
 use Rattle.std.specs.Map.{lookup}
@@ -17,8 +17,10 @@ use Rattle.deb_field.specs.declared.flag.MultiArch.TheVariants.{Foreign}
 use Rattle.deb_index.specs.AnswerStores.{answers_in, numbered, span_of}
 use Rattle.deb_index.specs.Crowds.{comes_first, passes}
 use Rattle.deb_index.specs.Entries.{IsFaultless, Places, entry_name}
-use Rattle.deb_index.specs.Indexes.{lines_of, packages_of, spellings_of, number_in}
+use Rattle.deb_index.specs.Files.{file_shown}
+use Rattle.deb_index.specs.Indexes.{counts_of, lines_of, number_in, packages_of, spellings_of}
 use Rattle.deb_index.specs.Kept.{line_of, listed_of, spelling_of}
+use Rattle.deb_index.specs.Laws.{two_newlines}
 use Rattle.deb_index.specs.Listed.{Listed, Provision}
 use Rattle.deb_index.specs.Named.{AreNumbers}
 use Rattle.deb_index.specs.Offers.{number_of, offer_cmp, offered, standing}
@@ -37,9 +39,9 @@ use Rattle.deb_index.specs.declared.verdict.Verdict.TheVariants.{Ignored, Met, U
 use Rattle.deb_base.specs.Literals.{lent, vector}
 use Rattle.deb_base.specs.declared.version_text.VersionText.TheVariants.{Canonical, Spelled}
 use Rattle.deb_index.specs.Detailed.{detailed_of, details_cut, details_left, details_of}
-use Rattle.deb_index.specs.ReportText.{version_shown}
+use Rattle.deb_index.specs.ReportText.{VersionShown, version_shown, with_files}
 use Rattle.deb_index.specs.Reports.{Answer}
-use Rattle.deb_index.specs.ShownVersions.{shown_by, spellings_detailed}
+use Rattle.deb_index.specs.ShownVersions.{counts_detailed, files_by, shown_by, spellings_detailed, version_by}
 use Rattle.deb_index.specs.declared.answer_store.AnswerSpan.{AnswerSpan}
 
 -- aa in version 1, which provides vv in version 3 and ww without one; and bb in version 2, which
@@ -68,6 +70,7 @@ two_packages =
           ∷ record { start = 25; name_end = 27; version = 31; end = 32; number = 2 } ∷ [])
           refl;
       records = vector (record_of 0 6 0 2 1 ∷ record_of 18 25 2 3 7 ∷ []) refl;
+      files = vector (1 ∷ 1 ∷ []) refl;
     }
 
 -- the own versions of aa and bb, vv in version 3, ww, vv in version 4, and what is no offer
@@ -264,26 +267,64 @@ bb = record {
   provisions = record { name = codes "vv"; version = Some (version_in (codes "4")) } ∷ [];
 }
 
--- the packages, their lines and spelled versions, and the packages of two offers
+-- the packages, their lines and spelled versions, how many each file has, and the packages of two
+-- offers
 worked-packages : (index : Index) → index.store ≡ two_packages
-    → ◌≡◌ {A = List Listed × List ℕ × List (List ℕ) × List ℕ}
-    (packages_of index, lines_of index, spellings_of index, map (number_in index) (0 ∷ 4 ∷ []))
-    (aa ∷ bb ∷ [], 1 ∷ 7 ∷ [], codes "1" ∷ codes "2" ∷ [], 1 ∷ 2 ∷ [])
+    → ◌≡◌ {A = List Listed × List ℕ × List (List ℕ) × List ℕ × List ℕ} (
+      packages_of index,
+      lines_of index,
+      spellings_of index,
+      counts_of index,
+      map (number_in index) (0 ∷ 4 ∷ []),
+    ) (aa ∷ bb ∷ [], 1 ∷ 7 ∷ [], codes "1" ∷ codes "2" ∷ [], 1 ∷ 1 ∷ [], 1 ∷ 2 ∷ [])
 worked-packages index =
     ap (λ store. (
       listed_in store,
       lines_in store,
       spellings_in store,
+      store.files.items,
       map (number_of store) (0 ∷ 4 ∷ []),
     ))
 
 -- the canonical version of a package, and that of a number as the file spells it
 worked-versions : (index : Index) → index.store ≡ two_packages
-    → map (λ chosen. shown_by (record { index = lent index; chosen = chosen }) (1, bb))
-    (Canonical ∷ Spelled ∷ [])
+    → map
+    (λ chosen. (shown_by (record { index = lent index; chosen = chosen; files = true })).version
+    (1, bb)) (Canonical ∷ Spelled ∷ [])
     ≡ codes "2" ∷ codes "1" ∷ []
 worked-versions index =
-    ap (λ store. map (λ chosen. version_shown chosen (spellings_in store) (1, bb))
+    ap (λ store. map (λ chosen. (version_shown chosen (spellings_in store)).version (1, bb))
+    (Canonical ∷ Spelled ∷ []))
+
+-- the file of a number, if files are named
+worked-files : (index : Index) → index.store ≡ two_packages
+    → map
+    (λ files. (shown_by (record { index = lent index; chosen = Spelled; files = files })).file
+    (2, bb)) (true ∷ false ∷ [])
+    ≡ Some 2 ∷ None ∷ []
+worked-files index =
+    ap (λ store. map (λ files. cond files (file_shown store.files.items 2) None)
+    (true ∷ false ∷ []))
+
+-- the version of the first number, and the files of the two numbers and of one without a package
+abbrev seen : VersionShown → List ℕ × List (Option ℕ)
+seen shown = (shown.version (1, bb), map (λ n. shown.file (n, bb)) (1 ∷ 2 ∷ 3 ∷ []))
+
+-- of an index alone, where no file is named, and where files are
+worked-version_by : (index : Index) → index.store ≡ two_packages
+    → map (λ chosen. seen (version_by chosen index)) (Canonical ∷ Spelled ∷ [])
+    ≡ (codes "2", None ∷ None ∷ None ∷ []) ∷ (codes "1", None ∷ None ∷ None ∷ []) ∷ []
+worked-version_by index =
+    ap (λ store. map (λ chosen. seen (version_shown chosen (spellings_in store)))
+    (Canonical ∷ Spelled ∷ []))
+
+worked-files_by : (index : Index) → index.store ≡ two_packages
+    → map (λ chosen. seen (files_by chosen index)) (Canonical ∷ Spelled ∷ [])
+    ≡ (codes "2", Some 1 ∷ Some 2 ∷ None ∷ []) ∷ (codes "1", Some 1 ∷ Some 2 ∷ None ∷ []) ∷ []
+worked-files_by index =
+    ap (λ store. map
+    (λ chosen. seen
+    (with_files store.files.items (version_shown chosen (spellings_in store))))
     (Canonical ∷ Spelled ∷ []))
 
 -- what is kept of three answers: none meets the first group, both meet the second, and the third is
@@ -354,6 +395,15 @@ worked-answer index listed = ap (λ kept. record {
   reasons = codes "x";
 })
 
+worked-counts : (index : Index) (listed : AreNumbers (packages_of index) (1 ∷ 2 ∷ []))
+    → index.store ≡ two_packages
+    → counts_detailed (record {
+      report = record { index = lent index; answers = store; listed = listed };
+      reasons = vector [] refl;
+      lens = vector [] refl;
+    }) ≡ 1 ∷ 1 ∷ []
+worked-counts index listed = ap (λ kept. kept.files.items)
+
 worked-reported : (index : Index) (listed : AreNumbers (packages_of index) (1 ∷ 2 ∷ []))
     → index.store ≡ two_packages
     → spellings_detailed (record {
@@ -362,3 +412,7 @@ worked-reported : (index : Index) (listed : AreNumbers (packages_of index) (1 �
       lens = vector [] refl;
     }) ≡ codes "1" ∷ codes "2" ∷ []
 worked-reported index listed = ap spellings_in
+
+-- what separates a file from a further one
+worked-two_newlines : two_newlines ≡ 10 ∷ 10 ∷ []
+worked-two_newlines = refl

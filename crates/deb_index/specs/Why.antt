@@ -16,7 +16,7 @@ use Rattle.deb_index.specs.Listed.{Listed, Provision}
 use Rattle.deb_index.specs.Named.{has_name, provides}
 use Rattle.deb_index.specs.Reasons.{reason}
 use Rattle.deb_index.specs.Reports.{Answer, Numbered, answer, group_verdict, passing_from, report}
-use Rattle.deb_index.specs.ReportText.{VersionShown, answer_text, canonical_version, version_shown}
+use Rattle.deb_index.specs.ReportText.{VersionShown, answer_text, canonical_version, end_pieces, package_pieces, version_shown, with_files}
 use Rattle.deb_index.specs.declared.reason.Reason.{Reason}
 use Rattle.deb_index.specs.declared.reason.Reason.TheVariants.{IsEarlier, IsLater, IsAnother, IsNotLater, IsNotEarlier, HasNoVersion, IsOfAnotherArchitecture, IsNotAllowed}
 use Rattle.deb_index.specs.declared.verdict.Verdict.{Verdict}
@@ -34,12 +34,12 @@ reason_words HasNoVersion = codes "is provided without a version"
 reason_words IsOfAnotherArchitecture = codes "is of another architecture"
 reason_words IsNotAllowed = codes "isn't Multi-Arch: allowed"
 
--- ` ALTERNATIVE: NUMBER NAME VERSION ARCHITECTURE REASON`, for the text of the alternative
+-- ` ALTERNATIVE: NUMBER NAME VERSION ARCHITECTURE REASON`, for the text of the alternative, and
+-- ` @FILE` where a file is named
 abbrev pub reason_line : VersionShown → List ℕ → Numbered → Reason → List ℕ
 reason_line shown text p why =
-    concat (codes " " ∷ text ∷ codes ": " ∷ decimal p.0 ∷ codes " " ∷ p.1.name ∷ codes " "
-    ∷ shown p ∷ codes " " ∷ p.1.architecture ∷ codes " " ∷ reason_words why
-    ∷ codes "\n" ∷ [])
+    concat ((codes " " ∷ text ∷ codes ":" ∷ package_pieces shown p)
+    ++ (codes " " ∷ reason_words why ∷ end_pieces (shown.file p)))
 
 -- a package that meets the alternative has no line
 abbrev pub line_unless_met : VersionShown → List ℕ → Numbered → Option Reason → List ℕ
@@ -202,6 +202,20 @@ worked-spelled : detailed_text_by spelled
     ++ codes "met aa\n 1 aa 1.0-0 amd64\n"))
 unfolding digits group_text
 worked-spelled = refl
+
+-- with the files, of which each has a package
+abbrev in_files : VersionShown
+in_files = with_files (1 ∷ 1 ∷ []) canonical_version
+
+worked-files : detailed_text_by in_files
+    (detailed_report_by in_files packages
+    ((with_bound (codes "vv") LaterEqual (codes "3") ∷ []) ∷ (alone (codes "aa") ∷ []) ∷ []) target)
+    ≡ codes "unmet vv (>= 3)\n"
+    ++ (codes " vv (>= 3): 1 aa 1.0 amd64 is provided without a version @1\n"
+    ++ (codes " vv (>= 3): 2 bb 2.0 i386 is earlier @2\n"
+    ++ codes "met aa\n 1 aa 1.0 amd64 @1\n"))
+unfolding digits group_text
+worked-files = refl
 
 -- by the qualifier; and a package that has the name and provides it has one line
 worked-qualifiers : shown (with_qualifier (codes "aa") (codes "any") ∷ alone (codes "bb") ∷ [])

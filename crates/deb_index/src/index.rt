@@ -1,4 +1,4 @@
-//! Indexes: reading one, and the packages under a name. `query` answers queries.
+//! Indexes: reading the files of one, and the packages under a name. `query` answers queries.
 
 ghost use Rattle.std.specs.Prelude.{◌≡◌, ◌-◌, ◌≤◌, ◌++◌, ◌∷◌, ℕ, List, [], Some, Err, IfOk, IfErr, IfSome, IsTrue, OnOk, length, map};
 ghost use Rattle.std.specs.List.{slice_get};
@@ -15,6 +15,7 @@ ghost use Rattle.deb_control.specs.Visiting.{VisitsValues};
 ghost use Rattle.deb_relation.specs.Views.{alternative_of};
 ghost use Rattle.deb_syntax.specs.Answers.{Seen};
 ghost use Rattle.deb_index.specs.Crowds.{AreCrowds, AreMeeting};
+ghost use Rattle.deb_index.specs.Files.{ListsAfter, StoresFile, file_of};
 ghost use Rattle.deb_index.specs.FirstLines.{first_lines, line_at};
 ghost use Rattle.deb_index.specs.Kept.{line_of, listed_of, spelling_of};
 ghost use Rattle.deb_index.specs.Listing.{ListsAll};
@@ -60,7 +61,21 @@ pub struct Index {
 }
 
 impl Index {
-    ghost use Rattle.deb_index.specs.Indexes.{lines_of, number_in, packages_of, spellings_of};
+    ghost use Rattle.deb_index.specs.Indexes.{counts_of, lines_of, number_in, packages_of, spellings_of};
+
+    /// Returns the index of no file, which lists no package.
+    ///
+    /// # Errors
+    ///
+    /// Out of memory.
+    pub fn new(alloc: Global) -> Result<Index, AllocError>
+        ensures packages { IfOk result (λ index. packages_of index ≡ []) }
+        ensures lines { IfOk result (λ index. lines_of index ≡ []) }
+        ensures spellings { IfOk result (λ index. spellings_of index ≡ []) }
+        ensures counts { IfOk result (λ index. counts_of index ≡ []) }
+    {
+        Index::of(alloc, Store::new(alloc))
+    }
 
     /// Reads a file as an index of packages (Debian Policy 5.1, 5.3 and 5.6).
     ///
@@ -81,6 +96,8 @@ impl Index {
             → IfOk result (λ index. lines_of index ≡ first_lines text) }
         ensures spellings { (text : List ℕ) → R.left reader.old ≡ Some text
             → IfOk result (λ index. spellings_of index ≡ version_spellings text) }
+        ensures counts { IfOk result
+            (λ index. counts_of index ≡ length (packages_of index) ∷ []) }
         ensures refused { (text : List ℕ) → R.left reader.old ≡ Some text
             → IfRefused result (λ refusal. refusal_of Doc.Packages text ≡ Some refusal) }
         ensures reads_at_most { (text : List ℕ) → R.left reader.old ≡ Some text
@@ -115,6 +132,8 @@ impl Index {
             → IfOk result (λ index. lines_of index ≡ member_lines members text) }
         ensures spellings { (text : List ℕ) → R.left reader.old ≡ Some text
             → IfOk result (λ index. spellings_of index ≡ member_spellings members text) }
+        ensures counts { IfOk result
+            (λ index. counts_of index ≡ length (packages_of index) ∷ []) }
         ensures refused { (text : List ℕ) → R.left reader.old ≡ Some text
             → IfRefused result (λ refusal. refusal_of (doc_of members) text ≡ Some refusal) }
         ensures reads_at_most { (text : List ℕ) → R.left reader.old ≡ Some text
@@ -130,31 +149,143 @@ impl Index {
         ensures fault_iff_read_failed { ReadFaultIffFailed (R.failures reader.old)
             (R.failures reader.new) result }
     {
-        let mut checked = Checked::new(alloc, members.doc());
-        let mut builder = PackageBuilder::new(alloc);
-        let mut store = Store::new(alloc);
-        for count in 0..u64::MAX {
-            if !checked.advance(&mut builder, reader)? {
-                // The room of the last paragraph is for the names.
-                drop(checked);
-                drop(builder);
-                return Ok(Index::of(alloc, store)?);
-            }
-            let Some(paragraph) = checked.current() else {
-                unreachable!()
-            };
-            keep_next(members, &paragraph, &builder, &mut store, keeper)?;
-        }
-        // No file has so many paragraphs.
-        unreachable!()
+        Index::append_file(alloc, Store::new(alloc), reader, members, keeper)
     }
 
-    /// The index of packages.
-    fn of(alloc: Global, store: Store) -> Result<Index, AllocError>
+    /// Reads one more file as an index of packages, whose packages follow those of the index:
+    /// their numbers count on. An error leaves no index.
+    ///
+    /// # Errors
+    ///
+    /// Those of [`Index::read`] for this file.
+    pub fn read_more<R: Source>(self, alloc: Global, reader: &mut R) -> Result<Index, Fault>
+        ensures ok { (text : List ℕ) → R.left reader.old ≡ Some text → IfOk result
+            (λ index. ListsAfter Members.All text (packages_of self) (packages_of index)) }
+        ensures lines { (text : List ℕ) → R.left reader.old ≡ Some text
+            → IfOk result (λ index. lines_of index ≡ lines_of self ++ first_lines text) }
+        ensures spellings { (text : List ℕ) → R.left reader.old ≡ Some text → IfOk result
+            (λ index. spellings_of index ≡ spellings_of self ++ version_spellings text) }
+        ensures counts { IfOk result (λ index. counts_of index ≡ counts_of self
+            ++ (length (packages_of index) - length (packages_of self)) ∷ []) }
+        ensures refused { (text : List ℕ) → R.left reader.old ≡ Some text
+            → IfRefused result (λ refusal. refusal_of Doc.Packages text ≡ Some refusal) }
+        ensures reads_at_most { (text : List ℕ) → R.left reader.old ≡ Some text
+            → TakesNoMore text file_limit (R.left reader.new) }
+
+        // Whether or not the reader's bytes are known.
+        ensures fault { IfErr result (λ fault. IsReadersFault fault IsRefusalOfDocument) }
+        ensures counts_read_failure { R.failures reader.new ≡ read_failures_after
+            (R.failures reader.old) result }
+        ensures fault_iff_read_failed { ReadFaultIffFailed (R.failures reader.old)
+            (R.failures reader.new) result }
+    {
+        self.read_more_members(alloc, reader, Members::All, &mut NoKeeper)
+    }
+
+    /// Reads one more file as an index of these of its paragraphs, whose packages follow those of
+    /// the index. `keeper` is given each paragraph as by [`Index::read_members`]: one that keeps
+    /// something of earlier files keeps on.
+    ///
+    /// # Errors
+    ///
+    /// Those of [`Index::read_members`] for this file. They leave no index.
+    pub fn read_more_members<R: Source, K: Keeper>(
+        self,
+        alloc: Global,
+        reader: &mut R,
+        members: Members,
+        keeper: &mut K,
+    ) -> Result<Index, Fault>
+        ensures ok { (text : List ℕ) → R.left reader.old ≡ Some text → IfOk result
+            (λ index. ListsAfter members text (packages_of self) (packages_of index)) }
+        ensures lines { (text : List ℕ) → R.left reader.old ≡ Some text → IfOk result
+            (λ index. lines_of index ≡ lines_of self ++ member_lines members text) }
+        ensures spellings { (text : List ℕ) → R.left reader.old ≡ Some text → IfOk result
+            (λ index. spellings_of index
+            ≡ spellings_of self ++ member_spellings members text) }
+        ensures counts { IfOk result (λ index. counts_of index ≡ counts_of self
+            ++ (length (packages_of index) - length (packages_of self)) ∷ []) }
+        ensures refused { (text : List ℕ) → R.left reader.old ≡ Some text
+            → IfRefused result (λ refusal. refusal_of (doc_of members) text ≡ Some refusal) }
+        ensures reads_at_most { (text : List ℕ) → R.left reader.old ≡ Some text
+            → TakesNoMore text file_limit (R.left reader.new) }
+        ensures keeps { (text : List ℕ) (before : List Seen) → R.left reader.old ≡ Some text
+            → K.Keeps members keeper.old before → IfOk result (λ _. KeepsMembers members
+            (λ given. K.Keeps members keeper.new (before ++ given)) text) }
+
+        // Whether or not the reader's bytes are known.
+        ensures fault { IfErr result (λ fault. IsReadersFault fault IsRefusalOfDocument) }
+        ensures counts_read_failure { R.failures reader.new ≡ read_failures_after
+            (R.failures reader.old) result }
+        ensures fault_iff_read_failed { ReadFaultIffFailed (R.failures reader.old)
+            (R.failures reader.new) result }
+    {
+        Index::append_file(alloc, self.into_store(), reader, members, keeper)
+    }
+
+    /// What the index keeps, without the maps.
+    pub(crate) fn into_store(self) -> Store
+        ensures store { result ≡ self.store }
+        ensures kept { IsStore result }
+    {
+        self.store
+    }
+
+    /// Reads one more file into a store, and makes its index.
+    fn append_file<R: Source, K: Keeper>(
+        alloc: Global,
+        mut store: Store,
+        reader: &mut R,
+        members: Members,
+        keeper: &mut K,
+    ) -> Result<Index, Fault>
+        requires kept { IsStore store }
+        ensures ok { (text : List ℕ) → R.left reader.old ≡ Some text → IfOk result
+            (λ index. ListsAfter members text (listed_in store) (packages_of index)) }
+        ensures lines { (text : List ℕ) → R.left reader.old ≡ Some text → IfOk result
+            (λ index. lines_of index ≡ lines_in store ++ member_lines members text) }
+        ensures spellings { (text : List ℕ) → R.left reader.old ≡ Some text → IfOk result
+            (λ index. spellings_of index ≡ spellings_in store ++ member_spellings members text) }
+        ensures counts { IfOk result (λ index. counts_of index ≡ store.files.items
+            ++ (length (packages_of index) - length (listed_in store)) ∷ []) }
+        ensures refused { (text : List ℕ) → R.left reader.old ≡ Some text
+            → IfRefused result (λ refusal. refusal_of (doc_of members) text ≡ Some refusal) }
+        ensures reads_at_most { (text : List ℕ) → R.left reader.old ≡ Some text
+            → TakesNoMore text file_limit (R.left reader.new) }
+        ensures keeps { (text : List ℕ) (before : List Seen) → R.left reader.old ≡ Some text
+            → K.Keeps members keeper.old before → IfOk result (λ _. KeepsMembers members
+            (λ given. K.Keeps members keeper.new (before ++ given)) text) }
+        ensures fault { IfErr result (λ fault. IsReadersFault fault IsRefusalOfDocument) }
+        ensures counts_read_failure { R.failures reader.new ≡ read_failures_after
+            (R.failures reader.old) result }
+        ensures fault_iff_read_failed { ReadFaultIffFailed (R.failures reader.old)
+            (R.failures reader.new) result }
+    {
+        let before = store.records.len();
+        read_into(alloc, members, reader, keeper, &mut store)?;
+        Ok(Index::with_file(alloc, before, store)?)
+    }
+
+    /// Ends a file, before which there were so many packages, and makes the index of all packages.
+    fn with_file(alloc: Global, before: usize, mut store: Store) -> Result<Index, AllocError>
         requires { IsStore store }
         ensures packages { IfOk result (λ index. packages_of index ≡ listed_in store) }
         ensures lines { IfOk result (λ index. lines_of index ≡ lines_in store) }
         ensures spellings { IfOk result (λ index. spellings_of index ≡ spellings_in store) }
+        ensures counts { IfOk result (λ index. counts_of index
+            ≡ store.files.items ++ (length (listed_in store) - before) ∷ []) }
+    {
+        store.end_file(before)?;
+        Index::of(alloc, store)
+    }
+
+    /// The index of packages.
+    pub(crate) fn of(alloc: Global, store: Store) -> Result<Index, AllocError>
+        requires { IsStore store }
+        ensures packages { IfOk result (λ index. packages_of index ≡ listed_in store) }
+        ensures lines { IfOk result (λ index. lines_of index ≡ lines_in store) }
+        ensures spellings { IfOk result (λ index. spellings_of index ≡ spellings_in store) }
+        ensures counts { IfOk result (λ index. counts_of index ≡ store.files.items) }
     {
         let named = Names::own(alloc, &store)?;
         let provided = Names::provided(alloc, &store)?;
@@ -165,6 +296,21 @@ impl Index {
             provided,
             crowds,
         })
+    }
+
+    /// Returns how many files were read.
+    pub fn files(&self) -> usize
+        ensures { result ≡ length (counts_of self.now) }
+    {
+        self.store.files.len()
+    }
+
+    /// Returns which file the paragraph of a package is in, by the package's number: 1 for the file
+    /// that was read first. `None` if there is no such package.
+    pub fn file_of(&self, number: u64) -> Option<usize>
+        ensures { result ≡ file_of (counts_of self.now) number }
+    {
+        file_with(&self.store.files, number)
     }
 
     /// Returns the numbers of the packages with this name, as their Package (Debian Policy 5.6.7),
@@ -241,6 +387,47 @@ impl Index {
     }
 }
 
+/// Appends the packages of a file to a store.
+fn read_into<R: Source, K: Keeper>(
+    alloc: Global,
+    members: Members,
+    reader: &mut R,
+    keeper: &mut K,
+    store: &mut Store,
+) -> Result<(), Fault>
+    requires kept { IsStore store.old }
+    ensures ok { (text : List ℕ) → R.left reader.old ≡ Some text
+        → OnOk result (StoresFile members text store.old store.new) }
+    ensures kept { OnOk result (IsStore store.new) }
+    ensures files { store.new.files ≡ store.old.files }
+    ensures refused { (text : List ℕ) → R.left reader.old ≡ Some text
+        → IfRefused result (λ refusal. refusal_of (doc_of members) text ≡ Some refusal) }
+    ensures reads_at_most { (text : List ℕ) → R.left reader.old ≡ Some text
+        → TakesNoMore text file_limit (R.left reader.new) }
+    ensures keeps { (text : List ℕ) (before : List Seen) → R.left reader.old ≡ Some text
+        → K.Keeps members keeper.old before → OnOk result (KeepsMembers members
+        (λ given. K.Keeps members keeper.new (before ++ given)) text) }
+    ensures fault { IfErr result (λ fault. IsReadersFault fault IsRefusalOfDocument) }
+    ensures counts_read_failure { R.failures reader.new ≡ read_failures_after
+        (R.failures reader.old) result }
+    ensures fault_iff_read_failed { ReadFaultIffFailed (R.failures reader.old)
+        (R.failures reader.new) result }
+{
+    let mut checked = Checked::new(alloc, members.doc());
+    let mut builder = PackageBuilder::new(alloc);
+    for count in 0..u64::MAX {
+        if !checked.advance(&mut builder, reader)? {
+            return Ok(());
+        }
+        let Some(paragraph) = checked.current() else {
+            unreachable!()
+        };
+        keep_next(members, &paragraph, &builder, store, keeper)?;
+    }
+    // No file has so many paragraphs.
+    unreachable!()
+}
+
 /// Keeps the package of one more paragraph, if that is one of the members, and what the keeper
 /// keeps of it.
 fn keep_next<K: Keeper>(
@@ -250,10 +437,11 @@ fn keep_next<K: Keeper>(
     store: &mut Store,
     keeper: &mut K,
 ) -> Result<(), AllocError>
-    ensures store { (given : List Seen) (seen : Seen)
+    ensures store { (first : Store) (given : List Seen) (seen : Seen)
         → VisitsValues KeepsVisited builder.now (doc_of members) seen
-        → (passing_judged paragraph.now).seen ≡ seen → KeepsGiven members store.old given
-        → OnOk result (KeepsGiven members store.new (given ++ seen ∷ [])) }
+        → (passing_judged paragraph.now).seen ≡ seen → KeepsGiven members first store.old given
+        → OnOk result (KeepsGiven members first store.new (given ++ seen ∷ [])) }
+    ensures files { store.new.files ≡ store.old.files }
     ensures keeps { (given : List Seen) (seen : Seen)
         → VisitsValues KeepsVisited builder.now (doc_of members) seen
         → (passing_judged paragraph.now).seen ≡ seen → K.Keeps members keeper.old given
@@ -276,4 +464,22 @@ fn version_body<'a>(paragraph: &CheckedView<'a>) -> &'a [u8]
         Some(field) => field.body,
         None => b"",
     }
+}
+
+/// The place, from 1, of the file that has the package with a number, where files have so many
+/// packages.
+fn file_with(counts: &[u64], number: u64) -> Option<usize>
+    ensures { result ≡ file_of counts.now number }
+{
+    if number == 0 {
+        return None;
+    }
+    let mut rest = number;
+    for (index, &count) in counts.iter().enumerate() {
+        if rest <= count {
+            return Some(index + 1);
+        }
+        rest -= count;
+    }
+    None
 }

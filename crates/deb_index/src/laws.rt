@@ -1,10 +1,16 @@
 //! Laws of indexes. Each function does nothing; its contract is the law.
 
-ghost use Rattle.deb_index.specs.Laws.{ListsOnce, CanonicalTextLists, CanonicalTextChangesNoAnswer, InstalledPackagesAreMeant, ReasonUnlessMet, ReasonsChangeNoAnswer};
+ghost use Rattle.deb_index.specs.Laws.{ListsOnce, FurtherFileJoins, CanonicalTextLists, CanonicalTextChangesNoAnswer, InstalledPackagesAreMeant, ReasonUnlessMet, ReasonsChangeNoAnswer};
 
 /// A file lists at most one list of packages.
 pub fn a_file_lists_one_list()
     ensures { ListsOnce }
+{}
+
+/// A file in which a further one follows two newlines, if it is accepted, lists the packages of the
+/// first and then those of the further one: those of the index that reads both.
+pub fn a_further_file_joins()
+    ensures { FurtherFileJoins }
 {}
 
 /// The canonical text of a file lists the same packages as the file.

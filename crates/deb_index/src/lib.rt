@@ -44,6 +44,7 @@ mod store;
 mod verdict;
 mod why;
 mod why_lines;
+mod without;
 
 pub use answer::{Answer, Answers, Found, FoundPackages};
 pub use fault::QueryFault;

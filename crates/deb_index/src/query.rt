@@ -6,11 +6,11 @@ ghost use Rattle.deb_relation.specs.Relations.{relation_of};
 ghost use Rattle.deb_relation.specs.Tests.{some_wildcard};
 ghost use Rattle.deb_relation.specs.Texts.{relation_text};
 ghost use Rattle.deb_index.specs.Asked.{environment_asked, relation_asked};
-ghost use Rattle.deb_index.specs.Indexes.{packages_of, spellings_of};
+ghost use Rattle.deb_index.specs.Indexes.{counts_of, packages_of, spellings_of};
 ghost use Rattle.deb_index.specs.Questions.{ReportsOf, wildcard};
 ghost use Rattle.deb_index.specs.Reports.{report};
 ghost use Rattle.deb_index.specs.Reported.{report_of};
-ghost use Rattle.deb_index.specs.ShownVersions.{spellings_reported};
+ghost use Rattle.deb_index.specs.ShownVersions.{counts_reported, spellings_reported};
 
 use crate::fault::QueryFault;
 use crate::index::Index;
@@ -41,6 +41,8 @@ impl Index {
             (relation_of relation.now) (environment_of environment.now)) }
         ensures spellings { IfOk result
             (λ reported. spellings_reported reported ≡ spellings_of self.now) }
+        ensures counts { IfOk result
+            (λ reported. counts_reported reported ≡ counts_of self.now) }
         ensures wildcard { IsTrue (some_wildcard (relation_of relation.now))
             → result ≡ Err QueryFault.Wildcard }
         ensures refused { IfErr result
@@ -67,6 +69,8 @@ impl Index {
             (environment_asked question.now) result }
         ensures spellings { IfOk result
             (λ reported. spellings_reported reported ≡ spellings_of self.now) }
+        ensures counts { IfOk result
+            (λ reported. counts_reported reported ≡ counts_of self.now) }
         ensures wildcard { IsTrue (some_wildcard (relation_asked question.now))
             → result ≡ Err (Fault.Refused wildcard) }
     {

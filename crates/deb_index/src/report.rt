@@ -6,7 +6,7 @@ ghost use Rattle.deb_relation.specs.Environments.{environment_of};
 ghost use Rattle.deb_relation.specs.Meaning.{Relation as Meaning};
 ghost use Rattle.deb_index.specs.AnswerStores.{HasAnswers};
 ghost use Rattle.deb_index.specs.CanonicalTexts.{IsCanonical, OfGroup, OfRelation};
-ghost use Rattle.deb_index.specs.Indexes.{packages_of, spellings_of};
+ghost use Rattle.deb_index.specs.Indexes.{counts_of, packages_of, spellings_of};
 ghost use Rattle.deb_index.specs.Named.{AreNumbers};
 ghost use Rattle.deb_index.specs.Reports.{all_met, group_verdict, is_unmet, report};
 
@@ -30,7 +30,7 @@ pub struct Report<'a> {
 
 impl<'a> Report<'a> {
     ghost use Rattle.deb_index.specs.Reported.{answers_left, report_of};
-    ghost use Rattle.deb_index.specs.ShownVersions.{spellings_reported};
+    ghost use Rattle.deb_index.specs.ShownVersions.{counts_reported, spellings_reported};
 
     /// Returns the answer for each group, in the order of the groups' canonical texts.
     pub fn answers(&self) -> Answers<'_>
@@ -65,6 +65,8 @@ impl<'a> Report<'a> {
             (environment_of environment.now))) }
         ensures spellings { IfOk result
             (λ reported. spellings_reported reported ≡ spellings_of index.now) }
+        ensures counts { IfOk result
+            (λ reported. counts_reported reported ≡ counts_of index.now) }
     {
         let mut answers = AnswerStore::with_capacity(alloc, text.len())?;
         let mut rest = text;

@@ -1,17 +1,17 @@
 //! Writes a report as text.
 
 ghost use Rattle.std.specs.Prelude.{◌≡◌, IfErr};
-ghost use Rattle.std.specs.List.{flat_map};
+ghost use Rattle.std.specs.List.{concat, flat_map};
 ghost use Rattle.deb_base.specs.Devices.{write_failures_after, Puts, WriteFaultIffFailed};
-ghost use Rattle.deb_index.specs.ReportText.{answer_text, group_line, package_line, report_text, report_text_by, verdict_word, version_shown};
+ghost use Rattle.deb_index.specs.ReportText.{answer_text, end_pieces, group_line, package_line, package_pieces, report_text, report_text_by, verdict_word, version_shown, with_files};
 ghost use Rattle.deb_index.specs.Reported.{answer_of, answers_left, found_left, found_of, report_of};
-ghost use Rattle.deb_index.specs.ShownVersions.{shown_by, spellings_reported};
+ghost use Rattle.deb_index.specs.ShownVersions.{counts_reported, shown_by, spellings_reported};
 
 use crate::answer::{Answer, Answers, Found, FoundPackages};
 use crate::report::Report;
 use crate::shown::Versions;
 use crate::verdict::Verdict;
-use deb_base::{Fault, Sink, VersionText, put_pieces};
+use deb_base::{Fault, Sink, VersionText, put_all, put_pieces};
 use itoa::Buffer;
 
 impl Report<'_> {
@@ -55,6 +55,33 @@ impl Report<'_> {
         let versions = Versions {
             index: self.index,
             chosen: versions,
+            files: false,
+        };
+        write_answers(self.answers(), versions, out)
+    }
+
+    /// Writes the report as [`Report::write_with`] does. If the index has more than one file, the
+    /// line of a package ends with its file, such as ` 2 aa 1.0 all @1`: 1 is the file that was
+    /// read first.
+    ///
+    /// # Errors
+    ///
+    /// `Fault::Write` only: a write failed in this call, and a prefix of the report was written
+    /// before it.
+    pub fn write_with_files<W: Sink>(&self, versions: VersionText, out: &mut W) -> Result<(), Fault>
+        ensures written { Puts (W.held out.old) (W.held out.new) result
+            (report_text_by (with_files (counts_reported self.now)
+            (version_shown versions (spellings_reported self.now))) (report_of self.now)) }
+        ensures fault { IfErr result (λ fault. fault ≡ Fault.Write) }
+        ensures counts_failure { W.failures out.new ≡ write_failures_after (W.failures out.old)
+            result }
+        ensures fault_iff_write_failed { WriteFaultIffFailed (W.failures out.old)
+            (W.failures out.new) result }
+    {
+        let versions = Versions {
+            index: self.index,
+            chosen: versions,
+            files: true,
         };
         write_answers(self.answers(), versions, out)
     }
@@ -122,6 +149,7 @@ fn write_packages<W: Sink>(
 }
 
 /// Writes the line of a package.
+#[tactic(auto, using(deb_base::proofs::Writes::puts))]
 fn write_package<'a, W: Sink>(
     found: &Found<'a>,
     versions: Versions<'a>,
@@ -129,6 +157,21 @@ fn write_package<'a, W: Sink>(
 ) -> Result<(), Fault>
     ensures written { Puts (W.held out.old) (W.held out.new) result
         (package_line (shown_by versions.entry) (found_of found.now)) }
+    ensures fault { IfErr result (λ fault. fault ≡ Fault.Write) }
+    ensures counts_failure { W.failures out.new ≡ write_failures_after (W.failures out.old) result }
+{
+    write_named(found, versions, out)?;
+    write_end(versions.file(found), out)
+}
+
+/// Writes the line of a package up to its architecture.
+fn write_named<'a, W: Sink>(
+    found: &Found<'a>,
+    versions: Versions<'a>,
+    out: &mut W,
+) -> Result<(), Fault>
+    ensures written { Puts (W.held out.old) (W.held out.new) result
+        (concat (package_pieces (shown_by versions.entry) (found_of found.now))) }
     ensures fault { IfErr result (λ fault. fault ≡ Fault.Write) }
     ensures counts_failure { W.failures out.new ≡ write_failures_after (W.failures out.old) result }
 {
@@ -145,9 +188,21 @@ fn write_package<'a, W: Sink>(
             versions.of(found),
             b" ",
             package.architecture(),
-            b"\n",
         ],
     )
+}
+
+/// Writes the end of the line of a package, which names this file.
+fn write_end<W: Sink>(file: Option<usize>, out: &mut W) -> Result<(), Fault>
+    ensures written { Puts (W.held out.old) (W.held out.new) result (concat (end_pieces file)) }
+    ensures fault { IfErr result (λ fault. fault ≡ Fault.Write) }
+    ensures counts_failure { W.failures out.new ≡ write_failures_after (W.failures out.old) result }
+{
+    let Some(place) = file else {
+        return put_all(out, b"\n");
+    };
+    let mut buffer = Buffer::new();
+    put_pieces(out, &[b" @", buffer.format(place).as_bytes(), b"\n"])
 }
 
 fn verdict_word<'a>(verdict: Verdict) -> &'a [u8]

@@ -44,18 +44,24 @@ pub(crate) struct Store {
     pub(crate) bytes: Vec<u8>,
     pub(crate) entries: Vec<Entry>,
     pub(crate) records: Vec<Record>,
+    /// How many packages each file has.
+    pub(crate) files: Vec<u64>,
 }
 
 impl Store {
-    /// No package.
+    /// No package, and no file.
     pub(crate) fn new(alloc: Global) -> Store
-        ensures entries { result.entries.items ≡ [] }
-        ensures records { result.records.items ≡ [] }
+        ensures kept { IsStore result }
+        ensures listed { listed_in result ≡ [] }
+        ensures lines { lines_in result ≡ [] }
+        ensures spellings { spellings_in result ≡ [] }
+        ensures files { result.files.items ≡ [] }
     {
         Store {
             bytes: Vec::new(alloc),
             entries: Vec::new(alloc),
             records: Vec::new(alloc),
+            files: Vec::new(alloc),
         }
     }
 
@@ -71,6 +77,7 @@ impl Store {
             → SpellsVersion spelled.now p.version → IsStore self.old
             → OnOk result (KeepsOneMore self.old self.new p spelled.now) }
         ensures line { OnOk result (lines_in self.new ≡ lines_in self.old ++ line ∷ []) }
+        ensures files { self.new.files ≡ self.old.files }
     {
         let start = offset(self.bytes.len())?;
         self.bytes.extend_from_slice(kept.name())?;
@@ -98,6 +105,19 @@ impl Store {
             line: offset(line as usize)?,
             multi_arch: kept.multi_arch,
         })?;
+        Ok(())
+    }
+
+    /// Counts the packages of a file that ends here, where so many were before it.
+    pub(crate) fn end_file(&mut self, before: usize) -> Result<(), AllocError>
+        ensures files { OnOk result (self.new.files.items
+            ≡ self.old.files.items ++ (length self.old.records.items - before) ∷ []) }
+        ensures bytes { self.new.bytes ≡ self.old.bytes }
+        ensures entries { self.new.entries ≡ self.old.entries }
+        ensures records { self.new.records ≡ self.old.records }
+    {
+        let count = self.records.len().saturating_sub(before);
+        self.files.push(count as u64)?;
         Ok(())
     }
 

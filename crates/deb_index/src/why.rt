@@ -7,12 +7,12 @@ ghost use Rattle.deb_relation.specs.Tests.{some_wildcard};
 ghost use Rattle.deb_index.specs.Asked.{environment_asked, relation_asked};
 ghost use Rattle.deb_index.specs.CanonicalTexts.{IsCanonical, OfRelation};
 ghost use Rattle.deb_index.specs.Detailed.{DetailsOf, DetailsOfBy, detailed_of, details_left, details_of, first_len};
-ghost use Rattle.deb_index.specs.Indexes.{packages_of, spellings_of};
+ghost use Rattle.deb_index.specs.Indexes.{counts_of, packages_of, spellings_of};
 ghost use Rattle.deb_index.specs.Questions.{wildcard};
 ghost use Rattle.deb_index.specs.Reports.{all_met};
 ghost use Rattle.deb_index.specs.Reported.{answer_of};
-ghost use Rattle.deb_index.specs.ReportText.{version_shown};
-ghost use Rattle.deb_index.specs.ShownVersions.{shown_by, spellings_detailed, version_by};
+ghost use Rattle.deb_index.specs.ReportText.{version_shown, with_files};
+ghost use Rattle.deb_index.specs.ShownVersions.{counts_detailed, files_by, shown_by, spellings_detailed, version_by};
 ghost use Rattle.deb_index.specs.Why.{answer_in, detailed_answer_text, detailed_report_by, detailed_text, detailed_text_by};
 
 use crate::answer::{Answer, Answers};
@@ -138,19 +138,47 @@ impl Index {
             (relation_asked question.now) (environment_asked question.now) result }
         ensures spellings { IfOk result
             (λ reported. spellings_detailed reported ≡ spellings_of self.now) }
+        ensures counts { IfOk result
+            (λ reported. counts_detailed reported ≡ counts_of self.now) }
         ensures wildcard { IsTrue (some_wildcard (relation_asked question.now))
             → result ≡ Err (Fault.Refused wildcard) }
     {
-        if question.has_wildcard() {
-            return Err(refusal(Code::Wildcard));
-        }
         let versions = Versions {
             index: self,
             chosen: versions,
+            files: false,
         };
-        let text = question.text(alloc)?;
-        let report = DetailedReport::of(alloc, versions, &text, &question.environment)?;
-        Ok(report)
+        DetailedReport::answering(alloc, versions, question)
+    }
+
+    /// Reports as [`Index::ask_why_with`] does. If the index has more than one file, the lines of
+    /// packages among the reasons end with the package's file, such as
+    /// ` aa (>= 2): 3 aa 1.0 amd64 is earlier @2`.
+    ///
+    /// # Errors
+    ///
+    /// Those of `ask_why`.
+    pub fn ask_why_with_files(
+        &self,
+        alloc: Global,
+        question: &Question<'_>,
+        versions: VersionText,
+    ) -> Result<DetailedReport<'_>, Fault>
+        ensures reports { DetailsOfBy (files_by versions self.now) (packages_of self.now)
+            (relation_asked question.now) (environment_asked question.now) result }
+        ensures spellings { IfOk result
+            (λ reported. spellings_detailed reported ≡ spellings_of self.now) }
+        ensures counts { IfOk result
+            (λ reported. counts_detailed reported ≡ counts_of self.now) }
+        ensures wildcard { IsTrue (some_wildcard (relation_asked question.now))
+            → result ≡ Err (Fault.Refused wildcard) }
+    {
+        let versions = Versions {
+            index: self,
+            chosen: versions,
+            files: true,
+        };
+        DetailedReport::answering(alloc, versions, question)
     }
 }
 
@@ -223,8 +251,60 @@ impl<'a> DetailedReport<'a> {
         let versions = Versions {
             index: self.report.index,
             chosen: versions,
+            files: false,
         };
         write_all(self.answers(), versions, out)
+    }
+
+    /// Writes the report as [`DetailedReport::write_with`] does. If the index has more than one
+    /// file, the line of a package below that of a met group ends with its file, as by
+    /// [`Report::write_with_files`]. The reasons name files if [`Index::ask_why_with_files`] was
+    /// asked.
+    ///
+    /// # Errors
+    ///
+    /// `Fault::Write` only: a write failed in this call, and a prefix of the report was written
+    /// before it.
+    pub fn write_with_files<W: Sink>(&self, versions: VersionText, out: &mut W) -> Result<(), Fault>
+        ensures written { Puts (W.held out.old) (W.held out.new) result
+            (detailed_text_by (with_files (counts_detailed self.now)
+            (version_shown versions (spellings_detailed self.now))) (details_of self.now)) }
+        ensures fault { IfErr result (λ fault. fault ≡ Fault.Write) }
+        ensures counts_failure { W.failures out.new ≡ write_failures_after (W.failures out.old)
+            result }
+        ensures fault_iff_write_failed { WriteFaultIffFailed (W.failures out.old)
+            (W.failures out.new) result }
+    {
+        let versions = Versions {
+            index: self.report.index,
+            chosen: versions,
+            files: true,
+        };
+        write_all(self.answers(), versions, out)
+    }
+
+    /// Reports on a question, as [`Index::ask_why`] does.
+    fn answering(
+        alloc: Global,
+        versions: Versions<'a>,
+        question: &Question<'_>,
+    ) -> Result<DetailedReport<'a>, Fault>
+        ensures reports { DetailsOfBy (shown_by versions.entry)
+            (packages_of versions.entry.index.now) (relation_asked question.now)
+            (environment_asked question.now) result }
+        ensures spellings { IfOk result (λ reported. spellings_detailed reported
+            ≡ spellings_of versions.entry.index.now) }
+        ensures counts { IfOk result
+            (λ reported. counts_detailed reported ≡ counts_of versions.entry.index.now) }
+        ensures wildcard { IsTrue (some_wildcard (relation_asked question.now))
+            → result ≡ Err (Fault.Refused wildcard) }
+    {
+        if question.has_wildcard() {
+            return Err(refusal(Code::Wildcard));
+        }
+        let text = question.text(alloc)?;
+        let report = DetailedReport::of(alloc, versions, &text, &question.environment)?;
+        Ok(report)
     }
 
     /// Returns the answers for the groups of the relation with a canonical text, over the packages
@@ -241,6 +321,8 @@ impl<'a> DetailedReport<'a> {
             (packages_of versions.entry.index.now) m (environment_of environment.now))) }
         ensures spellings { IfOk result (λ reported. spellings_detailed reported
             ≡ spellings_of versions.entry.index.now) }
+        ensures counts { IfOk result
+            (λ reported. counts_detailed reported ≡ counts_of versions.entry.index.now) }
     {
         let index = versions.index;
         let mut answers = AnswerStore::with_capacity(alloc, text.len())?;

@@ -20,7 +20,7 @@ use crate::answer::Found;
 use crate::by_name::numbers_under;
 use crate::pieces::{next_alternative, only_alternative};
 use crate::reason::Reason;
-use crate::shown::Versions;
+use crate::shown::{Versions, file_mark, file_place};
 use crate::verdict::Verdict;
 use deb_relation::{Alternative, Env, Relation};
 use itoa::Buffer;
@@ -158,7 +158,9 @@ fn append_reason<'a>(
         return Ok(());
     };
     let mut number = Buffer::new();
+    let mut place = Buffer::new();
     let package = found.package;
+    let file = versions.file(found);
     append_pieces(
         &[
             b" ",
@@ -173,6 +175,8 @@ fn append_reason<'a>(
             package.architecture(),
             b" ",
             reason.words(),
+            file_mark(file),
+            file_place(file, &mut place),
             b"\n",
         ],
         out,

@@ -4,7 +4,7 @@
 //! Few functions make a large value, and each makes one: the proof of a function grows with the
 //! values that are alive where it may return.
 
-use deb_base::{Code, Fault, Input, Output, Refusal, VersionText};
+use deb_base::{Code, Fault, Input, Output, Refusal};
 use deb_devices::{Pieces, SIZES, Slow, Then};
 use deb_field::MultiArch;
 use deb_index::Verdict::{Ignored, Met, Unmet};
@@ -380,7 +380,13 @@ fn are_met(alloc: Global, index: &Index) -> bool {
     true
 }
 
-fn counts_met(alloc: Global, index: &Index, alternative: &[u8], first: u64, count: u64) -> bool {
+pub(crate) fn counts_met(
+    alloc: Global,
+    index: &Index,
+    alternative: &[u8],
+    first: u64,
+    count: u64,
+) -> bool {
     match met_by_name(alloc, index, alternative) {
         Some(numbers) => counts_from(&numbers, first, count),
         None => false,

@@ -5,7 +5,10 @@ use deb_base::{Code, Fault, Input, Output, Refusal, VersionText};
 use deb_devices::{Pieces, SIZES};
 use deb_index::{Index, Members};
 use deb_relation::Env;
-use deb_unmet::{Asked, OwnRequest, Request, Strength, Summary, unmet, unmet_in_itself};
+use deb_unmet::{
+    Asked, OwnQuestion, OwnRequest, Question, Request, SourcesAsked, Strength, Summary, unmet,
+    unmet_in_itself,
+};
 use std::alloc::Global;
 use std::io::Write;
 use std::test::Fail;
@@ -33,7 +36,9 @@ const SOURCE: &[u8] = b"Format: 3.0 (quilt)\nSource: ss\nVersion: 1-0\nArchitect
     Build-Depends-Indep: cc\nBuild-Depends: aa [!linux-amd64], dd [!linux-any]\n\
     Build-Depends-Arch: ee [i386]\nDepends: ff\n";
 
-const SOURCES: &[u8] = b"Package: ss\nVersion: 1\nBuild-Depends: aa\n";
+/// The second may be built for amd64.
+const SOURCES: &[u8] = b"Package: ss\nVersion: 1\nBuild-Depends: aa\n\n\
+    Package: tt\nVersion: 1\nArchitecture: i386\n linux-any\nBuild-Depends: cc\n";
 
 /// A file whose second paragraph is refused.
 const REFUSED: &[u8] = b"Package: xx\nVersion: 1\nArchitecture: all\nDepends: zz\n\n\
@@ -52,7 +57,7 @@ struct Case<'a>(
 
 const PACKAGES: Asked = Asked::Packages(Strength::Depends);
 
-const CASES: [Case<'static>; 7] = [
+const CASES: [Case<'static>; 8] = [
     Case(PACKAGES, VersionText::Canonical, FILE, Ok(2), LINES),
     Case(PACKAGES, VersionText::Spelled, FILE, Ok(2), SPELLED_LINES),
     Case(
@@ -70,14 +75,27 @@ const CASES: [Case<'static>; 7] = [
         b"unmet 1 xx 1 amd64 Recommends dd | ee\n",
     ),
     Case(
-        Asked::Source,
+        Asked::Source(SourcesAsked::All),
         VersionText::Canonical,
         SOURCE,
         Ok(1),
         b"unsure 1 ss 1 source Build-Depends dd [!linux-any]\n\
             unmet 1 ss 1 source Build-Depends-Indep cc\n",
     ),
-    Case(Asked::Sources, VersionText::Canonical, SOURCES, Ok(1), b""),
+    Case(
+        Asked::Source(SourcesAsked::OfTarget),
+        VersionText::Canonical,
+        SOURCE,
+        Ok(1),
+        b"",
+    ),
+    Case(
+        Asked::Sources(SourcesAsked::OfTarget),
+        VersionText::Canonical,
+        SOURCES,
+        Ok(2),
+        b"unsure 2 tt 1 source Build-Depends cc\n",
+    ),
     // the lines of the paragraphs before a refusal, and nothing of the refused one
     Case(
         PACKAGES,
@@ -112,20 +130,26 @@ fn is_answered_by(alloc: Global, index: &Index, case: &Case<'_>, size: usize) ->
     }
 }
 
-fn writes_lines(
+fn writes_lines<'a>(
     alloc: Global,
-    index: &Index,
-    environment: &Env,
+    index: &'a Index,
+    environment: &'a Env,
     case: &Case<'_>,
     size: usize,
 ) -> bool {
     let Case(asked, versions, file, answer, lines) = case;
     let (asked, versions) = (*asked, *versions);
     let mut held = Vec::new(alloc);
+    let unless: Option<&'a Index> = None;
+    let question = Question {
+        index,
+        unless,
+        without: &[],
+        environment,
+    };
     let found = unmet(
         alloc,
-        index,
-        environment,
+        &question,
         Request { asked, versions },
         &mut Input::new(Pieces::new(file, size, 0)),
         &mut Output::new(&mut held),
@@ -223,7 +247,7 @@ fn writes_own(alloc: Global, own: &Own, size: usize) -> bool {
     }
 }
 
-fn writes_own_lines(alloc: Global, environment: &Env, own: &Own, size: usize) -> bool {
+fn writes_own_lines<'a>(alloc: Global, environment: &'a Env, own: &Own, size: usize) -> bool {
     let Own(strength, versions, lines) = own;
     let (strength, versions) = (*strength, *versions);
     let request = OwnRequest {
@@ -231,10 +255,20 @@ fn writes_own_lines(alloc: Global, environment: &Env, own: &Own, size: usize) ->
         strength,
         versions,
     };
+    let unless: Option<&'a Index> = None;
+    let question = OwnQuestion {
+        environment,
+        unless,
+        without: &[],
+    };
+    let Ok(index) = Index::new(alloc) else {
+        return false;
+    };
     let mut held = Vec::new(alloc);
     let found = unmet_in_itself(
         alloc,
-        environment,
+        index,
+        question,
         request,
         &mut Input::new(Pieces::new(OWN, size, 0)),
         &mut Output::new(&mut held),

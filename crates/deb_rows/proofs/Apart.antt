@@ -5,16 +5,16 @@ use Rattle.std.specs.Char.{is_ascii_digit}
 use Rattle.std.proofs.lemmas.Bool.{cases_Bool, and_parts, or_parts, or_from, and_right, and_left, false≢true, eqb-true, not-true, false_from_ne_true}
 use Rattle.std.proofs.lemmas.List.{drop_at}
 use Rattle.deb_rows.specs.Cells.{begins_with_number, begins_with_space, cell_of, ends_with_colon, fits, is_cell, is_unstopped, number_goes_on, stops}
-use Rattle.deb_rows.specs.Kinds.{Piece, any_text, form_of, front_of, group_and_candidates, package_and, package_before, package_last, pieces_of}
+use Rattle.deb_rows.specs.Kinds.{Piece, any_text, file_last, form_of, front_of, group_and_candidates, package_and, package_before, package_last, phrase_and_file, phrase_last, pieces_of}
 use Rattle.deb_rows.specs.Rows.{are_cells, cells_text}
 use Rattle.deb_rows.specs.declared.cell.Class.{Class}
-use Rattle.deb_rows.specs.declared.cell.Class.TheVariants.{Number, Word, Key, Alternative, Reason, Group}
+use Rattle.deb_rows.specs.declared.cell.Class.TheVariants.{Number, Word, Key, Alternative, Reason, Group, Phrase, Place}
 use Rattle.deb_rows.specs.declared.form.Form.{Form}
 use Rattle.deb_rows.specs.declared.form.Form.TheVariants as form
 use Rattle.deb_rows.specs.declared.kind.RowKind.{RowKind}
 use Rattle.deb_rows.specs.declared.kind.RowKind.TheVariants as kind
 use Rattle.deb_rows.proofs.Ends.{Closes, cell_of-closed}
-use Rattle.deb_rows.proofs.KindFacts.{alternative_colon, group_by, group_line, key_colon, number_comma, number_line, number_space, word_excludes, word_left_out, word_needs, word_space}
+use Rattle.deb_rows.proofs.KindFacts.{alternative_colon, group_by, group_line, key_colon, number_comma, number_line, number_space, phrase_at, phrase_line, word_at, word_excludes, word_last, word_left_out, word_needs, word_space}
 
 -- ---- the kind of the line that a text begins with
 
@@ -27,14 +27,35 @@ abbrev pub rest_of : List ℕ → List ℕ
 rest_of [] = []
 rest_of (b ∷ bs) = bs
 
--- of what follows an alternative, or a package: a colon and a space, or a newline
-abbrev pub past_kind : List ℕ → RowKind
-past_kind [] = kind.Package
-past_kind (b ∷ bs) = cond (b == 10) kind.Package (cond (begins_with_number (rest_of bs)) kind.PackageReason kind.Reason)
+-- of what follows a cell, and of what follows the space after it
+abbrev pub after_cell : Class → List ℕ → List ℕ
+after_cell class text = drop (length (cell_of class text)) text
+
+abbrev pub skip : Class → List ℕ → List ℕ
+skip class text = drop 1 (after_cell class text)
+
+-- of what a line of a package ends with, and that of a reason
+abbrev pub package_tail_kind : List ℕ → RowKind
+package_tail_kind text =
+    cond (get_or (after_cell Word (skip Word (skip Word (skip Number text)))) 0 0 == 10)
+    kind.Package kind.PackageOfFile
+
+abbrev pub reason_tail_kind : List ℕ → RowKind
+reason_tail_kind text =
+    cond
+    (get_or (after_cell Phrase (skip Word (skip Word (skip Word (skip Number text))))) 0 0 == 10)
+    kind.PackageReason kind.PackageReasonOfFile
+
+-- of a text, and of what follows an alternative or a package: a colon and a space, or a newline
+abbrev pub past_kind : List ℕ → List ℕ → RowKind
+past_kind text [] = kind.Package
+past_kind text (b ∷ bs) =
+    cond (b == 10) (package_tail_kind text)
+    (cond (begins_with_number (rest_of bs)) (reason_tail_kind (rest_of bs)) kind.Reason)
 
 abbrev pub report_kind : List ℕ → RowKind
 report_kind [] = kind.Package
-report_kind (b ∷ bs) = cond (b == 109) kind.Met (cond (b == 117) kind.Unmet (cond (b == 105) kind.Ignored (past_kind (past bs))))
+report_kind (b ∷ bs) = cond (b == 109) kind.Met (cond (b == 117) kind.Unmet (cond (b == 105) kind.Ignored (past_kind bs (past bs))))
 
 abbrev pub unmet_kind : List ℕ → RowKind
 unmet_kind text = cond (get_or text 2 0 == 109) kind.UnmetGroup kind.UnsureGroup
@@ -58,13 +79,6 @@ key_kind text tail =
 
 abbrev pub explanation_kind : List ℕ → RowKind
 explanation_kind text = key_kind text (drop (length (cell_of Key text)) text)
-
--- of what follows a cell, and of what follows the space after it
-abbrev pub after_cell : Class → List ℕ → List ℕ
-after_cell class text = drop (length (cell_of class text)) text
-
-abbrev pub skip : Class → List ℕ → List ℕ
-skip class text = drop 1 (after_cell class text)
 
 abbrev pub unsure_kind : List ℕ → RowKind
 unsure_kind text =
@@ -129,6 +143,106 @@ past_cell : (class : Class) (cell next : List ℕ) → Closes class next → is_
 past_cell class cell next closes is =
     ap (λ c. drop (length c) (cell ++ next)) (cell_of-closed class cell next closes (free class cell is)) ∙ drop_at cell next (length cell) refl
 
+-- ---- what is left after some cells
+
+abbrev pub word : Piece
+word = (Word, codes " ")
+
+abbrev pub last_word : Piece
+last_word = (Word, codes "\n")
+
+skip_cell : (class : Class) (cell rest more : List ℕ) → Closes class (codes " " ++ (rest ++ more)) → is_cell class cell ≡ true
+    → skip class ((cell ++ (codes " " ++ rest)) ++ more) ≡ rest ++ more
+skip_cell class cell rest more closes is =
+    ap (skip class) (append_assoc cell (codes " " ++ rest) more) ∙ ap (drop 1) (past_cell class cell (codes " " ++ (rest ++ more)) closes is)
+
+skip_word : (pieces : List Piece) (cells : List (List ℕ)) (more : List ℕ) (are : are_cells (word ∷ pieces) cells ≡ true)
+    → skip Word (cells_text (word ∷ pieces) cells ++ more) ≡ cells_text pieces (split word pieces cells are).rest ++ more
+skip_word pieces cells more are =
+    let one = split word pieces cells are in
+    let rest = cells_text pieces one.rest in
+    ap (λ l. skip Word (cells_text (word ∷ pieces) l ++ more)) one.same ∙ skip_cell Word one.first rest more (word_space (rest ++ more)) one.is
+
+abbrev number : Piece
+number = (Number, codes " ")
+
+skip_number : (pieces : List Piece) (cells : List (List ℕ)) (more : List ℕ) (are : are_cells (number ∷ pieces) cells ≡ true)
+    → skip Number (cells_text (number ∷ pieces) cells ++ more) ≡ cells_text pieces (split number pieces cells are).rest ++ more
+skip_number pieces cells more are =
+    let one = split number pieces cells are in
+    let rest = cells_text pieces one.rest in
+    ap (λ l. skip Number (cells_text (number ∷ pieces) l ++ more)) one.same ∙ skip_cell Number one.first rest more (number_space (rest ++ more)) one.is
+
+-- what a line of a package goes on with, after the package, and after a field
+record Skipped (pieces : List Piece) (text more : List ℕ) : Type 0 where
+  rest : List (List ℕ)
+  are : are_cells pieces rest ≡ true
+  same : text ≡ cells_text pieces rest ++ more
+
+skip_package : (pieces : List Piece) (cells : List (List ℕ)) (more : List ℕ) → are_cells (package_and pieces) cells ≡ true
+    → Skipped pieces (skip Word (skip Word (skip Word (skip Number (cells_text (package_and pieces) cells ++ more))))) more
+skip_package pieces cells more e =
+    let p3 = word ∷ pieces in
+    let p2 = word ∷ p3 in
+    let p1 = word ∷ p2 in
+    let one = split number p1 cells e in
+    let two = split word p2 one.rest one.are in
+    let three = split word p3 two.rest two.are in
+    let four = split word pieces three.rest three.are in
+    record {
+      rest = four.rest;
+      are = four.are;
+      same =
+          ap (λ t. skip Word (skip Word (skip Word t))) (skip_number p1 cells more e)
+          ∙ ap (λ t. skip Word (skip Word t)) (skip_word p2 one.rest more one.are)
+          ∙ ap (skip Word) (skip_word p3 two.rest more two.are)
+          ∙ skip_word pieces three.rest more three.are;
+    }
+
+skip_field : (pieces : List Piece) (cells : List (List ℕ)) (more : List ℕ) → are_cells (package_and (word ∷ pieces)) cells ≡ true
+    → Skipped pieces (skip Word (skip Word (skip Word (skip Word (skip Number (cells_text (package_and (word ∷ pieces)) cells ++ more)))))) more
+skip_field pieces cells more e =
+    let found = skip_package (word ∷ pieces) cells more e in
+    let field = split word pieces found.rest found.are in
+    record {
+      rest = field.rest;
+      are = field.are;
+      same = ap (skip Word) found.same ∙ skip_word pieces found.rest more found.are;
+    }
+
+-- what is left after the architecture of a package
+record Behind (after : List ℕ) (pieces : List Piece) (text more : List ℕ) : Type 0 where
+  rest : List (List ℕ)
+  same : after_cell Word (skip Word (skip Word (skip Number text)))
+      ≡ after ++ (cells_text pieces rest ++ more)
+
+behind_package : (after : List ℕ) (pieces : List Piece) (cells : List (List ℕ)) (more : List ℕ)
+    → ((more : List ℕ) → Closes Word (after ++ more))
+    → are_cells (package_before after pieces) cells ≡ true
+    → Behind after pieces (cells_text (package_before after pieces) cells ++ more) more
+behind_package after pieces cells more closes e =
+    let last : Piece = (Word, after) in
+    let p3 = last ∷ pieces in
+    let p2 = word ∷ p3 in
+    let p1 = word ∷ p2 in
+    let one = split number p1 cells e in
+    let two = split word p2 one.rest one.are in
+    let three = split word p3 two.rest two.are in
+    let four = split last pieces three.rest three.are in
+    let line = cells_text pieces four.rest in
+    record {
+      rest = four.rest;
+      same =
+          ap (λ t. after_cell Word (skip Word (skip Word t))) (skip_number p1 cells more e)
+          ∙ ap (λ t. after_cell Word (skip Word t)) (skip_word p2 one.rest more one.are)
+          ∙ ap (after_cell Word) (skip_word p3 two.rest more two.are)
+          ∙ ap (λ l. after_cell Word (cells_text p3 l ++ more)) four.same
+          ∙ ap (after_cell Word)
+          (append_assoc four.first (after ++ line) more
+          ∙ ap (λ l. four.first ++ l) (append_assoc after line more))
+          ∙ past_cell Word four.first (after ++ (line ++ more)) (closes (line ++ more)) four.is;
+    }
+
 -- ---- a package
 
 past-drop : (text : List ℕ) → past text ≡ drop (length (cell_of Alternative text)) text
@@ -187,31 +301,72 @@ past_word_cell : (word rest more : List ℕ) → is_cell Word word ≡ true → 
 past_word_cell word rest more is =
     ap past (append_assoc word rest more) ∙ past_word word (rest ++ more) (free Word word is) (not-true (ends_with_colon word) (fitting Word word is))
 
-abbrev pub word : Piece
-word = (Word, codes " ")
+-- what a package ends with
+record PastPackage (after : List ℕ) (pieces : List Piece) (text more : List ℕ) : Type 0 where
+  rest : List (List ℕ)
+  are : are_cells pieces rest ≡ true
+  same : past text ≡ past ((after ++ cells_text pieces rest) ++ more)
 
-abbrev pub last_word : Piece
-last_word = (Word, codes "\n")
-
-package_kind : (cells : List (List ℕ)) (more : List ℕ) → are_cells package_last cells ≡ true → past_kind (past (cells_text package_last cells ++ more)) ≡ kind.Package
-package_kind cells more e =
-    let number = split (Number, codes " ") (word ∷ word ∷ last_word ∷ []) cells e in
-    let name = split word (word ∷ last_word ∷ []) number.rest number.are in
-    let version = split word (last_word ∷ []) name.rest name.are in
-    let architecture = split last_word [] version.rest version.are in
-    let n = number.first in
-    let a = name.first in
-    let b = version.first in
-    let c = architecture.first in
-    let same : cells ≡ n ∷ a ∷ b ∷ c ∷ [] =
-    number.same ∙ ap (λ l. n ∷ l) (name.same ∙ ap (λ l. a ∷ l) (version.same ∙ ap (λ l. b ∷ l) (architecture.same ∙ ap (λ l. c ∷ l) (none_left architecture.rest architecture.are)))) in
-    let line3 = c ++ codes "\n" in
+past_package : (after : List ℕ) (pieces : List Piece) (cells : List (List ℕ)) (more : List ℕ)
+    → are_cells (package_before after pieces) cells ≡ true
+    → PastPackage after pieces (cells_text (package_before after pieces) cells ++ more) more
+past_package after pieces cells more e =
+    let last : Piece = (Word, after) in
+    let one = split number (word ∷ word ∷ last ∷ pieces) cells e in
+    let two = split word (word ∷ last ∷ pieces) one.rest one.are in
+    let three = split word (last ∷ pieces) two.rest two.are in
+    let four = split last pieces three.rest three.are in
+    let n = one.first in
+    let a = two.first in
+    let b = three.first in
+    let c = four.first in
+    let same : cells ≡ n ∷ a ∷ b ∷ c ∷ four.rest =
+    one.same ∙ ap (λ l. n ∷ l) (two.same ∙ ap (λ l. a ∷ l) (three.same ∙ ap (λ l. b ∷ l) four.same)) in
+    let line4 = after ++ cells_text pieces four.rest in
+    let line3 = c ++ line4 in
     let line2 = b ++ (codes " " ++ line3) in
     let line1 = a ++ (codes " " ++ line2) in
-    let at_end : past ((n ++ (codes " " ++ line1)) ++ more) ≡ codes "\n" ++ more =
-    past_number_cell n (codes " " ++ line1) more number.is ∙ past_word_cell a (codes " " ++ line2) more name.is ∙ past_word_cell b (codes " " ++ line3) more version.is
-    ∙ past_word_cell c (codes "\n") more architecture.is in
-    ap (λ l. past_kind (past (cells_text package_last l ++ more))) same ∙ ap past_kind at_end
+    record {
+      rest = four.rest;
+      are = four.are;
+      same =
+          ap (λ l. past (cells_text (package_before after pieces) l ++ more)) same
+          ∙ past_number_cell n (codes " " ++ line1) more one.is
+          ∙ past_word_cell a (codes " " ++ line2) more two.is
+          ∙ past_word_cell b (codes " " ++ line3) more three.is
+          ∙ past_word_cell c line4 more four.is;
+    }
+
+package_kind : (cells : List (List ℕ)) (more : List ℕ) → are_cells package_last cells ≡ true
+    → past_kind (cells_text package_last cells ++ more) (past (cells_text package_last cells ++ more)) ≡ kind.Package
+package_kind cells more e =
+    let text = cells_text package_last cells ++ more in
+    ap (past_kind text) (past_package (codes "\n") [] cells more e).same
+    ∙ ap (λ t. cond (get_or t 0 0 == 10) kind.Package kind.PackageOfFile)
+    (behind_package (codes "\n") [] cells more word_last e).same
+
+-- the place of a file is a number
+place_free : (place : List ℕ) → is_unstopped Place place ≡ is_unstopped Number place
+place_free [] = refl
+place_free (b ∷ bs) = ap (λ t. cond (not (is_ascii_digit b)) false t) (place_free bs)
+
+past_file : (cells : List (List ℕ)) (more : List ℕ) → are_cells file_last cells ≡ true
+    → past ((codes " @" ++ cells_text file_last cells) ++ more) ≡ codes "\n" ++ more
+past_file cells more e =
+    let one = split (Place, codes "\n") [] cells e in
+    let place = one.first in
+    ap (λ l. past (cells_text file_last l ++ more)) one.same
+    ∙ ap past (append_assoc place (codes "\n") more)
+    ∙ past_number place (codes "\n" ++ more) (sym (place_free place) ∙ free Place place one.is)
+
+package_of_file_kind : (cells : List (List ℕ)) (more : List ℕ) → are_cells (package_before (codes " @") file_last) cells ≡ true
+    → past_kind (cells_text (package_before (codes " @") file_last) cells ++ more) (past (cells_text (package_before (codes " @") file_last) cells ++ more)) ≡ kind.PackageOfFile
+package_of_file_kind cells more e =
+    let text = cells_text (package_before (codes " @") file_last) cells ++ more in
+    let ended = past_package (codes " @") file_last cells more e in
+    ap (past_kind text) (ended.same ∙ past_file ended.rest more ended.are)
+    ∙ ap (λ t. cond (get_or t 0 0 == 10) kind.Package kind.PackageOfFile)
+    (behind_package (codes " @") file_last cells more word_at e).same
 
 -- ---- a reason
 
@@ -239,7 +394,7 @@ number_begins (b ∷ bs) more is =
     ap (λ t. cond t (number_goes_on true (bs ++ (codes " " ++ more))) false) first.0 ∙ digits_end bs more first.1
 
 reason_kind : (cells : List (List ℕ)) (more : List ℕ) → are_cells (pieces_of kind.Reason) cells ≡ true
-    → past_kind (past (cells_text (pieces_of kind.Reason) cells ++ more)) ≡ kind.Reason
+    → past_kind (cells_text (pieces_of kind.Reason) cells ++ more) (past (cells_text (pieces_of kind.Reason) cells ++ more)) ≡ kind.Reason
 reason_kind cells more e =
     let alternative = split (Alternative, codes ": ") ((Reason, codes "\n") ∷ []) cells e in
     let reason = split (Reason, codes "\n") [] alternative.rest alternative.are in
@@ -248,25 +403,79 @@ reason_kind cells more e =
     let same : cells ≡ a ∷ r ∷ [] = alternative.same ∙ ap (λ l. a ∷ l) (reason.same ∙ ap (λ l. r ∷ l) (none_left reason.rest reason.are)) in
     let plain : begins_with_number ((r ++ codes "\n") ++ more) ≡ false =
     ap begins_with_number (append_assoc r (codes "\n") more) ∙ number_ends false r more ∙ not-true (begins_with_number r) (fitting Reason r reason.is) in
-    ap (λ l. past_kind (past (cells_text (pieces_of kind.Reason) l ++ more))) same
-    ∙ ap past_kind (past_alternative a (r ++ codes "\n") more alternative.is)
-    ∙ ap (λ t. cond t kind.PackageReason kind.Reason) plain
+    let tail = (r ++ codes "\n") ++ more in
+    ap (past_kind (cells_text (pieces_of kind.Reason) cells ++ more))
+    (ap (λ l. past (cells_text (pieces_of kind.Reason) l ++ more)) same ∙ past_alternative a (r ++ codes "\n") more alternative.is)
+    ∙ ap (λ t. cond t (reason_tail_kind tail) kind.Reason) plain
+
+-- what a reason for a package goes on with, after the alternative
+record PastReason (pieces : List Piece) (text more : List ℕ) : Type 0 where
+  rest : List (List ℕ)
+  are : are_cells (package_and pieces) rest ≡ true
+  same : past_kind text (past text) ≡ reason_tail_kind (cells_text (package_and pieces) rest ++ more)
+
+past_reason : (pieces : List Piece) (cells : List (List ℕ)) (more : List ℕ)
+    → are_cells ((Alternative, codes ": ") ∷ package_and pieces) cells ≡ true
+    → PastReason pieces (cells_text ((Alternative, codes ": ") ∷ package_and pieces) cells ++ more) more
+past_reason pieces cells more e =
+    let alternative = split (Alternative, codes ": ") (package_and pieces) cells e in
+    let words = word ∷ word ∷ word ∷ pieces in
+    let one = split number words alternative.rest alternative.are in
+    let a = alternative.first in
+    let n = one.first in
+    let line = cells_text words one.rest in
+    let rest = cells_text (package_and pieces) alternative.rest in
+    let text = cells_text ((Alternative, codes ": ") ∷ package_and pieces) cells ++ more in
+    let counted : begins_with_number (rest ++ more) ≡ true =
+    ap (λ l. begins_with_number (cells_text (package_and pieces) l ++ more)) one.same
+    ∙ ap begins_with_number (append_assoc n (codes " " ++ line) more) ∙ number_begins n (line ++ more) one.is in
+    record {
+      rest = alternative.rest;
+      are = alternative.are;
+      same =
+          ap (past_kind text)
+          (ap (λ l. past (cells_text ((Alternative, codes ": ") ∷ package_and pieces) l ++ more)) alternative.same
+          ∙ past_alternative a rest more alternative.is)
+          ∙ ap (λ t. cond t (reason_tail_kind (rest ++ more)) kind.Reason) counted;
+    }
+
+-- what is left after a reason
+record Said (after : List ℕ) (text : List ℕ) : Type 0 where
+  rest : List ℕ
+  same : reason_tail_kind text ≡ cond (get_or (after ++ rest) 0 0 == 10) kind.PackageReason kind.PackageReasonOfFile
+
+after_reason : (after : List ℕ) (pieces : List Piece) (cells : List (List ℕ)) (more : List ℕ)
+    → ((more : List ℕ) → Closes Phrase (after ++ more))
+    → are_cells (package_and ((Phrase, after) ∷ pieces)) cells ≡ true
+    → Said after (cells_text (package_and ((Phrase, after) ∷ pieces)) cells ++ more)
+after_reason after pieces cells more closes e =
+    let last : Piece = (Phrase, after) in
+    let skipped = skip_package (last ∷ pieces) cells more e in
+    let reason = split last pieces skipped.rest skipped.are in
+    let line = cells_text pieces reason.rest in
+    record {
+      rest = line ++ more;
+      same =
+          ap (λ t. cond (get_or (after_cell Phrase t) 0 0 == 10) kind.PackageReason kind.PackageReasonOfFile)
+          (skipped.same ∙ ap (λ l. cells_text (last ∷ pieces) l ++ more) reason.same
+          ∙ append_assoc reason.first (after ++ line) more
+          ∙ ap (λ l. reason.first ++ l) (append_assoc after line more))
+          ∙ ap (λ t. cond (get_or t 0 0 == 10) kind.PackageReason kind.PackageReasonOfFile)
+          (past_cell Phrase reason.first (after ++ (line ++ more)) (closes (line ++ more)) reason.is);
+    }
 
 package_reason_kind : (cells : List (List ℕ)) (more : List ℕ) → are_cells (pieces_of kind.PackageReason) cells ≡ true
-    → past_kind (past (cells_text (pieces_of kind.PackageReason) cells ++ more)) ≡ kind.PackageReason
+    → past_kind (cells_text (pieces_of kind.PackageReason) cells ++ more) (past (cells_text (pieces_of kind.PackageReason) cells ++ more)) ≡ kind.PackageReason
 package_reason_kind cells more e =
-    let pieces = word ∷ word ∷ word ∷ any_text in
-    let alternative = split (Alternative, codes ": ") (package_and any_text) cells e in
-    let number = split (Number, codes " ") pieces alternative.rest alternative.are in
-    let a = alternative.first in
-    let n = number.first in
-    let line = cells_text pieces number.rest in
-    let same : cells ≡ a ∷ n ∷ number.rest = alternative.same ∙ ap (λ l. a ∷ l) number.same in
-    let counted : begins_with_number ((n ++ (codes " " ++ line)) ++ more) ≡ true =
-    ap begins_with_number (append_assoc n (codes " " ++ line) more) ∙ number_begins n (line ++ more) number.is in
-    ap (λ l. past_kind (past (cells_text (pieces_of kind.PackageReason) l ++ more))) same
-    ∙ ap past_kind (past_alternative a (n ++ (codes " " ++ line)) more alternative.is)
-    ∙ ap (λ t. cond t kind.PackageReason kind.Reason) counted
+    let ended = past_reason phrase_last cells more e in
+    ended.same ∙ (after_reason (codes "\n") [] ended.rest more phrase_line ended.are).same
+
+reason_of_file_kind : (cells : List (List ℕ)) (more : List ℕ) → are_cells (pieces_of kind.PackageReasonOfFile) cells ≡ true
+    → past_kind (cells_text (pieces_of kind.PackageReasonOfFile) cells ++ more) (past (cells_text (pieces_of kind.PackageReasonOfFile) cells ++ more))
+    ≡ kind.PackageReasonOfFile
+reason_of_file_kind cells more e =
+    let ended = past_reason phrase_and_file cells more e in
+    ended.same ∙ (after_reason (codes " @") file_last ended.rest more phrase_at ended.are).same
 
 -- ---- an explanation
 
@@ -307,57 +516,6 @@ summary_line_kind cells more e =
 
 -- ---- a set of packages
 
-skip_cell : (class : Class) (cell rest more : List ℕ) → Closes class (codes " " ++ (rest ++ more)) → is_cell class cell ≡ true
-    → skip class ((cell ++ (codes " " ++ rest)) ++ more) ≡ rest ++ more
-skip_cell class cell rest more closes is =
-    ap (skip class) (append_assoc cell (codes " " ++ rest) more) ∙ ap (drop 1) (past_cell class cell (codes " " ++ (rest ++ more)) closes is)
-
-skip_word : (pieces : List Piece) (cells : List (List ℕ)) (more : List ℕ) (are : are_cells (word ∷ pieces) cells ≡ true)
-    → skip Word (cells_text (word ∷ pieces) cells ++ more) ≡ cells_text pieces (split word pieces cells are).rest ++ more
-skip_word pieces cells more are =
-    let one = split word pieces cells are in
-    let rest = cells_text pieces one.rest in
-    ap (λ l. skip Word (cells_text (word ∷ pieces) l ++ more)) one.same ∙ skip_cell Word one.first rest more (word_space (rest ++ more)) one.is
-
-abbrev number : Piece
-number = (Number, codes " ")
-
-skip_number : (pieces : List Piece) (cells : List (List ℕ)) (more : List ℕ) (are : are_cells (number ∷ pieces) cells ≡ true)
-    → skip Number (cells_text (number ∷ pieces) cells ++ more) ≡ cells_text pieces (split number pieces cells are).rest ++ more
-skip_number pieces cells more are =
-    let one = split number pieces cells are in
-    let rest = cells_text pieces one.rest in
-    ap (λ l. skip Number (cells_text (number ∷ pieces) l ++ more)) one.same ∙ skip_cell Number one.first rest more (number_space (rest ++ more)) one.is
-
--- what a line of a package goes on with, after the field
-record Skipped (pieces : List Piece) (text : List ℕ) (more : List ℕ) : Type 0 where
-  rest : List (List ℕ)
-  are : are_cells pieces rest ≡ true
-  same : skip Word (skip Word (skip Word (skip Word (skip Number text)))) ≡ cells_text pieces rest ++ more
-
-skip_field : (pieces : List Piece) (cells : List (List ℕ)) (more : List ℕ) → are_cells (package_and (word ∷ pieces)) cells ≡ true
-    → Skipped pieces (cells_text (package_and (word ∷ pieces)) cells ++ more) more
-skip_field pieces cells more e =
-    let p4 = word ∷ pieces in
-    let p3 = word ∷ p4 in
-    let p2 = word ∷ p3 in
-    let p1 = word ∷ p2 in
-    let one = split number p1 cells e in
-    let two = split word p2 one.rest one.are in
-    let three = split word p3 two.rest two.are in
-    let four = split word p4 three.rest three.are in
-    let five = split word pieces four.rest four.are in
-    record {
-      rest = five.rest;
-      are = five.are;
-      same =
-          ap (λ t. skip Word (skip Word (skip Word (skip Word t)))) (skip_number p1 cells more e)
-          ∙ ap (λ t. skip Word (skip Word (skip Word t))) (skip_word p2 one.rest more one.are)
-          ∙ ap (λ t. skip Word (skip Word t)) (skip_word p3 two.rest more two.are)
-          ∙ ap (skip Word) (skip_word p4 three.rest more three.are)
-          ∙ skip_word pieces four.rest more four.are;
-    }
-
 unsure_need_kind : (cells : List (List ℕ)) (more : List ℕ) → are_cells (pieces_of kind.UnsureNeed) cells ≡ true
     → unsure_kind (cells_text (pieces_of kind.UnsureNeed) cells ++ more) ≡ kind.UnsureNeed
 unsure_need_kind cells more e =
@@ -383,39 +541,6 @@ unsure_conflict_kind cells more e =
     (past_cell Group g (codes " by " ++ (line ++ more)) (group_by (word ∷ word ∷ last_word ∷ []) group.rest more group.are) group.is)
 
 -- ---- why a package can't be installed
-
--- what is left after the architecture of a package
-record Behind (after : List ℕ) (pieces : List Piece) (text more : List ℕ) : Type 0 where
-  rest : List (List ℕ)
-  same : after_cell Word (skip Word (skip Word (skip Number text)))
-      ≡ after ++ (cells_text pieces rest ++ more)
-
-behind_package : (after : List ℕ) (pieces : List Piece) (cells : List (List ℕ)) (more : List ℕ)
-    → ((more : List ℕ) → Closes Word (after ++ more))
-    → are_cells (package_before after pieces) cells ≡ true
-    → Behind after pieces (cells_text (package_before after pieces) cells ++ more) more
-behind_package after pieces cells more closes e =
-    let last : Piece = (Word, after) in
-    let p3 = last ∷ pieces in
-    let p2 = word ∷ p3 in
-    let p1 = word ∷ p2 in
-    let one = split number p1 cells e in
-    let two = split word p2 one.rest one.are in
-    let three = split word p3 two.rest two.are in
-    let four = split last pieces three.rest three.are in
-    let line = cells_text pieces four.rest in
-    record {
-      rest = four.rest;
-      same =
-          ap (λ t. after_cell Word (skip Word (skip Word t))) (skip_number p1 cells more e)
-          ∙ ap (λ t. after_cell Word (skip Word t)) (skip_word p2 one.rest more one.are)
-          ∙ ap (after_cell Word) (skip_word p3 two.rest more two.are)
-          ∙ ap (λ l. after_cell Word (cells_text p3 l ++ more)) four.same
-          ∙ ap (after_cell Word)
-          (append_assoc four.first (after ++ line) more
-          ∙ ap (λ l. four.first ++ l) (append_assoc after line more))
-          ∙ past_cell Word four.first (after ++ (line ++ more)) (closes (line ++ more)) four.is;
-    }
 
 need_kind : (cells : List (List ℕ)) (more : List ℕ)
     → are_cells (pieces_of kind.Need) cells ≡ true
@@ -472,3 +597,5 @@ line_kind kind.Undecided cells more e = refl
 line_kind kind.Need cells more e = need_kind cells more e
 line_kind kind.Exclusion cells more e = exclusion_kind cells more e
 line_kind kind.LeftOut cells more e = left_out_kind cells more e
+line_kind kind.PackageOfFile cells more e = package_of_file_kind cells more e
+line_kind kind.PackageReasonOfFile cells more e = reason_of_file_kind cells more e

@@ -6,10 +6,10 @@ use Rattle.std.proofs.lemmas.Bool.Decides.{Decides-eqb}
 use Rattle.std.specs.Option.{option_map_or, is_some}
 use Rattle.std.proofs.lemmas.List.{drop_at, drop-drop}
 use Rattle.std.proofs.lemmas.Slice.Eq.{starts_is}
-use Rattle.deb_rows.specs.Cells.{begins_with_by, begins_with_digit_after, begins_with_space, stops, cell_of, is_unstopped, is_cell, fits}
+use Rattle.deb_rows.specs.Cells.{begins_with_at, begins_with_by, begins_with_digit_after, begins_with_space, stops, cell_of, is_unstopped, is_cell, fits}
 use Rattle.deb_rows.specs.Reads.{begins_with, read_cell}
 use Rattle.deb_rows.specs.declared.cell.Class.{Class}
-use Rattle.deb_rows.specs.declared.cell.Class.TheVariants.{Number, Word, Key, Alternative, Reason, Line, Group}
+use Rattle.deb_rows.specs.declared.cell.Class.TheVariants.{Number, Word, Key, Alternative, Reason, Line, Group, Phrase, Place}
 use Rattle.deb_rows.proofs.Cells.{cell_of-append-drop}
 
 -- a text that ends a cell, and with which no byte ends it that doesn't at the end of a text
@@ -59,6 +59,11 @@ stops_before_group b bs more e =
       | inr h ↦ and_left (b == 32) (begins_with_by bs) h
     ])
 
+stops_before_phrase : (b : ℕ) (bs more : List ℕ) → stops Phrase b (bs ++ more) ≡ false → stops Phrase b bs ≡ false
+stops_before_phrase b [] more e =
+    or_from (b == 10) (b == 32 && false) (or_parts (b == 10) (b == 32 && begins_with_at more) e).0 (and_right (b == 32) false refl)
+stops_before_phrase b (c ∷ cs) more e = e
+
 stops_before : (class : Class) (b : ℕ) (bs more : List ℕ) → stops class b (bs ++ more) ≡ false → stops class b bs ≡ false
 stops_before Number b bs more e = e
 stops_before Word b bs more e = e
@@ -67,6 +72,8 @@ stops_before Alternative b bs more e = stops_before_alternative b bs more e
 stops_before Reason b bs more e = e
 stops_before Line b bs more e = e
 stops_before Group b bs more e = stops_before_group b bs more e
+stops_before Phrase b bs more e = stops_before_phrase b bs more e
+stops_before Place b bs more e = e
 
 stops-before_end : (class : Class) (b : ℕ) (bs : List ℕ) → stops class b bs ≡ false → stops class b (cell_of class bs) ≡ false
 stops-before_end class b bs e =

@@ -4,10 +4,10 @@ use Rattle.std.specs.Prelude.{◌==◌, ◌&&◌, ◌||◌, codes}
 use Rattle.std.specs.Char.{is_ascii_digit}
 use Rattle.std.proofs.lemmas.Bool.{cases_Bool, and_parts, false≢true}
 use Rattle.deb_rows.specs.Cells.{begins_with_by, cell_of, is_cell, is_unstopped, stops}
-use Rattle.deb_rows.specs.Kinds.{Piece, any_text, field_and_excluded, field_and_group, form_of, group_and_candidates, kinds_of, package_and, package_before, package_last, package_twice, pieces_of, word_and_text}
+use Rattle.deb_rows.specs.Kinds.{Piece, any_text, field_and_excluded, field_and_group, file_last, form_of, group_and_candidates, kinds_of, package_and, package_before, package_last, package_twice, phrase_and_file, phrase_last, pieces_of, word_and_text}
 use Rattle.deb_rows.specs.Rows.{are_cells, cells_text}
 use Rattle.deb_rows.specs.declared.cell.Class.{Class}
-use Rattle.deb_rows.specs.declared.cell.Class.TheVariants.{Number, Word, Key, Alternative, Reason, Line, Group}
+use Rattle.deb_rows.specs.declared.cell.Class.TheVariants.{Number, Word, Key, Alternative, Reason, Line, Group, Phrase, Place}
 use Rattle.deb_rows.specs.declared.form.Form.{Form}
 use Rattle.deb_rows.specs.declared.form.Form.TheVariants as form
 use Rattle.deb_rows.specs.declared.kind.RowKind.{RowKind}
@@ -30,8 +30,8 @@ number_refused more = record { empty = refl; same = λ b bs. refl }
 pub word_space : (more : List ℕ) → Closes Word (codes " " ++ more)
 word_space more = record { empty = refl; same = λ b bs. refl }
 
-word_line : (more : List ℕ) → Closes Word (codes "\n" ++ more)
-word_line more = record { empty = refl; same = λ b bs. refl }
+pub word_last : (more : List ℕ) → Closes Word (codes "\n" ++ more)
+word_last more = record { empty = refl; same = λ b bs. refl }
 
 pub word_needs : (more : List ℕ) → Closes Word (codes " needs " ++ more)
 word_needs more = record { empty = refl; same = λ b bs. refl }
@@ -41,6 +41,26 @@ word_excludes more = record { empty = refl; same = λ b bs. refl }
 
 pub word_left_out : (more : List ℕ) → Closes Word (codes " is left out\n" ++ more)
 word_left_out more = record { empty = refl; same = λ b bs. refl }
+
+pub word_at : (more : List ℕ) → Closes Word (codes " @" ++ more)
+word_at more = record { empty = refl; same = λ b bs. refl }
+
+place_line : (more : List ℕ) → Closes Place (codes "\n" ++ more)
+place_line more = record { empty = refl; same = λ b bs. refl }
+
+phrase_same_line : (more : List ℕ) (b : ℕ) (bs : List ℕ) → stops Phrase b (bs ++ (codes "\n" ++ more)) ≡ stops Phrase b bs
+phrase_same_line more b [] = refl
+phrase_same_line more b (c ∷ cs) = refl
+
+pub phrase_line : (more : List ℕ) → Closes Phrase (codes "\n" ++ more)
+phrase_line more = record { empty = refl; same = phrase_same_line more }
+
+phrase_same_at : (more : List ℕ) (b : ℕ) (bs : List ℕ) → stops Phrase b (bs ++ (codes " @" ++ more)) ≡ stops Phrase b bs
+phrase_same_at more b [] = refl
+phrase_same_at more b (c ∷ cs) = refl
+
+pub phrase_at : (more : List ℕ) → Closes Phrase (codes " @" ++ more)
+phrase_at more = record { empty = refl; same = phrase_same_at more }
 
 word_with : (more : List ℕ) → Closes Word (codes " with " ++ more)
 word_with more = record { empty = refl; same = λ b bs. refl }
@@ -120,7 +140,7 @@ text_closes : Close any_text
 text_closes = (always Line (codes "\n") [] text_line, tt)
 
 last_closes : Close ((Word, codes "\n") ∷ [])
-last_closes = (always Word (codes "\n") [] word_line, tt)
+last_closes = (always Word (codes "\n") [] word_last, tt)
 
 package_closes : Close package_last
 package_closes =
@@ -162,6 +182,15 @@ before_closes after pieces closes close =
     (word_first ((Word, codes " ") ∷ last ∷ pieces)
     (word_first (last ∷ pieces) (always Word after pieces closes, close)))
 
+phrase_closes : Close phrase_last
+phrase_closes = (always Phrase (codes "\n") [] phrase_line, tt)
+
+file_closes : Close file_last
+file_closes = (always Place (codes "\n") [] place_line, tt)
+
+phrase_and_file_close : Close phrase_and_file
+phrase_and_file_close = (always Phrase (codes " @") file_last phrase_at, file_closes)
+
 candidates_close : Close group_and_candidates
 candidates_close = (always Alternative (codes ": ") any_text alternative_colon, text_closes)
 
@@ -172,7 +201,7 @@ cells_close kind.Ignored = text_closes
 cells_close kind.Package = package_closes
 cells_close kind.Reason =
     (always Alternative (codes ": ") ((Reason, codes "\n") ∷ []) alternative_colon, (always Reason (codes "\n") [] reason_line, tt))
-cells_close kind.PackageReason = (always Alternative (codes ": ") (package_and any_text) alternative_colon, package_and_closes any_text text_closes)
+cells_close kind.PackageReason = (always Alternative (codes ": ") (package_and phrase_last) alternative_colon, package_and_closes phrase_last phrase_closes)
 cells_close kind.UnmetGroup = package_and_closes word_and_text word_and_text_closes
 cells_close kind.UnsureGroup = package_and_closes word_and_text word_and_text_closes
 cells_close kind.Removed = package_closes
@@ -202,6 +231,9 @@ cells_close kind.Need =
 cells_close kind.Exclusion =
     before_closes (codes " excludes ") package_last word_excludes package_closes
 cells_close kind.LeftOut = before_closes (codes " is left out\n") [] word_left_out tt
+cells_close kind.PackageOfFile = before_closes (codes " @") file_last word_at file_closes
+cells_close kind.PackageReasonOfFile =
+    (always Alternative (codes ": ") (package_and phrase_and_file) alternative_colon, package_and_closes phrase_and_file phrase_and_file_close)
 
 -- a kind is one of these
 abbrev pub IsAmong : RowKind → List RowKind → Type 0
@@ -241,6 +273,8 @@ is_among kind.Undecided = inr (inr (inl refl))
 is_among kind.Need = inr (inr (inr (inl refl)))
 is_among kind.Exclusion = inr (inr (inr (inr (inl refl))))
 is_among kind.LeftOut = inr (inr (inr (inr (inr (inl refl)))))
+is_among kind.PackageOfFile = inr (inr (inr (inr (inr (inr (inl refl))))))
+is_among kind.PackageReasonOfFile = inr (inr (inr (inr (inr (inr (inr (inl refl)))))))
 
 -- these kinds are of a form
 abbrev pub AreOf : Form → List RowKind → Type 0
@@ -248,7 +282,7 @@ AreOf form [] = Unit {0}
 AreOf form (kind ∷ kinds) = (form_of kind ≡ form) × AreOf form kinds
 
 pub are_of_form : (form : Form) → AreOf form (kinds_of form)
-are_of_form form.Report = (refl, (refl, (refl, (refl, (refl, (refl, tt))))))
+are_of_form form.Report = (refl, (refl, (refl, (refl, (refl, (refl, (refl, (refl, tt))))))))
 are_of_form form.UnmetLines = (refl, (refl, tt))
 are_of_form form.DiffLines = (refl, (refl, (refl, (refl, (refl, (refl, (refl, tt)))))))
 are_of_form form.Explanation = (refl, (refl, (refl, (refl, (refl, tt)))))

@@ -81,6 +81,8 @@ few_pieces kind.Undecided = omega arith
 few_pieces kind.Need = omega arith
 few_pieces kind.Exclusion = omega arith
 few_pieces kind.LeftOut = omega arith
+few_pieces kind.PackageOfFile = omega arith
+few_pieces kind.PackageReasonOfFile = omega arith
 
 entry_names : (form : Form) (text : List ℕ) (row : RowText) (start : ℕ) (more : List ℕ) → IsRow form row → drop start text ≡ row_line row ++ more
     → cells_in text (row_at start row) ≡ row.cells

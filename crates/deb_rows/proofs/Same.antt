@@ -106,6 +106,8 @@ line_bytes kind.Undecided cells e = refl
 line_bytes kind.Need cells e = refl
 line_bytes kind.Exclusion cells e = refl
 line_bytes kind.LeftOut cells e = refl
+line_bytes kind.PackageOfFile cells e = refl
+line_bytes kind.PackageReasonOfFile cells e = refl
 
 some_bytes : (text : List ℕ) → has_bytes text ≡ true → 1 ≤ length text
 some_bytes [] e = absurd (false≢true e)

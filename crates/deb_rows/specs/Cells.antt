@@ -3,12 +3,17 @@
 use Rattle.std.specs.Prelude.{◌≡◌, ℕ, ◌==◌, ◌&&◌, ◌||◌, Bool, true, false, not, cond, List, [], ◌∷◌, map, codes, refl}
 use Rattle.std.specs.Char.{is_ascii_digit, is_ascii_lowercase}
 use Rattle.deb_rows.specs.declared.cell.Class.{Class}
-use Rattle.deb_rows.specs.declared.cell.Class.TheVariants.{Number, Word, Key, Alternative, Reason, Line, Group}
+use Rattle.deb_rows.specs.declared.cell.Class.TheVariants.{Number, Word, Key, Alternative, Reason, Line, Group, Phrase, Place}
 
 -- whether a text begins with a space
 abbrev pub begins_with_space : List ℕ → Bool
 begins_with_space [] = false
 begins_with_space (b ∷ bs) = b == 32
+
+-- whether a text begins with `@`
+abbrev pub begins_with_at : List ℕ → Bool
+begins_with_at [] = false
+begins_with_at (b ∷ bs) = b == 64
 
 -- whether a text begins with this one and a digit after it
 abbrev pub begins_with_digit_after : List ℕ → List ℕ → Bool
@@ -32,6 +37,8 @@ stops Alternative b after = (b == 10) || ((b == 58) && begins_with_space after)
 stops Reason b after = b == 10
 stops Line b after = b == 10
 stops Group b after = (b == 10) || ((b == 32) && begins_with_by after)
+stops Phrase b after = (b == 10) || ((b == 32) && begins_with_at after)
+stops Place b after = not (is_ascii_digit b)
 
 -- the bytes at the start of a text, up to the first that ends the cell
 abbrev pub cell_of : Class → List ℕ → List ℕ
@@ -46,6 +53,10 @@ is_unstopped class (b ∷ bs) = cond (stops class b bs) false (is_unstopped clas
 abbrev pub has_bytes : List ℕ → Bool
 has_bytes [] = false
 has_bytes (b ∷ bs) = true
+
+abbrev pub begins_with_zero : List ℕ → Bool
+begins_with_zero [] = false
+begins_with_zero (b ∷ bs) = b == 48
 
 abbrev pub ends_with_colon : List ℕ → Bool
 ends_with_colon [] = false
@@ -62,7 +73,8 @@ abbrev pub begins_with_number : List ℕ → Bool
 begins_with_number text = number_goes_on false text
 
 -- What more a cell of a class is: a number and a key have a byte, a word doesn't end with a colon,
--- and a reason doesn't begin with a number and a space.
+-- a reason doesn't begin with a number and a space, and a place is a number from 1 without leading
+-- zeros.
 abbrev pub fits : Class → List ℕ → Bool
 fits Number cell = has_bytes cell
 fits Word cell = not (ends_with_colon cell)
@@ -71,6 +83,8 @@ fits Alternative cell = true
 fits Reason cell = not (begins_with_number cell)
 fits Line cell = true
 fits Group cell = true
+fits Phrase cell = true
+fits Place cell = has_bytes cell && not (begins_with_zero cell)
 
 -- whether a text is a cell of a class
 abbrev pub is_cell : Class → List ℕ → Bool
@@ -120,3 +134,20 @@ group_cells : map (is_cell Group)
     (codes "a | by" ∷ codes "" ∷ codes "a by x" ∷ codes "a by " ∷ codes "a by 1" ∷ codes "a\n" ∷ [])
     ≡ true ∷ true ∷ true ∷ true ∷ false ∷ false ∷ []
 group_cells = refl
+
+-- a phrase ends before ` @`
+phrases : map (cell_of Phrase)
+    (codes "is later @2\n" ∷ codes "a@b @\n" ∷ codes "a @b @2" ∷ codes "is later\n @" ∷ [])
+    ≡ codes "is later" ∷ codes "a@b" ∷ codes "a" ∷ codes "is later" ∷ []
+phrases = refl
+
+phrase_cells : map (is_cell Phrase)
+    (codes "is later" ∷ codes "" ∷ codes "@2" ∷ codes "a " ∷ codes "a @" ∷ codes "a\n" ∷ [])
+    ≡ true ∷ true ∷ true ∷ true ∷ false ∷ false ∷ []
+phrase_cells = refl
+
+places : (cell_of Place (codes "12\n") ≡ codes "12")
+    × (map (is_cell Place)
+    (codes "1" ∷ codes "10" ∷ codes "0" ∷ codes "01" ∷ codes "" ∷ codes "1a" ∷ [])
+    ≡ true ∷ true ∷ false ∷ false ∷ false ∷ false ∷ [])
+places = (refl, refl)

@@ -3,7 +3,7 @@
 use Rattle.std.specs.Prelude.{◌≡◌, ℕ, List, [], ◌∷◌, codes, map, replicate, refl}
 use Rattle.std.specs.Borrow.{Bor}
 use Rattle.deb_rows.specs.declared.cell.Class.{Class}
-use Rattle.deb_rows.specs.declared.cell.Class.TheVariants.{Number, Word, Key, Alternative, Reason, Line, Group}
+use Rattle.deb_rows.specs.declared.cell.Class.TheVariants.{Number, Word, Key, Alternative, Reason, Line, Group, Phrase, Place}
 use Rattle.deb_rows.specs.declared.form.Form.{Form}
 use Rattle.deb_rows.specs.declared.form.Form.TheVariants as form
 use Rattle.deb_rows.specs.declared.kind.RowKind.{RowKind}
@@ -51,6 +51,8 @@ front_of kind.Undecided = codes "undecided "
 front_of kind.Need = codes " "
 front_of kind.Exclusion = codes " "
 front_of kind.LeftOut = codes " "
+front_of kind.PackageOfFile = codes " "
+front_of kind.PackageReasonOfFile = codes " "
 
 -- a number, name, version and architecture, each with a space after it, and more
 abbrev pub package_and : List Piece → List Piece
@@ -91,6 +93,17 @@ package_before after more =
 abbrev pub group_and_candidates : List Piece
 group_and_candidates = (Alternative, codes ": ") ∷ any_text
 
+-- a text that is the last cell of a line, unless the file follows
+abbrev pub phrase_last : List Piece
+phrase_last = (Phrase, codes "\n") ∷ []
+
+-- the place of a file at the end of a line, and a text before it
+abbrev pub file_last : List Piece
+file_last = (Place, codes "\n") ∷ []
+
+abbrev pub phrase_and_file : List Piece
+phrase_and_file = (Phrase, codes " @") ∷ file_last
+
 -- the cells of a line
 abbrev pub pieces_of : RowKind → List Piece
 pieces_of kind.Met = any_text
@@ -98,7 +111,7 @@ pieces_of kind.Unmet = any_text
 pieces_of kind.Ignored = any_text
 pieces_of kind.Package = package_last
 pieces_of kind.Reason = (Alternative, codes ": ") ∷ (Reason, codes "\n") ∷ []
-pieces_of kind.PackageReason = (Alternative, codes ": ") ∷ package_and any_text
+pieces_of kind.PackageReason = (Alternative, codes ": ") ∷ package_and phrase_last
 pieces_of kind.UnmetGroup = package_and word_and_text
 pieces_of kind.UnsureGroup = package_and word_and_text
 pieces_of kind.Removed = package_last
@@ -125,6 +138,9 @@ pieces_of kind.Undecided = package_last
 pieces_of kind.Need = package_before (codes " needs ") group_and_candidates
 pieces_of kind.Exclusion = package_before (codes " excludes ") package_last
 pieces_of kind.LeftOut = package_before (codes " is left out\n") []
+pieces_of kind.PackageOfFile = package_before (codes " @") file_last
+pieces_of kind.PackageReasonOfFile =
+    (Alternative, codes ": ") ∷ package_and phrase_and_file
 
 -- the number of a kind in a table
 abbrev pub number_of : RowKind → ℕ
@@ -160,6 +176,8 @@ number_of kind.Undecided = 28
 number_of kind.Need = 29
 number_of kind.Exclusion = 30
 number_of kind.LeftOut = 31
+number_of kind.PackageOfFile = 32
+number_of kind.PackageReasonOfFile = 33
 
 -- the form of the texts that have a kind
 abbrev pub form_of : RowKind → Form
@@ -195,11 +213,14 @@ form_of kind.Undecided = form.InstallableLines
 form_of kind.Need = form.InstallableLines
 form_of kind.Exclusion = form.InstallableLines
 form_of kind.LeftOut = form.InstallableLines
+form_of kind.PackageOfFile = form.Report
+form_of kind.PackageReasonOfFile = form.Report
 
 -- the kinds of a form
 abbrev pub kinds_of : Form → List RowKind
 kinds_of form.Report =
-    kind.Met ∷ kind.Unmet ∷ kind.Ignored ∷ kind.Package ∷ kind.Reason ∷ kind.PackageReason ∷ []
+    kind.Met ∷ kind.Unmet ∷ kind.Ignored ∷ kind.Package ∷ kind.Reason ∷ kind.PackageReason
+    ∷ kind.PackageOfFile ∷ kind.PackageReasonOfFile ∷ []
 kinds_of form.UnmetLines = kind.UnmetGroup ∷ kind.UnsureGroup ∷ []
 kinds_of form.DiffLines =
     kind.Removed ∷ kind.Changed ∷ kind.Upgraded ∷ kind.Added ∷ kind.OldLine ∷ kind.NewLine
@@ -251,12 +272,21 @@ pieces_of_reasons : (pieces_of kind.Need ≡ (Number, codes " ") ∷ (Word, code
     ∷ (Word, codes " is left out\n") ∷ [])
 pieces_of_reasons = (refl, refl, refl)
 
+pieces_of_files : (pieces_of kind.PackageOfFile ≡ (Number, codes " ") ∷ (Word, codes " ")
+    ∷ (Word, codes " ") ∷ (Word, codes " @") ∷ (Place, codes "\n") ∷ [])
+    × (pieces_of kind.PackageReason ≡ (Alternative, codes ": ") ∷ (Number, codes " ")
+    ∷ (Word, codes " ") ∷ (Word, codes " ") ∷ (Word, codes " ") ∷ (Phrase, codes "\n") ∷ [])
+    × (pieces_of kind.PackageReasonOfFile ≡ (Alternative, codes ": ") ∷ (Number, codes " ")
+    ∷ (Word, codes " ") ∷ (Word, codes " ") ∷ (Word, codes " ") ∷ (Phrase, codes " @")
+    ∷ (Place, codes "\n") ∷ [])
+pieces_of_files = (refl, refl, refl)
+
 -- the kinds have the numbers of `deb_row_kind` in `include/debctl.h`
 numbers : map (map number_of)
     (kinds_of form.Report ∷ kinds_of form.UnmetLines ∷ kinds_of form.DiffLines
     ∷ kinds_of form.Explanation ∷ kinds_of form.HealthLines ∷ kinds_of form.InstallableLines
     ∷ [])
-    ≡ (0 ∷ 1 ∷ 2 ∷ 3 ∷ 4 ∷ 5 ∷ []) ∷ (6 ∷ 7 ∷ []) ∷ (8 ∷ 9 ∷ 10 ∷ 11 ∷ 12 ∷ 13 ∷ 19 ∷ [])
+    ≡ (0 ∷ 1 ∷ 2 ∷ 3 ∷ 4 ∷ 5 ∷ 32 ∷ 33 ∷ []) ∷ (6 ∷ 7 ∷ []) ∷ (8 ∷ 9 ∷ 10 ∷ 11 ∷ 12 ∷ 13 ∷ 19 ∷ [])
     ∷ (14 ∷ 15 ∷ 16 ∷ 17 ∷ 18 ∷ []) ∷ (20 ∷ 21 ∷ 22 ∷ 23 ∷ 24 ∷ 25 ∷ [])
     ∷ (26 ∷ 27 ∷ 28 ∷ 29 ∷ 30 ∷ 31 ∷ []) ∷ []
 numbers = refl
@@ -265,7 +295,7 @@ forms : map (map form_of)
     (kinds_of form.Report ∷ kinds_of form.UnmetLines ∷ kinds_of form.DiffLines
     ∷ kinds_of form.Explanation ∷ kinds_of form.HealthLines ∷ kinds_of form.InstallableLines
     ∷ [])
-    ≡ replicate 6 form.Report ∷ replicate 2 form.UnmetLines ∷ replicate 7 form.DiffLines
+    ≡ replicate 8 form.Report ∷ replicate 2 form.UnmetLines ∷ replicate 7 form.DiffLines
     ∷ replicate 5 form.Explanation ∷ replicate 6 form.HealthLines
     ∷ replicate 6 form.InstallableLines ∷ []
 forms = refl

@@ -119,6 +119,19 @@ reasons : (row_line (row kind.Reason (codes "dd" ∷ codes "no package has this 
     ≡ codes " vv (>= 3): 2 world 1.0 all isn't Multi-Arch: allowed\n")
 reasons = (refl, refl)
 
+-- with the place of the file, which is no part of the reason
+files : (row_line (row kind.PackageOfFile
+    (codes "2" ∷ codes "world" ∷ codes "1:1.0" ∷ codes "all" ∷ codes "3" ∷ []))
+    ≡ codes " 2 world 1:1.0 all @3\n")
+    × (row_line (row kind.PackageReasonOfFile
+    (codes "vv (>= 3)" ∷ codes "2" ∷ codes "world" ∷ codes "1.0" ∷ codes "all"
+    ∷ codes "is earlier" ∷ codes "12" ∷ []))
+    ≡ codes " vv (>= 3): 2 world 1.0 all is earlier @12\n")
+    × (are_cells (pieces_of kind.PackageReason)
+    (codes "vv" ∷ codes "2" ∷ codes "world" ∷ codes "1.0" ∷ codes "all" ∷ codes "is earlier @1"
+    ∷ []) ≡ false)
+files = (refl, refl, refl)
+
 unmet_groups : (row_line (row kind.UnmetGroup
     (codes "4735" ∷ codes "aa" ∷ codes "1.221" ∷ codes "all" ∷ codes "Depends" ∷ codes "b | c"
     ∷ [])) ≡ codes "unmet 4735 aa 1.221 all Depends b | c\n")

@@ -1,7 +1,7 @@
 //! The cells of a line.
 
 ghost use Rattle.std.specs.Prelude.{◌≡◌, ◌+◌, ◌≤◌, length, IfSome};
-ghost use Rattle.deb_rows.specs.Cells.{begins_with_by, begins_with_number, begins_with_space, cell_of, ends_with_colon, fits, has_bytes, stops};
+ghost use Rattle.deb_rows.specs.Cells.{begins_with_at, begins_with_by, begins_with_number, begins_with_space, begins_with_zero, cell_of, ends_with_colon, fits, has_bytes, stops};
 ghost use Rattle.deb_rows.specs.Reads.{read_cell};
 
 /// What a cell may be. No cell has a newline.
@@ -21,6 +21,10 @@ pub(crate) enum Class {
     Line,
     /// A text without a space and `by`, a space and a digit after it.
     Group,
+    /// A text without a space and `@` after it.
+    Phrase,
+    /// Decimal digits, at least one; the first isn't 0.
+    Place,
 }
 
 /// The length of the cell at the start of a text, if there is one, with this text after it.
@@ -55,12 +59,13 @@ fn stops(class: Class, byte: u8, after: &[u8]) -> bool
     ensures { result ≡ stops class byte after.now }
 {
     match class {
-        Class::Number => !byte.is_ascii_digit(),
+        Class::Number | Class::Place => !byte.is_ascii_digit(),
         Class::Word => byte == b' ' || byte == b'\n',
         Class::Key => !byte.is_ascii_lowercase(),
         Class::Alternative => byte == b'\n' || byte == b':' && begins_with_space(after),
         Class::Reason | Class::Line => byte == b'\n',
         Class::Group => byte == b'\n' || byte == b' ' && begins_with_by(after),
+        Class::Phrase => byte == b'\n' || byte == b' ' && begins_with_at(after),
     }
 }
 
@@ -71,6 +76,16 @@ fn begins_with_space(text: &[u8]) -> bool
     match text {
         [] => false,
         [first, ..] => *first == b' ',
+    }
+}
+
+/// Whether a text begins with `@`.
+fn begins_with_at(text: &[u8]) -> bool
+    ensures { result ≡ begins_with_at text.now }
+{
+    match text {
+        [] => false,
+        [first, ..] => *first == b'@',
     }
 }
 
@@ -94,7 +109,8 @@ fn fits(class: Class, text: &[u8]) -> bool
         Class::Number | Class::Key => has_bytes(text),
         Class::Word => !ends_with_colon(text),
         Class::Reason => !begins_with_number(text),
-        Class::Alternative | Class::Line | Class::Group => true,
+        Class::Place => has_bytes(text) && !begins_with_zero(text),
+        Class::Alternative | Class::Line | Class::Group | Class::Phrase => true,
     }
 }
 
@@ -102,6 +118,15 @@ fn has_bytes(text: &[u8]) -> bool
     ensures { result ≡ has_bytes text.now }
 {
     !text.is_empty()
+}
+
+fn begins_with_zero(text: &[u8]) -> bool
+    ensures { result ≡ begins_with_zero text.now }
+{
+    match text {
+        [] => false,
+        [first, ..] => *first == b'0',
+    }
 }
 
 fn ends_with_colon(text: &[u8]) -> bool

@@ -34,6 +34,8 @@ pub(crate) fn kinds_of(form: Form) -> &'static [RowKind]
             RowKind::Package,
             RowKind::Reason,
             RowKind::PackageReason,
+            RowKind::PackageOfFile,
+            RowKind::PackageReasonOfFile,
         ],
         Form::UnmetLines => &[RowKind::UnmetGroup, RowKind::UnsureGroup],
         Form::DiffLines => &[

@@ -79,6 +79,12 @@ pub enum RowKind {
     Exclusion = 30,
     /// A package is left out of every set: number, package, version, architecture.
     LeftOut = 31,
+    /// A package of an index of several files that meets the group above it: number, name,
+    /// version, architecture, the place of its file, from 1.
+    PackageOfFile = 32,
+    /// Why a package of an index of several files doesn't meet an alternative: the alternative,
+    /// number, name, version and architecture of the package, the reason, the place of its file.
+    PackageReasonOfFile = 33,
 }
 
 /// The text before the first cell of a line of this kind.
@@ -94,7 +100,9 @@ pub(crate) fn front_of(kind: RowKind) -> &'static [u8]
         | RowKind::PackageReason
         | RowKind::Need
         | RowKind::Exclusion
-        | RowKind::LeftOut => b" ",
+        | RowKind::LeftOut
+        | RowKind::PackageOfFile
+        | RowKind::PackageReasonOfFile => b" ",
         RowKind::UnsureGroup | RowKind::UnsureNeed | RowKind::UnsureConflict | RowKind::Unsure =>
             b"unsure ",
         RowKind::Conflict => b"conflict ",
@@ -137,7 +145,25 @@ const PACKAGE_REASON: Pieces = &[
     (Class::Word, b" "),
     (Class::Word, b" "),
     (Class::Word, b" "),
-    (Class::Line, b"\n"),
+    (Class::Phrase, b"\n"),
+];
+
+const PACKAGE_REASON_OF_FILE: Pieces = &[
+    (Class::Alternative, b": "),
+    (Class::Number, b" "),
+    (Class::Word, b" "),
+    (Class::Word, b" "),
+    (Class::Word, b" "),
+    (Class::Phrase, b" @"),
+    (Class::Place, b"\n"),
+];
+
+const PACKAGE_OF_FILE: Pieces = &[
+    (Class::Number, b" "),
+    (Class::Word, b" "),
+    (Class::Word, b" "),
+    (Class::Word, b" @"),
+    (Class::Place, b"\n"),
 ];
 
 const PACKAGE_AND_TEXT: Pieces = &[
@@ -244,6 +270,8 @@ pub(crate) fn pieces_of(kind: RowKind) -> Pieces
         RowKind::Need => PACKAGE_NEEDS,
         RowKind::Exclusion => PACKAGE_EXCLUDES,
         RowKind::LeftOut => PACKAGE_LEFT_OUT,
+        RowKind::PackageOfFile => PACKAGE_OF_FILE,
+        RowKind::PackageReasonOfFile => PACKAGE_REASON_OF_FILE,
         RowKind::Key => &[(Class::Key, b": "), (Class::Line, b"\n")],
         RowKind::Count => &[(Class::Number, b"\n")],
         RowKind::Summary => &[(Class::Number, b", "), (Class::Number, b" refused\n")],

@@ -1,7 +1,7 @@
 //! The reader of paragraphs (Debian Policy 5.1; deb822(5)).
 
 ghost use Rattle.std.specs.Prelude.{◌≡◌, ◌+◌, ◌≤◌, ◌⊎◌, ℕ, List, [], Some, None, true, false, length, option_map, Option, IsTrue, IfErr, IfOk, IfSome, OnOk};
-ghost use Rattle.deb_base.specs.Bodies.{file_limit};
+ghost use Rattle.deb_base.specs.Bodies.{file_limit, pieces_of};
 ghost use Rattle.deb_base.specs.Reading.{piece_limit};
 ghost use Rattle.deb_syntax.specs.Ahead.{At, KeepsLine, passed_of};
 ghost use Rattle.deb_syntax.specs.NextLines.{IsNear};
@@ -139,6 +139,17 @@ impl Paragraphs {
             self.spans.as_slice(),
             at.first_line,
         ))
+    }
+
+    /// Returns the lines of the paragraph that the last `advance` or `next` found or refused a line
+    /// of, as they are in the file, with the newlines between them. `None` if there is no such
+    /// paragraph.
+    pub fn text(&self) -> Option<&[u8]>
+        ensures { option_map (λ text. pieces_of text.now) result
+            ≡ option_map (λ p. p.lines) (judged_last self.now) }
+    {
+        let at = self.judged?;
+        Some(self.cursor.slice(at.from, at.to))
     }
 
     /// Returns the line of a number, counted from 1, without its newline, of the paragraph that the

@@ -8,6 +8,7 @@ use Rattle.deb_relation.specs.Texts.{group_text}
 use Rattle.deb_index.proofs.Joined.{any-one}
 use Rattle.deb_index.specs.Listed.{Listed}
 use Rattle.deb_unmet.specs.Readings.{applies_by, may, surely}
+use Rattle.deb_unmet.specs.Scopes.{plain}
 use Rattle.deb_unmet.specs.SoFar.{trouble_by, unless_met}
 use Rattle.deb_unmet.specs.Files.{is_nothing}
 use Rattle.deb_unmet.specs.Troubles.{can_be_otherwise, group_lines, is_met, trouble, trouble_line}
@@ -87,5 +88,5 @@ nothing-line (Some Unmet) heading field text = refl
 nothing-line (Some Unsure) heading field text = refl
 
 -- a group has no line exactly if there is no reason for one
-pub nothing-group : (environment : Environment) (packages : List Listed) (heading field : List ℕ) (group : Group) → is_nothing (group_lines environment packages heading field group) ≡ is_none (trouble environment packages group)
+pub nothing-group : (environment : Environment) (packages : List Listed) (heading field : List ℕ) (group : Group) → is_nothing (group_lines environment (plain packages) Surely heading field group) ≡ is_none (trouble environment packages group)
 nothing-group environment packages heading field group = nothing-line (trouble environment packages group) heading field (group_text group)

@@ -1,11 +1,16 @@
 pub mod AskedFiles
 pub mod Readings
 pub mod Meanings
+pub mod OldIndexes
 pub mod Groups
 pub mod PlainGroups
 pub mod Decided
+pub mod AddedPackages
+pub mod SameScopes
+pub mod BuiltFor
 pub mod ParagraphLines
 pub mod SpelledVersions
 pub mod KeptParagraphs
+pub mod LeftOut
 pub mod OwnParts
 pub mod OwnFiles

@@ -23,14 +23,14 @@ use Rattle.deb_control.specs.ValueFiles.{ValueEntries}
 use Rattle.deb_control.proofs.GivenValues.{pairwise-length, pairwise-push}
 use Rattle.deb_index.specs.Keeping.{KeepsAll}
 use Rattle.deb_index.specs.Listed.{Listed}
-use Rattle.deb_index.specs.Members.{KeepsMembers, ListsMembers, doc_of, has_values}
+use Rattle.deb_index.specs.Members.{KeepsMembers, doc_of, has_values}
 use Rattle.deb_index.specs.declared.members.Members.{Members}
 use Rattle.deb_index.specs.declared.members.Members.TheVariants.{All, Installed}
 use Rattle.deb_index.proofs.Filters.{filter-skips, filter-takes}
 use Rattle.deb_unmet.specs.Asking.{IsWritersFault, PutsLines}
 use Rattle.deb_unmet.specs.Files.{is_nothing}
 use Rattle.deb_unmet.specs.Own.{OwnAsks, StopsOwn, WritesOwn, counted, own_lines, part_lines, parts_from}
-use Rattle.deb_unmet.specs.Parts.{AreParts, HoldsPart, IsPart, is_of_member}
+use Rattle.deb_unmet.specs.Parts.{AreParts, HoldsPart, IsPart, ReadsOver, is_of_member}
 use Rattle.deb_unmet.specs.Spelled.{fields_after, fields_of_seen}
 use Rattle.deb_unmet.specs.declared.own_lines.Part.{Part}
 use Rattle.deb_unmet.specs.declared.own_lines.Part.TheVariants.{Member, Other}
@@ -129,7 +129,10 @@ module _ (own : OwnAsks) (packages : List Listed) {Kept : Type 0} (Holds : List 
   is_member fields values (Member kept) holds = holds.0
   is_member fields values (Other text) holds = holds.0
 
-  module _ (parts : List (Part Kept)) (text : List ℕ) (old : Option (List ℕ)) (lists : ListsMembers own.members text packages) (keeps : KeepsAll (doc_of own.members) (Kept_of parts) text) where
+  module _ (parts : List (Part Kept)) (text : List ℕ) (old : Option (List ℕ)) (reads : ReadsOver own (Kept_of parts) text packages) where
+    pub keeps : KeepsAll (doc_of own.members) (Kept_of parts) text
+    keeps = all_kept own.members (Kept_of parts) text reads.keeps
+
     abbrev lines : Meaning → List ℕ
     lines = own_lines own packages text
 
@@ -228,33 +231,33 @@ module _ (own : OwnAsks) (packages : List Listed) {Kept : Type 0} (Holds : List 
         stopped_own writes Read puts = absurd puts
         stopped_own writes Memory puts =
             inr (record {
-              packages = packages;
-              lists = lists;
+              packages = reads.listed;
+              lists = reads.lists;
               first = has.first;
               more = next.is.values ∷ rest.0;
               accepted = accepted;
-              written = subst (λ now. Appends old now (lines has.first)) puts has.written;
+              written = subst (λ ps. Appends old writes (own_lines own ps text has.first)) reads.over (subst (λ now. Appends old now (lines has.first)) puts has.written);
             })
         stopped_own writes Write puts =
             let others = parts_from own packages text (n + 1) (counted own.members k next.is.values) rest.0 in
             record {
-              packages = packages;
-              lists = lists;
+              packages = reads.listed;
+              lists = reads.lists;
               meaning = has.first ++ next.is.values ∷ rest.0;
               accepted = accepted;
-              written = subst (AppendsFront old writes) (sym (lines_with rest.0)) (AppendsFront-then old held writes _ _ has.written (AppendsFront-more held writes line others puts));
+              written = subst (λ ps. AppendsFront old writes (own_lines own ps text (has.first ++ next.is.values ∷ rest.0))) reads.over (subst (AppendsFront old writes) (sym (lines_with rest.0)) (AppendsFront-then old held writes _ _ has.written (AppendsFront-more held writes line others puts)));
             }
 
       -- there is no further paragraph
       pub end_own : length parts ≤ n → WritesOwn own text (record { paragraphs = k; is_empty = empty }) old held
       end_own past = record {
-        packages = packages;
-        lists = lists;
+        packages = reads.listed;
+        lists = reads.lists;
         meaning = has.first;
         accepted = keeps.accepted has.first (subst (λ g. Meant g has.first) (sym (has.all ∙ ap (λ l. has.done ++ l) none_left ∙ append-nil has.done)) has.are);
         count = has.count;
-        written = has.written;
-        is_empty = has.is_empty;
+        written = subst (λ ps. Appends old held (own_lines own ps text has.first)) reads.over has.written;
+        is_empty = has.is_empty ∙ ap (λ ps. is_nothing (own_lines own ps text has.first)) reads.over;
       }
         where
           go : (more : List Seen) → Kept_of [] more → more ≡ []

@@ -1,5 +1,6 @@
 -- The lines of a paragraph by the texts that they have of it.
-use Rattle.std.proofs.Common.{◌≡◌, ℕ, zero, suc, ◌+◌, ◌<◌, List, [], ◌∷◌, ◌++◌, length, drop, get_or, Option, Some, Bor, add-one, arith, codes, sym, ap, ◌∙◌, append_assoc}
+use Rattle.std.proofs.Common.{◌≡◌, ℕ, zero, suc, ◌+◌, ◌<◌, false, IsTrue, List, [], ◌∷◌, ◌++◌, length, drop, get_or, Option, Some, Bor, add-one, arith, codes, refl, sym, ap, ◌∙◌, subst, append_assoc}
+use Rattle.std.proofs.lemmas.Bool.{false≢true}
 use Rattle.std.proofs.Math.Seq.{drop-cons}
 use Rattle.std.specs.Fmt.{decimal}
 use Rattle.std.specs.List.{concat, flat_map}
@@ -8,10 +9,11 @@ use Rattle.deb_base.specs.declared.doc.Doc.{Doc}
 use Rattle.deb_relation.specs.Applying.{Environment}
 use Rattle.deb_relation.specs.Views.{names_of}
 use Rattle.deb_syntax.specs.Answers.{Seen}
+use Rattle.deb_syntax.specs.Fields.{are_fields}
 use Rattle.deb_field.specs.Values.{ValueMeaning}
 use Rattle.deb_control.specs.CheckedStates.{passing_judged}
 use Rattle.deb_control.specs.FieldTexts.{HasTexts, KeepsTexts, relation_at}
-use Rattle.deb_control.specs.FieldWords.{value_under, word_under}
+use Rattle.deb_control.specs.FieldWords.{groups_of, value_under, word_under}
 use Rattle.deb_control.specs.Paragraphs.{AreValuesOf}
 use Rattle.deb_control.specs.ValueFiles.{ValueEntries}
 use Rattle.deb_control.specs.Visiting.{VisitsValues}
@@ -19,11 +21,16 @@ use Rattle.deb_control.specs.declared.checked_view.CheckedView.{CheckedView}
 use Rattle.deb_control.specs.declared.field_texts.FieldTexts.{FieldTexts}
 use Rattle.deb_control.proofs.KeptTexts.{has-texts}
 use Rattle.deb_control.proofs.PassingParagraphs.{values-passing}
-use Rattle.deb_index.specs.Listed.{Listed}
-use Rattle.deb_unmet.specs.Asked.{fields_asked, fields_with, name_field, rows_asked, rows_with}
-use Rattle.deb_unmet.specs.Fields.{fields_lines, heading, own_environment, own_or, paragraph_lines}
-use Rattle.deb_unmet.specs.Paragraphs.{HasTextsOf, HaveRelations, IsRelationText, fields_in, heading_in}
+use Rattle.deb_unmet.specs.Asked.{doc_of, fields_asked, fields_with, name_field, rows_asked, rows_with}
+use Rattle.deb_unmet.specs.Fields.{environment_for, field_lines, fields_lines, heading, paragraph_lines}
+use Rattle.deb_unmet.specs.Paragraphs.{HasTextsOf, HaveRelations, IsRelationText, PassesWith, fields_in, heading_in}
+use Rattle.deb_unmet.specs.Readings.{may}
+use Rattle.deb_unmet.specs.Scopes.{Scope}
 use Rattle.deb_unmet.specs.Spelled.{version_word}
+use Rattle.deb_unmet.specs.Tried.{is_tried}
+use Rattle.deb_unmet.specs.Troubles.{group_lines}
+use Rattle.deb_unmet.specs.declared.applying.Applies.{Applies}
+use Rattle.deb_unmet.specs.declared.applying.Applies.TheVariants.{Surely, Maybe, Never}
 use Rattle.deb_unmet.specs.declared.asked.Asked.{Asked}
 use Rattle.deb_unmet.specs.declared.asked.Asked.TheVariants.{Packages, Binary, Sources, Source}
 use Rattle.deb_unmet.specs.declared.asked.Request.{Request}
@@ -58,13 +65,26 @@ heading-of_texts p values has =
     ∙ ap (text (word_under (name_field p.asked) values)) has.architecture
 
 -- the lines of all fields, with the heading of the texts, are those of the values
-pub lines-of_texts : (p : Paragraph) (values : ValueEntries ValueMeaning) (environment own : Environment) (packages : List Listed) → HasTextsOf p.asked p.texts.now values → own ≡ own_or (own_environment p.asked environment p.texts.now.architecture.now) environment → fields_lines own packages (heading_in p) values (fields_asked p.asked) ≡ paragraph_lines p.asked environment packages p.number p.texts.now.version.now values
-lines-of_texts p values environment own packages has is_own =
-    let environment_at : List ℕ → Environment = λ architecture. own_or (own_environment p.asked environment architecture) environment in
-    let lines : Environment → List ℕ → List ℕ = λ e head. fields_lines e packages head values (fields_asked p.asked) in
-    ap (λ e. lines e (heading_in p)) is_own
-    ∙ ap (lines (environment_at p.texts.now.architecture.now)) (heading-of_texts p values has)
-    ∙ ap (λ architecture. lines (environment_at architecture) (heading p.asked p.number p.texts.now.version.now values)) has.architecture
+pub lines-of_texts : (p : Paragraph) (values : ValueEntries ValueMeaning) (environment : Environment) (scope : Scope) (tried : Applies) → HasTextsOf p.asked p.texts.now values → tried ≡ is_tried p.asked environment scope.without values → fields_lines (environment_for p.asked environment values) scope tried (heading_in p) values (fields_asked p.asked) ≡ paragraph_lines p.asked environment scope p.number p.texts.now.version.now values
+lines-of_texts p values environment scope tried has is =
+    let lines : Applies → List ℕ → List ℕ = λ t head. fields_lines (environment_for p.asked environment values) scope t head values (fields_asked p.asked) in
+    ap (λ t. lines t (heading_in p)) is
+    ∙ ap (lines (is_tried p.asked environment scope.without values)) (heading-of_texts p values has)
+
+-- a paragraph that isn't asked has none
+pub not-may : (tried : Applies) → may tried ≡ false → tried ≡ Never
+not-may Surely e = absurd (false≢true (sym e))
+not-may Maybe e = absurd (false≢true (sym e))
+not-may Never e = refl
+
+none-each : {X : Type 0} (line : X → List ℕ) → ((x : X) → line x ≡ []) → (xs : List X) → flat_map line xs ≡ []
+none-each line none [] = refl
+none-each line none (x ∷ xs) = ap (λ l. l ++ flat_map line xs) (none x) ∙ none-each line none xs
+
+pub never-lines : (environment : Environment) (scope : Scope) (heading : List ℕ) (values : ValueEntries ValueMeaning) (fields : List (List ℕ)) → fields_lines environment scope Never heading values fields ≡ []
+never-lines environment scope heading values fields =
+    none-each (λ field. field_lines environment scope Never heading field (value_under field values))
+    (λ field. none-each (group_lines environment scope Never heading field) (λ group. refl) (groups_of (value_under field values))) fields
 
 -- the texts of relations in the rows of the fields that are asked
 module _ (texts : FieldTexts) (values : ValueEntries ValueMeaning) (has : HasTexts texts values) where
@@ -81,8 +101,8 @@ module _ (texts : FieldTexts) (values : ValueEntries ValueMeaning) (has : HasTex
   asked-have : (asked : Asked) → HaveRelations (fields_asked asked) (in_rows (rows_asked asked)) values
   asked-have (Packages strength) = with-have strength
   asked-have (Binary strength) = with-have strength
-  asked-have Sources = (text-has (codes "Build-Depends"), (text-has (codes "Build-Depends-Arch"), (text-has (codes "Build-Depends-Indep"), tt)))
-  asked-have Source = (text-has (codes "Build-Depends"), (text-has (codes "Build-Depends-Arch"), (text-has (codes "Build-Depends-Indep"), tt)))
+  asked-have (Sources which) = (text-has (codes "Build-Depends"), (text-has (codes "Build-Depends-Arch"), (text-has (codes "Build-Depends-Indep"), tt)))
+  asked-have (Source which) = (text-has (codes "Build-Depends"), (text-has (codes "Build-Depends-Arch"), (text-has (codes "Build-Depends-Indep"), tt)))
 
   pub relations-have : (asked : Asked) (rows : List ℕ) (relations : List (List ℕ)) → rows ≡ rows_asked asked → relations ≡ in_rows rows → HaveRelations (fields_asked asked) relations values
   relations-have asked rows relations are is = rw (is, are) (asked-have asked)
@@ -94,15 +114,20 @@ pub record GivenTexts (request : Request) (texts : LineTexts) (doc : Doc) (given
   pub has : HasTextsOf request.asked texts values
   pub version : texts.version.now ≡ version_word request.versions given.fields values
 
-pub given_texts : (request : Request) (texts : LineTexts) (kept : FieldTexts) (doc : Doc) (given : Seen) (view : CheckedView) (current : Option Seen) → Some (passing_judged view).seen ≡ current → current ≡ Some given → ((values : ValueEntries ValueMeaning) → HasTexts kept values → HasTextsOf request.asked texts values) → ((values : ValueEntries ValueMeaning) → HasTexts kept values → texts.version.now ≡ version_word request.versions (fields_in view) values) → VisitsValues KeepsTexts kept doc given → GivenTexts request texts doc given
-given_texts request texts kept doc given view current seen is of_values version visits =
+pub given_texts : (request : Request) (texts : LineTexts) (kept : FieldTexts) (given : Seen) (view : CheckedView) (current : Option Seen) → Some (passing_judged view).seen ≡ current → current ≡ Some given → ((values : ValueEntries ValueMeaning) → HasTexts kept values → PassesWith (doc_of request.asked) view values → HasTextsOf request.asked texts values) → ((values : ValueEntries ValueMeaning) → HasTexts kept values → texts.version.now ≡ version_word request.versions (fields_in view) values) → VisitsValues KeepsTexts kept (doc_of request.asked) given → GivenTexts request texts (doc_of request.asked) given
+given_texts request texts kept given view current seen is of_values version visits =
+    let doc = doc_of request.asked in
     let found = values-passing doc given visits.passes in
     let has = has-texts kept doc given visits found.0 found.1 in
     let some : Some (passing_judged view).seen ≡ Some given = seen ∙ is in
     let same : (passing_judged view).seen ≡ given = cc in
+    let passes : PassesWith doc view found.0 = record {
+      fields = subst (λ s. IsTrue (are_fields s.fields)) (sym same) visits.fields;
+      are = subst (λ s. AreValuesOf doc s found.0) (sym same) found.1;
+    } in
     record {
       values = found.0;
       are = found.1;
-      has = of_values found.0 has;
+      has = of_values found.0 has passes;
       version = version found.0 has ∙ ap (λ s. version_word request.versions s.fields found.0) same;
     }

@@ -85,8 +85,8 @@ version_kind : (asked : Asked) → kind_of (doc_of asked) (codes "Version") ≡ 
 unfolding kind_of kind_at known_row
 version_kind (Packages strength) = refl
 version_kind (Binary strength) = refl
-version_kind Sources = refl
-version_kind Source = refl
+version_kind (Sources which) = refl
+version_kind (Source which) = refl
 
 second_of : (a b c : Bool) → (a && (b && c)) ≡ true → b ≡ true
 second_of true true c h = refl
@@ -103,8 +103,8 @@ has_value name values = is_some (find byte_order (canonical_name name) values)
 version_there : (asked : Asked) (values : ValueEntries ValueMeaning) → IsTrue (has_values (required (doc_of asked)) values) → is_some (find byte_order (codes "Version") values) ≡ true
 version_there (Packages strength) values has = second_of (has_value (codes "Package") values) (has_value (codes "Version") values) (has_value (codes "Architecture") values && true) has
 version_there (Binary strength) values has = second_of (has_value (codes "Package") values) (has_value (codes "Version") values) (has_value (codes "Architecture") values && true) has
-version_there Sources values has = second_of (has_value (codes "Package") values) (has_value (codes "Version") values) true has
-version_there Source values has = third_of (has_value (codes "Format") values) (has_value (codes "Source") values) (has_value (codes "Version") values) true has
+version_there (Sources which) values has = second_of (has_value (codes "Package") values) (has_value (codes "Version") values) true has
+version_there (Source which) values has = third_of (has_value (codes "Format") values) (has_value (codes "Source") values) (has_value (codes "Version") values) true has
 
 -- The spelled text is a version, and its canonical text is the canonical word.
 record IsSpelled (fields : List Field) (values : ValueEntries ValueMeaning) : Type 0 where
@@ -177,4 +177,4 @@ spelled_versions asked lines text meaning accepted =
     record { words = all.words; each = all.each; are_versions = all.are_versions; spelled = all.in_spelled; canonical = all.in_canonical }
 
 pub spelled_versions_are_equal : SpelledVersionsAreEqual
-spelled_versions_are_equal asked environment packages text meaning accepted = spelled_versions asked (paragraph_lines asked environment packages) text meaning accepted
+spelled_versions_are_equal asked environment scope text meaning accepted = spelled_versions asked (paragraph_lines asked environment scope) text meaning accepted

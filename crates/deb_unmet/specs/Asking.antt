@@ -11,19 +11,20 @@ use Rattle.deb_relation.specs.Environments.{environment_with}
 use Rattle.deb_relation.specs.Texts.{group_text}
 use Rattle.deb_field.specs.Values.{NameMeans, RelationMeans}
 use Rattle.deb_index.specs.Alternatives.{alone}
-use Rattle.deb_index.specs.Listed.{Listed}
 use Rattle.deb_unmet.specs.Asked.{doc_of, request_for}
 use Rattle.deb_unmet.specs.Fields.{paragraph_lines}
 use Rattle.deb_unmet.specs.Files.{Asks, is_nothing, lines_of}
+use Rattle.deb_unmet.specs.Scopes.{Scope, plain}
 use Rattle.deb_unmet.specs.declared.asked.Request.{Request}
 use Rattle.deb_unmet.specs.declared.asked.Asked.TheVariants.{Sources}
+use Rattle.deb_unmet.specs.declared.asked.SourcesAsked.TheVariants.{OfTarget}
 
-abbrev pub asks_of : Request → Environment → List Listed → Asks
-asks_of request environment packages =
+abbrev pub asks_of : Request → Environment → Scope → Asks
+asks_of request environment scope =
     record {
       doc = doc_of request.asked;
       versions = request.versions;
-      lines = paragraph_lines request.asked environment packages;
+      lines = paragraph_lines request.asked environment scope;
     }
 
 -- Ok: these lines were written, and it says whether there is none. Out of memory: nothing was. A
@@ -45,7 +46,8 @@ IsWritersFault (Err Write) = Unit {0}
 
 -- the lines of a paragraph without a package's version
 worked-lines : lines_of
-    (asks_of (request_for Sources Canonical) (environment_with (codes "amd64") []) []) 3 []
+    (asks_of (request_for (Sources OfTarget) Canonical) (environment_with (codes "amd64") [])
+    (plain [])) 3 []
     ((codes "Build-Depends", RelationMeans ((alone (codes "aa") ∷ []) ∷ []))
     ∷ (codes "Package", NameMeans (codes "xx")) ∷ [])
     ≡ codes "unmet 3 xx  source Build-Depends aa\n"

@@ -24,8 +24,10 @@ use Rattle.deb_control.specs.Refusals.{outcome}
 use Rattle.deb_control.specs.ValueFiles.{SpellsEntries, ValueEntries}
 use Rattle.deb_index.specs.Alternatives.{alone}
 use Rattle.deb_unmet.specs.Fields.{paragraph_lines}
+use Rattle.deb_unmet.specs.Scopes.{plain}
 use Rattle.deb_unmet.specs.Spelled.{fields_after, version_word}
 use Rattle.deb_unmet.specs.declared.asked.Asked.TheVariants.{Sources}
+use Rattle.deb_unmet.specs.declared.asked.SourcesAsked.TheVariants.{OfTarget}
 use Rattle.deb_unmet.specs.declared.asking.Summary.{Summary}
 
 -- what is asked: of which kind of file, which text of a version the lines have, and the lines of
@@ -113,7 +115,7 @@ abbrev pub asks : VersionText → Asks
 asks versions = record {
   doc = docs.Sources;
   versions = versions;
-  lines = paragraph_lines Sources (environment_with (codes "amd64") []) [];
+  lines = paragraph_lines (Sources OfTarget) (environment_with (codes "amd64") []) (plain []);
 }
 
 abbrev pub without : ValueEntries ValueMeaning

@@ -1,9 +1,11 @@
 pub mod Readings
 pub mod Plain
+pub mod Scopes
 pub mod Troubles
 pub mod SoFar
 pub mod GroupReadings
 pub mod Asked
+pub mod Tried
 pub mod Fields
 pub mod Spelled
 pub mod Paragraphs
@@ -11,5 +13,6 @@ pub mod Files
 pub mod KeptParagraphs
 pub mod Asking
 pub mod Own
+pub mod ScopeCases
 pub mod Parts
 pub mod Laws

@@ -1,6 +1,6 @@
 -- What is written of a file over its own packages. Debian Policy 5.1, 7.1 and 7.2; the form of the
 -- lines is this project's own.
-use Rattle.std.specs.Prelude.{◌≡◌, ◌⊎◌, ℕ, ◌+◌, cond, List, [], ◌∷◌, ◌++◌, length, map, Option, None, codes, refl}
+use Rattle.std.specs.Prelude.{◌≡◌, ◌⊎◌, ℕ, ◌+◌, cond, List, [], ◌∷◌, ◌++◌, length, map, Option, Some, None, codes, refl}
 use Rattle.std.specs.Fmt.{decimal, digits}
 use Rattle.std.specs.List.{concat, filter}
 use Rattle.std.specs.Str.{is_utf8, chars}
@@ -18,31 +18,37 @@ use Rattle.deb_version.specs.Places.{version_in}
 use Rattle.deb_relation.specs.Applying.{Environment}
 use Rattle.deb_relation.specs.Environments.{environment_with}
 use Rattle.deb_relation.specs.Texts.{group_text}
+use Rattle.deb_relation.specs.Views.{names_of}
 use Rattle.deb_field.specs.Values.{ValueMeaning, NameMeans, VersionMeans, ArchitectureMeans, RelationMeans, TextMeans}
 use Rattle.deb_control.specs.Documents.{Meaning, Accepted}
 use Rattle.deb_control.specs.ValueFiles.{ValueEntries}
 use Rattle.deb_index.specs.Alternatives.{alone}
 use Rattle.deb_index.specs.Listed.{Listed}
 use Rattle.deb_index.specs.Members.{ListsMembers, doc_of, has_values}
+use Rattle.deb_index.specs.Without.{without}
 use Rattle.deb_index.specs.declared.members.Members.{Members}
 use Rattle.deb_index.specs.declared.members.Members.TheVariants.{All, Installed}
 use Rattle.deb_unmet.specs.Asked.{request_for}
 use Rattle.deb_unmet.specs.Asking.{asks_of}
 use Rattle.deb_unmet.specs.Fields.{paragraph_lines}
 use Rattle.deb_unmet.specs.Files.{Asks, is_nothing, lines_of}
+use Rattle.deb_unmet.specs.Scopes.{Scope, old_packages, over_packages, plain}
 use Rattle.deb_unmet.specs.Spelled.{fields_after}
 use Rattle.deb_unmet.specs.declared.asked.Asked.TheVariants.{Packages}
 use Rattle.deb_unmet.specs.declared.asked.Strength.{Strength}
 use Rattle.deb_unmet.specs.declared.asked.Strength.TheVariants.{Depends, Recommends}
 use Rattle.deb_unmet.specs.declared.asking.Summary.{Summary}
+use Rattle.deb_unmet.specs.declared.own.OwnQuestion.{OwnQuestion}
 use Rattle.deb_unmet.specs.declared.own.OwnRequest.{OwnRequest}
 
 -- what is asked of a file over its own packages: which of its paragraphs are these, which text of a
--- version the lines have, the lines of a member over the packages that the file lists, and what the
--- line of another paragraph has after its number; nothing if that has no line
+-- version the lines have, which packages the lines are over, of those that the file lists, the
+-- lines of a member over packages, and what the line of another paragraph has after its number;
+-- nothing if that has no line
 pub record OwnAsks : Type 0 where
   pub members : Members
   pub versions : VersionText
+  pub over : List Listed → List Listed
   pub lines : List Listed → ℕ → List ℕ → ValueEntries ValueMeaning → List ℕ
   pub others : ValueEntries ValueMeaning → List ℕ
 
@@ -50,13 +56,27 @@ abbrev pub asks_over : OwnAsks → List Listed → Asks
 asks_over own packages =
     record { doc = docs.Packages; versions = own.versions; lines = own.lines packages }
 
--- the lines of its groups, as `unmet` writes them; another paragraph has none
-abbrev pub asks_own : Members → Strength → VersionText → Environment → OwnAsks
-asks_own members strength versions environment =
+-- the same, where these packages are listed before those of the file
+abbrev pub asks_after : List Listed → OwnAsks → OwnAsks
+asks_after before own =
+    record {
+      members = own.members;
+      versions = own.versions;
+      over = λ packages. own.over (before ++ packages);
+      lines = own.lines;
+      others = own.others;
+    }
+
+-- The lines of its groups, as `unmet` writes them, over the packages of the scope followed by those
+-- of the file, without the names that are left out; another paragraph has none.
+abbrev pub asks_own : Members → Strength → VersionText → Environment → Scope → OwnAsks
+asks_own members strength versions environment scope =
     record {
       members = members;
       versions = versions;
-      lines = paragraph_lines (Packages strength) environment;
+      over = λ packages. without scope.without (scope.packages ++ packages);
+      lines =
+          λ listed. paragraph_lines (Packages strength) environment (over_packages listed scope);
       others = λ values. [];
     }
 
@@ -65,9 +85,17 @@ abbrev pub own_request : Members → Strength → VersionText → OwnRequest
 own_request members strength versions =
     record { members = members; strength = strength; versions = versions }
 
-abbrev pub own_asked : OwnRequest → Environment → OwnAsks
-own_asked request environment =
-    asks_own request.members request.strength request.versions environment
+abbrev pub own_asked : OwnRequest → Environment → Scope → OwnAsks
+own_asked request environment scope =
+    asks_own request.members request.strength request.versions environment scope
+
+abbrev pub own_scope : List Listed → OwnQuestion → Scope
+own_scope before question =
+    record {
+      packages = before;
+      unless = old_packages question.unless;
+      without = names_of question.without.now;
+    }
 
 -- `state NUMBER` and a text; nothing if that is empty
 abbrev pub other_line : ℕ → List ℕ → List ℕ
@@ -94,11 +122,11 @@ parts_from own packages text n k (values ∷ more) =
     part_lines own packages (fields_after text n) n k values
     ++ parts_from own packages text (n + 1) (counted own.members k values) more
 
--- The lines of a file over the packages that it lists, in the order of its paragraphs.
+-- The lines of a file over these packages, in the order of its paragraphs.
 abbrev pub own_lines : OwnAsks → List Listed → List ℕ → Meaning → List ℕ
 own_lines own packages text meaning = parts_from own packages text 0 0 meaning
 
--- The file is accepted, exactly its lines over the packages that it lists were written, and the
+-- The file is accepted, exactly its lines over the packages that are asked were written, and the
 -- summary says how many members it has and whether there is no line.
 pub record WritesOwn (own : OwnAsks) (text : List ℕ) (summary : Summary)
     (old new : Option (List ℕ)) : Type 0 where
@@ -107,8 +135,8 @@ pub record WritesOwn (own : OwnAsks) (text : List ℕ) (summary : Summary)
   pub meaning : Meaning
   pub accepted : Accepted (doc_of own.members) text meaning
   pub count : length (filter (has_values own.members) meaning) ≡ summary.paragraphs
-  pub written : Appends old new (own_lines own packages text meaning)
-  pub is_empty : summary.is_empty ≡ is_nothing (own_lines own packages text meaning)
+  pub written : Appends old new (own_lines own (own.over packages) text meaning)
+  pub is_empty : summary.is_empty ≡ is_nothing (own_lines own (own.over packages) text meaning)
 
 -- The same, where a front of these lines was written.
 pub record BeginsOwn (own : OwnAsks) (text : List ℕ) (old new : Option (List ℕ)) : Type 0 where
@@ -116,7 +144,7 @@ pub record BeginsOwn (own : OwnAsks) (text : List ℕ) (old new : Option (List �
   pub lists : ListsMembers own.members text packages
   pub meaning : Meaning
   pub accepted : Accepted (doc_of own.members) text meaning
-  pub written : AppendsFront old new (own_lines own packages text meaning)
+  pub written : AppendsFront old new (own_lines own (own.over packages) text meaning)
 
 -- The same, where exactly the lines of the first paragraphs were written.
 pub record WritesFirst (own : OwnAsks) (text : List ℕ) (old new : Option (List ℕ)) : Type 0 where
@@ -125,7 +153,7 @@ pub record WritesFirst (own : OwnAsks) (text : List ℕ) (old new : Option (List
   pub first : Meaning
   pub more : Meaning
   pub accepted : Accepted (doc_of own.members) text (first ++ more)
-  pub written : Appends old new (own_lines own packages text first)
+  pub written : Appends old new (own_lines own (own.over packages) text first)
 
 -- Refused, or a read failed: nothing was written. Out of memory: nothing, or exactly the lines of
 -- the first paragraphs of an accepted file. A write failed: a front of its lines.
@@ -178,27 +206,60 @@ second =
 abbrev for_amd64 : Environment
 for_amd64 = environment_with (codes "amd64") []
 
-worked-own : (own_lines (asks_own All Depends Canonical for_amd64) packages file
+-- no file before it, no old index, and no name left out
+abbrev alone_scope : Scope
+alone_scope = plain []
+
+worked-own : (own_lines (asks_own All Depends Canonical for_amd64 alone_scope) packages file
     (first ∷ second ∷ []) ≡ codes "unmet 1 xx 1.0 amd64 Depends bb\n")
-    × (own_lines (asks_own All Depends Canonical for_amd64) [] file (first ∷ second ∷ [])
+    × (own_lines (asks_own All Depends Canonical for_amd64 alone_scope) [] file
+    (first ∷ second ∷ [])
     ≡ codes "unmet 1 xx 1.0 amd64 Depends aa\nunmet 1 xx 1.0 amd64 Depends bb\n"
     ++ codes "unmet 2 aa 2 all Depends xx\n")
 unfolding group_text digits
 worked-own = (refl, refl)
 
-worked-spelled : own_lines (asks_own All Recommends Spelled for_amd64) packages file
+worked-spelled : own_lines (asks_own All Recommends Spelled for_amd64 alone_scope) packages file
     (first ∷ second ∷ [])
     ≡ codes "unmet 1 xx 01.0-0 amd64 Depends bb\nunmet 1 xx 01.0-0 amd64 Recommends cc\n"
 unfolding group_text digits file_limit paragraph_limit is_utf8 chars encode
 worked-spelled = refl
 
-worked-request : own_asked (own_request Installed Recommends Spelled) for_amd64
-    ≡ asks_own Installed Recommends Spelled for_amd64
+worked-request : own_asked (own_request Installed Recommends Spelled) for_amd64 alone_scope
+    ≡ asks_own Installed Recommends Spelled for_amd64 alone_scope
 worked-request = refl
 
+-- Over bb before it the first package has no line for bb; over an old index that meets aa alone
+-- none for bb either, but one for aa if that is left out, and then aa has none.
+abbrev after_bb : Scope
+after_bb = plain (listed (codes "bb") (codes "1") (codes "amd64") ∷ [])
+
+abbrev without_aa : Scope
+without_aa =
+    record {
+      packages = [];
+      unless = Some (listed (codes "aa") (codes "1") (codes "all") ∷ []);
+      without = codes "aa" ∷ [];
+    }
+
+abbrev lines_over : Scope → List ℕ
+lines_over scope =
+    let own = asks_own All Depends Canonical for_amd64 scope in
+    own_lines own (own.over packages) file (first ∷ second ∷ [])
+
+worked-over : map lines_over (after_bb ∷ without_aa ∷ alone_scope ∷ [])
+    ≡ [] ∷ codes "unmet 1 xx 1.0 amd64 Depends aa\n"
+    ∷ codes "unmet 1 xx 1.0 amd64 Depends bb\n" ∷ []
+unfolding group_text digits
+worked-over = refl
+
+worked-after : (asks_after [] (asks_own All Depends Canonical for_amd64 after_bb)).over packages
+    ≡ listed (codes "bb") (codes "1") (codes "amd64") ∷ packages
+worked-after = refl
+
 -- they are the lines that `unmet` writes of the index as a file
-worked-same : asks_over (asks_own All Depends Spelled for_amd64) packages
-    ≡ asks_of (request_for (Packages Depends) Spelled) for_amd64 packages
+worked-same : asks_over (asks_own All Depends Spelled for_amd64 alone_scope) packages
+    ≡ asks_of (request_for (Packages Depends) Spelled) for_amd64 (plain packages)
 worked-same = refl
 
 -- A status file of a package that was removed, and of two that are installed and don't meet what
@@ -226,12 +287,14 @@ installed =
     (codes "1.0")
     ∷ with_status (codes "aa") (codes "all") (codes "rr") (codes "a b installed") (codes "2") ∷ []
 
-worked-installed : (own_lines (asks_own Installed Depends Canonical for_amd64) packages status_file
-    installed
+worked-installed : (own_lines (asks_own Installed Depends Canonical for_amd64 alone_scope) packages
+    status_file installed
     ≡ codes "unmet 1 xx 1.0 amd64 Depends bb\nunmet 2 aa 2 all Depends rr\n")
-    × (own_lines (asks_own Installed Depends Spelled for_amd64) packages status_file installed
+    × (own_lines (asks_own Installed Depends Spelled for_amd64 alone_scope) packages status_file
+    installed
     ≡ codes "unmet 1 xx 01.0-0 amd64 Depends bb\nunmet 2 aa 02 all Depends rr\n")
-    × (own_lines (asks_own All Depends Canonical for_amd64) packages status_file installed
+    × (own_lines (asks_own All Depends Canonical for_amd64 alone_scope) packages status_file
+    installed
     ≡ codes "unmet 1 rr 9 all Depends ss\nunmet 2 xx 1.0 amd64 Depends bb\n"
     ++ codes "unmet 3 aa 2 all Depends rr\n")
 unfolding group_text digits file_limit paragraph_limit is_utf8 chars encode
@@ -249,7 +312,8 @@ worked-parts : own_lines
     (record {
       members = Installed;
       versions = Canonical;
-      lines = paragraph_lines (Packages Depends) for_amd64;
+      over = λ ps. ps;
+      lines = λ ps. paragraph_lines (Packages Depends) for_amd64 (plain ps);
       others = λ values. codes " - \n";
     }) packages status_file installed
     ≡ codes "state 1 - \nunmet 1 xx 1.0 amd64 Depends bb\nunmet 2 aa 2 all Depends rr\n"

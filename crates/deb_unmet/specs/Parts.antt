@@ -14,7 +14,8 @@ use Rattle.deb_control.specs.ValueFiles.{ValueEntries}
 use Rattle.deb_control.specs.Visiting.{VisitsValues}
 use Rattle.deb_control.specs.declared.checked_view.CheckedView.{CheckedView}
 use Rattle.deb_control.specs.declared.field_texts.FieldTexts.{FieldTexts}
-use Rattle.deb_index.specs.Members.{doc_of, has_values}
+use Rattle.deb_index.specs.Listed.{Listed}
+use Rattle.deb_index.specs.Members.{KeepsMembers, ListsMembers, doc_of, has_values}
 use Rattle.deb_index.specs.declared.members.Members.{Members}
 use Rattle.deb_index.specs.declared.members.Members.TheVariants.{All}
 use Rattle.deb_unmet.specs.Own.{OwnAsks}
@@ -56,6 +57,15 @@ abbrev pub AreParts : {Kept : Type 0} → Members
     → (List Field → ValueEntries ValueMeaning → Kept → Type 0)
     → (ValueEntries ValueMeaning → List ℕ → Type 0) → List (Part Kept) → List Seen → Type 0
 AreParts members Holds IsText parts given = Pairwise (IsPart members Holds IsText) given parts
+
+-- The file is accepted, this is kept of its paragraphs, and these are the packages that its lines
+-- are over.
+pub record ReadsOver (own : OwnAsks) (Keeps : List Seen → Type 0) (text : List ℕ)
+    (packages : List Listed) : Type 0 where
+  pub listed : List Listed
+  pub lists : ListsMembers own.members text listed
+  pub over : packages ≡ own.over listed
+  pub keeps : KeepsMembers own.members Keeps text
 
 -- The paragraph of a status file passes with these values, and the texts are of them.
 pub record GivesValues (paragraph : CheckedView) (texts : FieldTexts)

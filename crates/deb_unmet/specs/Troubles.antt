@@ -11,6 +11,9 @@ use Rattle.deb_index.specs.Alternatives.{alone, with_bound, with_formula, with_l
 use Rattle.deb_index.specs.Listed.{Listed}
 use Rattle.deb_index.specs.Meeting.{meets}
 use Rattle.deb_unmet.specs.Readings.{applies_by, may, surely}
+use Rattle.deb_unmet.specs.Scopes.{Scope, plain}
+use Rattle.deb_unmet.specs.declared.applying.Applies.{Applies}
+use Rattle.deb_unmet.specs.declared.applying.Applies.TheVariants.{Surely, Maybe, Never}
 use Rattle.deb_unmet.specs.declared.trouble.Trouble.{Trouble}
 use Rattle.deb_unmet.specs.declared.trouble.Trouble.TheVariants.{Unmet, Unsure}
 
@@ -36,6 +39,23 @@ trouble environment packages group =
     cond (can_be_unmet environment packages group)
     (cond (can_be_otherwise environment packages group) (Some Unsure) (Some Unmet)) None
 
+-- An old index, if there is one, meets or ignores it in every reading.
+abbrev pub was_met : Option (List Listed) → Environment → Group → Bool
+was_met None environment group = true
+was_met (Some old) environment group = not (can_be_unmet environment old group)
+
+-- A group has no line if an old index can leave it unmet too.
+abbrev pub trouble_in : Scope → Environment → Group → Option Trouble
+trouble_in scope environment group =
+    cond (was_met scope.unless environment group) (trouble environment scope.packages group) None
+
+-- why a group has a line whose paragraph is asked so
+abbrev pub trouble_for : Applies → Option Trouble → Option Trouble
+trouble_for Surely why = why
+trouble_for Maybe None = None
+trouble_for Maybe (Some why) = Some Unsure
+trouble_for Never why = None
+
 abbrev pub trouble_word : Trouble → List ℕ
 trouble_word Unmet = codes "unmet"
 trouble_word Unsure = codes "unsure"
@@ -46,9 +66,11 @@ trouble_line None heading field text = []
 trouble_line (Some why) heading field text =
     concat (trouble_word why ∷ heading ∷ field ∷ codes " " ∷ text ∷ codes "\n" ∷ [])
 
-abbrev pub group_lines : Environment → List Listed → List ℕ → List ℕ → Group → List ℕ
-group_lines environment packages heading field group =
-    trouble_line (trouble environment packages group) heading field (group_text group)
+-- the line of a group of a paragraph that is asked so
+abbrev pub group_lines : Environment → Scope → Applies → List ℕ → List ℕ → Group → List ℕ
+group_lines environment scope tried heading field group =
+    trouble_line (trouble_for tried (trouble_in scope environment group)) heading field
+    (group_text group)
 
 -- For amd64, over aa in version 1 for amd64 alone.
 abbrev environment : Environment
@@ -108,8 +130,47 @@ worked-can : (can_be_unmet environment packages (alone (codes "bb") ∷ []) ≡ 
     × (can_be_otherwise environment packages [] ≡ true)
 worked-can = (refl, refl, refl, refl, refl, refl)
 
+-- aa and bb, and then not in it: what the old index met has a line, what it didn't meet or may not
+-- have met has none, and neither has what is met now
+abbrev changed : List Listed → List Group → List (Option Trouble)
+changed old groups =
+    map
+    (trouble_in (record { packages = packages; unless = Some old; without = [] }) environment)
+    groups
+
+abbrev of_bb : List Listed
+of_bb =
+    record {
+      name = codes "bb";
+      version = version_in (codes "1");
+      architecture = codes "amd64";
+      multi_arch = None;
+      provisions = [];
+    } ∷ []
+
+worked-old : changed of_bb
+    ((alone (codes "bb") ∷ []) ∷ (alone (codes "cc") ∷ []) ∷ (alone (codes "aa") ∷ [])
+    ∷ (with_list (codes "bb") false (codes "linux-any") ∷ [])
+    ∷ (with_list (codes "cc") false (codes "linux-any") ∷ [])
+    ∷ (with_list (codes "aa") false (codes "linux-any") ∷ alone (codes "bb") ∷ []) ∷ [])
+    ≡ Some Unmet ∷ None ∷ None ∷ Some Unsure ∷ None ∷ Some Unsure ∷ []
+worked-old = refl
+
+worked-none_old : (map (trouble_in (plain packages) environment)
+    ((alone (codes "bb") ∷ []) ∷ (alone (codes "aa") ∷ []) ∷ []) ≡ Some Unmet ∷ None ∷ [])
+    × (map (λ old. was_met old environment (alone (codes "bb") ∷ []))
+    (None ∷ Some [] ∷ Some packages ∷ Some of_bb ∷ []) ≡ true ∷ false ∷ false ∷ true ∷ [])
+worked-none_old = (refl, refl)
+
+worked-for : map (λ tried. map (trouble_for tried) (Some Unmet ∷ Some Unsure ∷ None ∷ []))
+    (Surely ∷ Maybe ∷ Never ∷ [])
+    ≡ (Some Unmet ∷ Some Unsure ∷ None ∷ []) ∷ (Some Unsure ∷ Some Unsure ∷ None ∷ [])
+    ∷ (None ∷ None ∷ None ∷ []) ∷ []
+worked-for = refl
+
 -- lines, and none
-worked-lines : map (group_lines environment packages (codes " 2 world 1.0 all ") (codes "Depends"))
+worked-lines : map
+    (group_lines environment (plain packages) Surely (codes " 2 world 1.0 all ") (codes "Depends"))
     ((alone (codes "aa") ∷ [])
     ∷ (alone (codes "bb") ∷ with_bound (codes "aa") LaterEqual (codes "2") ∷ [])
     ∷ (with_list (codes "bb") true (codes "linux-any") ∷ []) ∷ [])

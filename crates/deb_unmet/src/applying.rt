@@ -68,7 +68,7 @@ fn decided(applies: bool) -> Applies
     }
 }
 
-fn is_among(name: &[u8], names: &[&[u8]]) -> bool
+pub(crate) fn is_among(name: &[u8], names: &[&[u8]]) -> bool
     ensures { result ≡ is_among name.now (names_of names.now) }
 {
     some_is(names, name)
@@ -93,7 +93,7 @@ fn some_name_is_open(names: &[&[u8]]) -> bool
 }
 
 /// Returns whether a name that isn't the target may be read as holding it.
-fn is_open(name: &[u8]) -> bool
+pub(crate) fn is_open(name: &[u8]) -> bool
     ensures { result ≡ is_open name.now }
 {
     is_wildcard(name) || has_hyphen(name)

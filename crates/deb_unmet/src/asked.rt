@@ -3,7 +3,7 @@
 ghost use Rattle.std.specs.Prelude.{◌≡◌};
 ghost use Rattle.deb_relation.specs.Views.{names_of};
 ghost use Rattle.deb_base.specs.Kinds.{known_row};
-ghost use Rattle.deb_unmet.specs.Asked.{doc_of, fields_asked, fields_with, is_binary, name_field, rows_asked, rows_with};
+ghost use Rattle.deb_unmet.specs.Asked.{by_target, doc_of, fields_asked, fields_with, is_binary, is_of_target, name_field, rows_asked, rows_with};
 
 use deb_base::rows::{
     BUILD_DEPENDS, BUILD_DEPENDS_ARCH, BUILD_DEPENDS_INDEP, DEPENDS, PACKAGE, PRE_DEPENDS,
@@ -21,9 +21,20 @@ pub enum Asked {
     Binary(Strength),
     /// An index of source packages: Build-Depends, Build-Depends-Arch and Build-Depends-Indep
     /// (Debian Policy 7.7).
-    Sources,
+    Sources(SourcesAsked),
     /// The description of a source package: the same fields.
-    Source,
+    Source(SourcesAsked),
+}
+
+/// Which source packages are asked (Debian Policy 5.6.8).
+#[derive(Clone, Copy, Debug, PartialEq, Eq)]
+pub enum SourcesAsked {
+    /// Those whose Architecture has `any`, `all` or the target, or that have no such field; and
+    /// those that have another name that may be read as holding the target, as `linux-any`: their
+    /// lines say `unsure`.
+    OfTarget,
+    /// All.
+    All,
 }
 
 /// Which relations of a binary package are asked (Debian Policy 7.2).
@@ -52,8 +63,8 @@ impl Asked {
         match self {
             Asked::Packages(_) => Doc::Packages,
             Asked::Binary(_) => Doc::Binary,
-            Asked::Sources => Doc::Sources,
-            Asked::Source => Doc::Source,
+            Asked::Sources(_) => Doc::Sources,
+            Asked::Source(_) => Doc::Source,
         }
     }
 
@@ -63,7 +74,7 @@ impl Asked {
     {
         match self {
             Asked::Packages(strength) | Asked::Binary(strength) => fields_with(strength),
-            Asked::Sources | Asked::Source => BUILD,
+            Asked::Sources(_) | Asked::Source(_) => BUILD,
         }
     }
 
@@ -73,7 +84,17 @@ impl Asked {
     {
         match self {
             Asked::Packages(_) | Asked::Binary(_) => true,
-            Asked::Sources | Asked::Source => false,
+            Asked::Sources(_) | Asked::Source(_) => false,
+        }
+    }
+
+    /// Returns whether only source packages that are built for the target are asked.
+    pub(crate) fn by_target(self) -> bool
+        ensures { result ≡ by_target self }
+    {
+        match self {
+            Asked::Packages(_) | Asked::Binary(_) => false,
+            Asked::Sources(which) | Asked::Source(which) => which.is_of_target(),
         }
     }
 
@@ -85,7 +106,7 @@ impl Asked {
     {
         match self {
             Asked::Packages(strength) | Asked::Binary(strength) => rows_with(strength),
-            Asked::Sources | Asked::Source => BUILD_ROWS,
+            Asked::Sources(_) | Asked::Source(_) => BUILD_ROWS,
         }
     }
 
@@ -95,8 +116,19 @@ impl Asked {
         ensures { result ≡ known_row (name_field self) }
     {
         match self {
-            Asked::Packages(_) | Asked::Binary(_) | Asked::Sources => PACKAGE,
-            Asked::Source => SOURCE,
+            Asked::Packages(_) | Asked::Binary(_) | Asked::Sources(_) => PACKAGE,
+            Asked::Source(_) => SOURCE,
+        }
+    }
+}
+
+impl SourcesAsked {
+    fn is_of_target(self) -> bool
+        ensures { result ≡ is_of_target self }
+    {
+        match self {
+            SourcesAsked::OfTarget => true,
+            SourcesAsked::All => false,
         }
     }
 }

@@ -9,21 +9,19 @@ ghost use Rattle.deb_control.specs.Checking.{IsRefusalOfDocument};
 ghost use Rattle.deb_control.specs.ValueFiles.{ValueEntries};
 ghost use Rattle.deb_field.specs.Values.{ValueMeaning};
 ghost use Rattle.deb_relation.specs.Environments.{environment_of};
-ghost use Rattle.deb_index.specs.Indexes.{packages_of};
 ghost use Rattle.deb_unmet.specs.Asking.{IsWritersFault, PutsLines, asks_of};
 ghost use Rattle.deb_unmet.specs.Fields.{paragraph_lines};
 ghost use Rattle.deb_unmet.specs.Files.{WritesRead, WritesRefused, WritesSome, WritesFile};
 ghost use Rattle.deb_unmet.specs.Paragraphs.{HasTextsOf};
+ghost use Rattle.deb_unmet.specs.Scopes.{scope_of};
 
 use crate::asked::Request;
-use crate::group::Question;
 use crate::line_texts::LineTexts;
 use crate::lines::append_lines;
 use crate::paragraph::Paragraph;
+use crate::question::Question;
 use deb_base::{Fault, Sink, Source, put_all};
 use deb_control::{Checked, FieldTexts};
-use deb_index::Index;
-use deb_relation::Env;
 use std::alloc::Global;
 
 /// What was written of a whole file.
@@ -45,6 +43,10 @@ pub struct Summary {
 /// a binary package is its architecture, or that of the environment if its architecture can't be a
 /// target, as `all`.
 ///
+/// A group that an old index doesn't meet in every reading has no line, and neither has a binary
+/// package whose name is left out. Of source packages those for the target are asked, or all
+/// ([`crate::SourcesAsked`]).
+///
 /// One paragraph is in memory. At most 4,295,032,831 bytes are read: a file of the most bytes, and
 /// one piece. Promises about the text of the file hold for a reader whose bytes are known.
 ///
@@ -59,27 +61,26 @@ pub struct Summary {
 ///   written.
 pub fn unmet<R: Source, W: Sink>(
     alloc: Global,
-    index: &Index,
-    environment: &Env,
+    question: &Question<'_>,
     request: Request,
     reader: &mut R,
     writer: &mut W,
 ) -> Result<Summary, Fault>
     ensures ok { (text : List ℕ) → R.left reader.old ≡ Some text
         → IfOk result (λ summary. WritesFile
-        (asks_of request (environment_of environment.now) (packages_of index.now)) text summary
-        (W.held writer.old) (W.held writer.new)) }
+        (asks_of request (environment_of question.now.environment.now) (scope_of question.now))
+        text summary (W.held writer.old) (W.held writer.new)) }
     ensures refused { (text : List ℕ) → R.left reader.old ≡ Some text
         → IfRefused result (λ refusal. WritesRefused
-        (asks_of request (environment_of environment.now) (packages_of index.now)) text refusal
-        (W.held writer.old) (W.held writer.new)) }
+        (asks_of request (environment_of question.now.environment.now) (scope_of question.now))
+        text refusal (W.held writer.old) (W.held writer.new)) }
     ensures cut_off { (text : List ℕ) → R.left reader.old ≡ Some text
         → IfCutOff result (WritesRead
-        (asks_of request (environment_of environment.now) (packages_of index.now)) text
+        (asks_of request (environment_of question.now.environment.now) (scope_of question.now)) text
         (W.held writer.old) (W.held writer.new)) }
     ensures write { (text : List ℕ) → R.left reader.old ≡ Some text
         → IfWriteFailed result (WritesSome
-        (asks_of request (environment_of environment.now) (packages_of index.now)) text
+        (asks_of request (environment_of question.now.environment.now) (scope_of question.now)) text
         (W.held writer.old) (W.held writer.new)) }
     ensures reads_at_most { (text : List ℕ) → R.left reader.old ≡ Some text
         → TakesNoMore text file_limit (R.left reader.new) }
@@ -95,7 +96,6 @@ pub fn unmet<R: Source, W: Sink>(
     ensures fault_iff_write_failed { WriteFaultIffFailed (W.failures writer.old)
         (W.failures writer.new) result }
 {
-    let question = Question { index, environment };
     let mut checked = Checked::new(alloc, request.asked.doc());
     let mut texts = FieldTexts::new(alloc);
     let mut is_empty = true;
@@ -114,7 +114,7 @@ pub fn unmet<R: Source, W: Sink>(
             number: count + 1,
             texts: &LineTexts::of(request, &view, &texts),
         };
-        let is_met = write_paragraph(alloc, &question, &paragraph, writer)?;
+        let is_met = write_paragraph(alloc, question, &paragraph, writer)?;
         is_empty = is_empty && is_met;
     }
     // No file has so many paragraphs.
@@ -135,7 +135,7 @@ pub(crate) fn write_paragraph<W: Sink>(
     ensures puts { (values : ValueEntries ValueMeaning)
         → HasTextsOf paragraph.now.asked paragraph.now.texts.now values
         → PutsLines (paragraph_lines paragraph.now.asked
-        (environment_of question.now.environment.now) (packages_of question.now.index.now)
+        (environment_of question.now.environment.now) (scope_of question.now)
         paragraph.now.number paragraph.now.texts.now.version.now values) result (W.held writer.old)
         (W.held writer.new) }
     ensures counts_failure { W.failures writer.new ≡ write_failures_after

@@ -10,26 +10,19 @@ ghost use Rattle.deb_index.specs.CanonicalTexts.{OfGroup, OfRelation};
 ghost use Rattle.deb_index.specs.Indexes.{packages_of};
 ghost use Rattle.deb_unmet.specs.Paragraphs.{heading_in};
 ghost use Rattle.deb_unmet.specs.Readings.{applies_by, may};
+ghost use Rattle.deb_unmet.specs.Scopes.{old_packages, scope_of};
 ghost use Rattle.deb_unmet.specs.SoFar.{trouble_by, unless_met, with_alternative};
-ghost use Rattle.deb_unmet.specs.Troubles.{group_lines, is_met, trouble, trouble_line, trouble_word};
+ghost use Rattle.deb_unmet.specs.Troubles.{group_lines, is_met, trouble, trouble_for, trouble_in, trouble_line, trouble_word, was_met};
 
 use crate::applying::{Applies, applies_by};
 use crate::paragraph::Paragraph;
 use crate::plain::is_plainly_met;
+use crate::question::{Candidates, Question};
 use crate::trouble::Trouble;
-use deb_index::{Index, cut_group, next_alternative, only_alternative};
-use deb_relation::{Alternative, Env, Relation};
+use crate::trying::Tried;
+use deb_index::{cut_group, next_alternative, only_alternative};
+use deb_relation::{Alternative, Relation};
 use std::alloc::{AllocError, Global};
-
-/// The packages that may meet a relation, and the environment of the relation.
-#[derive(Clone, Copy)]
-pub struct Question<'a> {
-    /// The index of the packages.
-    pub index: &'a Index,
-    /// The environment of the relation. [`crate::append_lines`] takes a binary package's own
-    /// architecture in place of its target, if that can be a target.
-    pub environment: &'a Env,
-}
 
 /// Appends the line of each group that has one, of the relation with a canonical text in a field of
 /// a paragraph.
@@ -37,18 +30,18 @@ pub(crate) fn append_groups(
     alloc: Global,
     out: &mut Vec<u8>,
     question: &Question<'_>,
-    paragraph: &Paragraph<'_>,
+    tried: &Tried<'_>,
     field: &[u8],
     text: &[u8],
 ) -> Result<(), AllocError>
     ensures { OfRelation text.now (λ m. OnOk result (out.new.items ≡ out.old.items ++ flat_map
-        (group_lines (environment_of question.now.environment.now)
-        (packages_of question.now.index.now) (heading_in paragraph.now) field.now) m)) }
+        (group_lines (environment_of question.now.environment.now) (scope_of question.now)
+        tried.now.applies (heading_in tried.now.paragraph.now) field.now) m)) }
 {
     let mut rest = text;
     while !rest.is_empty() {
         let (group, others) = cut_group(rest);
-        append_group(alloc, out, question, paragraph, field, group)?;
+        append_group(alloc, out, question, tried, field, group)?;
         rest = others;
     }
     Ok(())
@@ -59,19 +52,24 @@ fn append_group(
     alloc: Global,
     out: &mut Vec<u8>,
     question: &Question<'_>,
-    paragraph: &Paragraph<'_>,
+    tried: &Tried<'_>,
     field: &[u8],
     group: &[u8],
 ) -> Result<(), AllocError>
     ensures { OfGroup group.now (λ g. OnOk result (out.new.items ≡ out.old.items ++ group_lines
-        (environment_of question.now.environment.now) (packages_of question.now.index.now)
-        (heading_in paragraph.now) field.now g)) }
+        (environment_of question.now.environment.now) (scope_of question.now)
+        tried.now.applies (heading_in tried.now.paragraph.now) field.now g)) }
 {
-    if is_plainly_met(question, group) {
+    let now = Candidates {
+        index: question.index,
+        environment: question.environment,
+    };
+    if is_plainly_met(&now, group) {
         return Ok(());
     }
-    let why = trouble_of(alloc, question, group)?;
-    append_line(out, why, paragraph, field, group)
+    let why = trouble_in(alloc, question, group)?;
+    let why = trouble_for(tried.applies, why);
+    append_line(out, why, tried.paragraph, field, group)
 }
 
 /// Appends the line of the group with this text, if there is a reason for one.
@@ -96,10 +94,61 @@ fn append_line(
     Ok(())
 }
 
-/// Returns why the group with a canonical text has a line, if it has one.
-fn trouble_of(
+/// Returns why the group with a canonical text has a line, if it has one and its paragraph is
+/// surely asked. An old index is asked only of a group that the packages don't meet.
+fn trouble_in(
     alloc: Global,
     question: &Question<'_>,
+    group: &[u8],
+) -> Result<Option<Trouble>, AllocError>
+    ensures { OfGroup group.now (λ g. IfOk result (λ why. why
+        ≡ trouble_in (scope_of question.now) (environment_of question.now.environment.now) g)) }
+{
+    let now = Candidates {
+        index: question.index,
+        environment: question.environment,
+    };
+    let why = trouble_of(alloc, &now, group)?;
+    if why.is_none() {
+        return Ok(None);
+    }
+    let met = was_met(alloc, question, group)?;
+    if met { Ok(why) } else { Ok(None) }
+}
+
+/// Returns whether an old index, if there is one, meets or ignores the group with a canonical text
+/// in every reading.
+fn was_met(alloc: Global, question: &Question<'_>, group: &[u8]) -> Result<bool, AllocError>
+    ensures { OfGroup group.now (λ g. IfOk result (λ met. met
+        ≡ was_met (old_packages question.now.unless)
+        (environment_of question.now.environment.now) g)) }
+{
+    let Some(index) = question.unless else {
+        return Ok(true);
+    };
+    let old = Candidates {
+        index,
+        environment: question.environment,
+    };
+    let why = trouble_of(alloc, &old, group)?;
+    Ok(why.is_none())
+}
+
+/// Returns why a group has a line whose paragraph is asked so.
+fn trouble_for(applies: Applies, why: Option<Trouble>) -> Option<Trouble>
+    ensures { result ≡ trouble_for applies why }
+{
+    match applies {
+        Applies::Surely => why,
+        Applies::Maybe => why.map(|_| Trouble::Unsure),
+        Applies::Never => None,
+    }
+}
+
+/// Returns why packages leave the group with a canonical text unmet, if they may.
+fn trouble_of(
+    alloc: Global,
+    question: &Candidates<'_>,
     group: &[u8],
 ) -> Result<Option<Trouble>, AllocError>
     ensures { OfGroup group.now (λ g. IfOk result
@@ -124,7 +173,7 @@ fn trouble_of(
 }
 
 /// Returns whether an alternative that applies so is met in some reading.
-fn may_be_met(question: &Question<'_>, applies: Applies, alternative: &Alternative<'_>) -> bool
+fn may_be_met(question: &Candidates<'_>, applies: Applies, alternative: &Alternative<'_>) -> bool
     ensures { result ≡ (may applies && is_met (environment_of question.now.environment.now)
         (packages_of question.now.index.now) (alternative_of alternative.now)) }
 {
@@ -145,7 +194,7 @@ struct Readings {
 impl Readings {
     /// The readings with the only alternative of a relation more; none if that surely applies and
     /// is met.
-    fn with_only(self, question: &Question<'_>, relation: &Relation<'_>) -> Option<Readings>
+    fn with_only(self, question: &Candidates<'_>, relation: &Relation<'_>) -> Option<Readings>
         ensures { (a : Meaning) → relation_of relation.now ≡ (a ∷ []) ∷ [] → result
             ≡ unless_met (applies_by (environment_of question.now.environment.now) a)
             (is_met (environment_of question.now.environment.now)

@@ -1,8 +1,9 @@
 //! Writes lines of the paragraphs of a file over all of its packages.
 
-ghost use Rattle.std.specs.Prelude.{◌≡◌, ◌++◌, ◌-◌, ◌<◌, ◌^◌, ◌≤◌, ℕ, List, Some, IfOk, IfErr, OnOk};
+ghost use Rattle.std.specs.Prelude.{◌≡◌, ◌++◌, ◌-◌, ◌<◌, ◌^◌, ◌≤◌, ℕ, List, [], Some, IfOk, IfErr, OnOk};
 ghost use Rattle.deb_base.specs.Bodies.{file_limit};
 ghost use Rattle.deb_base.specs.Devices.{read_failures_after, write_failures_after, ReadFaultIffFailed, WriteFaultIffFailed};
+ghost use Rattle.deb_base.specs.Faults.{IsReadersFault};
 ghost use Rattle.deb_base.specs.Reading.{TakesNoMore};
 ghost use Rattle.deb_control.specs.Calls.{IfRefused};
 ghost use Rattle.deb_control.specs.Checking.{IsRefusalOfDocument};
@@ -10,11 +11,12 @@ ghost use Rattle.deb_control.specs.Documents.{refusal_of};
 ghost use Rattle.deb_control.specs.ValueFiles.{ValueEntries};
 ghost use Rattle.deb_field.specs.Values.{ValueMeaning};
 ghost use Rattle.deb_index.specs.Indexes.{packages_of};
-ghost use Rattle.deb_index.specs.Members.{KeepsMembers, ListsMembers, doc_of};
+ghost use Rattle.deb_index.specs.Listed.{Listed};
+ghost use Rattle.deb_index.specs.Members.{doc_of};
 ghost use Rattle.deb_syntax.specs.Fields.{Field};
 ghost use Rattle.deb_unmet.specs.Asking.{IsWritersFault, PutsLines};
-ghost use Rattle.deb_unmet.specs.Own.{StopsOwn, WritesOwn, other_line, part_lines};
-ghost use Rattle.deb_unmet.specs.Parts.{AreParts, HoldsPart, IsOther};
+ghost use Rattle.deb_unmet.specs.Own.{StopsOwn, WritesOwn, asks_after, other_line, part_lines};
+ghost use Rattle.deb_unmet.specs.Parts.{AreParts, HoldsPart, IsOther, ReadsOver};
 
 use crate::asking::Summary;
 use crate::own_lines::{KeptLines, OwnLines, Part};
@@ -24,8 +26,9 @@ use deb_index::Index;
 use itoa::Buffer;
 use std::alloc::{AllocError, Global};
 
-/// Reads a file once, and writes the lines of its members, over the packages of all of them, and of
-/// the other paragraphs of a status file.
+/// Reads a file once, and writes the lines of its members, over the packages of `index` and of all
+/// of them (or those of these that [`OwnLines::over`] leaves), and of the other paragraphs of a
+/// status file.
 ///
 /// No line is written before the whole file has been read and has no refusal: of each member
 /// `L::Kept` is kept until then, and of each other paragraph its line. The lines are in the order
@@ -45,19 +48,20 @@ use std::alloc::{AllocError, Global};
 ///   written.
 pub fn write_in_itself<L: OwnLines, R: Source, W: Sink>(
     alloc: Global,
+    index: Index,
     lines: &L,
     reader: &mut R,
     writer: &mut W,
 ) -> Result<Summary, Fault>
     ensures ok { (text : List ℕ) → R.left reader.old ≡ Some text
-        → IfOk result (λ summary. WritesOwn (L.asks lines.now) text summary (W.held writer.old)
-        (W.held writer.new)) }
+        → IfOk result (λ summary. WritesOwn (asks_after (packages_of index) (L.asks lines.now))
+        text summary (W.held writer.old) (W.held writer.new)) }
     ensures refused { (text : List ℕ) → R.left reader.old ≡ Some text
         → IfRefused result (λ refusal. refusal_of (doc_of (L.asks lines.now).members) text
         ≡ Some refusal) }
     ensures stopped { (text : List ℕ) → R.left reader.old ≡ Some text
-        → IfErr result (λ fault. StopsOwn fault (L.asks lines.now) text (W.held writer.old)
-        (W.held writer.new)) }
+        → IfErr result (λ fault. StopsOwn fault (asks_after (packages_of index) (L.asks lines.now))
+        text (W.held writer.old) (W.held writer.new)) }
     ensures reads_at_most { (text : List ℕ) → R.left reader.old ≡ Some text
         → TakesNoMore text file_limit (R.left reader.new) }
 
@@ -74,8 +78,36 @@ pub fn write_in_itself<L: OwnLines, R: Source, W: Sink>(
         (W.failures writer.new) result }
 {
     let mut kept = KeptLines::<L>::new(alloc);
-    let index = Index::read_members(alloc, reader, lines.members(), &mut kept)?;
+    let index = read_over(alloc, index, lines, reader, &mut kept)?;
     write_kept(alloc, lines, &index, &kept.parts, writer)
+}
+
+/// Reads a file after those of an index, keeps what its lines need, and returns the index of the
+/// packages that these are over.
+fn read_over<L: OwnLines, R: Source>(
+    alloc: Global,
+    index: Index,
+    lines: &L,
+    reader: &mut R,
+    kept: &mut KeptLines<L>,
+) -> Result<Index, Fault>
+    ensures ok { (text : List ℕ) → R.left reader.old ≡ Some text → kept.old.parts.items ≡ []
+        → IfOk result (λ all. ReadsOver (asks_after (packages_of index) (L.asks lines.now))
+        (AreParts (L.asks lines.now).members L.Holds (IsOther L.asks) kept.new.parts.items) text
+        (packages_of all)) }
+    ensures refused { (text : List ℕ) → R.left reader.old ≡ Some text
+        → IfRefused result (λ refusal. refusal_of (doc_of (L.asks lines.now).members) text
+        ≡ Some refusal) }
+    ensures reads_at_most { (text : List ℕ) → R.left reader.old ≡ Some text
+        → TakesNoMore text file_limit (R.left reader.new) }
+    ensures fault { IfErr result (λ fault. IsReadersFault fault IsRefusalOfDocument) }
+    ensures counts_read_failure { R.failures reader.new ≡ read_failures_after
+        (R.failures reader.old) result }
+    ensures fault_iff_read_failed { ReadFaultIffFailed (R.failures reader.old)
+        (R.failures reader.new) result }
+{
+    let index = index.read_more_members(alloc, reader, lines.members(), kept)?;
+    Ok(lines.over(alloc, index)?)
 }
 
 /// Writes the lines of the paragraphs that are kept, over the packages of the index.
@@ -90,16 +122,17 @@ fn write_kept<L: OwnLines, W: Sink>(
     parts: &[Part<L::Kept>],
     writer: &mut W,
 ) -> Result<Summary, Fault>
-    ensures ok { (text : List ℕ) → ListsMembers (L.asks lines.now).members text
-        (packages_of index.now) → KeepsMembers (L.asks lines.now).members
+    ensures ok { (before : List Listed) (text : List ℕ)
+        → ReadsOver (asks_after before (L.asks lines.now))
         (AreParts (L.asks lines.now).members L.Holds (IsOther L.asks) parts.now) text
-        → IfOk result (λ summary. WritesOwn (L.asks lines.now) text summary (W.held writer.old)
+        (packages_of index.now) → IfOk result (λ summary. WritesOwn
+        (asks_after before (L.asks lines.now)) text summary (W.held writer.old)
         (W.held writer.new)) }
-    ensures stopped { (text : List ℕ) → ListsMembers (L.asks lines.now).members text
-        (packages_of index.now) → KeepsMembers (L.asks lines.now).members
+    ensures stopped { (before : List Listed) (text : List ℕ)
+        → ReadsOver (asks_after before (L.asks lines.now))
         (AreParts (L.asks lines.now).members L.Holds (IsOther L.asks) parts.now) text
-        → IfErr result (λ fault. StopsOwn fault (L.asks lines.now) text (W.held writer.old)
-        (W.held writer.new)) }
+        (packages_of index.now) → IfErr result (λ fault. StopsOwn fault
+        (asks_after before (L.asks lines.now)) text (W.held writer.old) (W.held writer.new)) }
     ensures counts_failure { W.failures writer.new ≡ write_failures_after
         (W.failures writer.old) result }
     ensures fault { IsWritersFault result }

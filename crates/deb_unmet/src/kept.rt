@@ -175,6 +175,7 @@ impl KeptParagraph {
                 VersionText::Spelled => texts.spelled,
             },
             architecture: texts.architecture,
+            built_for: None,
             relations: [texts.pre_depends, texts.depends, texts.recommends],
         }
     }

@@ -1,11 +1,29 @@
 //! Laws of the lines of a file. Each function does nothing; its contract is the law.
 
-ghost use Rattle.deb_unmet.specs.Laws.{CanonicalTextChangesNoLine, DecidedAsQueried, LinesAreSound, LinesSayReadings, QueryReadsNames, ReadingsDecide, SpelledVersionsAreEqual};
+ghost use Rattle.deb_unmet.specs.Laws.{AddedPackagesAddNoLine, CanonicalTextChangesNoLine, DecidedAsQueried, LinesAreSound, LinesSayReadings, LinesWithOld, NoLineFromCleanOld, QueryReadsNames, ReadingsDecide, SpelledVersionsAreEqual};
 
-/// The lines of a file with canonical versions don't change if the index, the file or both are
-/// replaced by their canonical text.
+/// The lines of a file with canonical versions don't change if the indexes, an old one too, the
+/// file or all of them are replaced by their canonical text, whichever names are left out.
 pub fn canonical_text_changes_no_line()
     ensures { CanonicalTextChangesNoLine }
+{}
+
+/// Packages that are added, before the others or after them, add no line: a group without one has
+/// none over more packages.
+pub fn added_packages_add_no_line()
+    ensures { AddedPackagesAddNoLine }
+{}
+
+/// With an old index a group has a line exactly if it is unmet over the packages in some reading,
+/// and met or ignored over the old ones in every reading. It is the line that it has without the
+/// old index.
+pub fn lines_with_old()
+    ensures { LinesWithOld }
+{}
+
+/// A group that has no line over the old index, and none with it, has none without it.
+pub fn no_line_from_clean_old()
+    ensures { NoLineFromCleanOld }
 {}
 
 /// With spelled versions, the lines of an accepted file differ from those with canonical versions

@@ -5,19 +5,22 @@ ghost use Rattle.std.specs.Option.{option_map};
 ghost use Rattle.deb_control.specs.ValueFiles.{ValueEntries};
 ghost use Rattle.deb_field.specs.Values.{ValueMeaning};
 ghost use Rattle.deb_relation.specs.Environments.{environment_of};
-ghost use Rattle.deb_index.specs.Indexes.{packages_of};
 ghost use Rattle.deb_unmet.specs.Asked.{fields_asked};
-ghost use Rattle.deb_unmet.specs.Fields.{fields_lines, own_environment, own_or, paragraph_lines};
+ghost use Rattle.deb_unmet.specs.Fields.{environment_for, fields_lines, own_environment, own_or, paragraph_lines};
 ghost use Rattle.deb_unmet.specs.Paragraphs.{HasTextsOf, heading_in};
+ghost use Rattle.deb_unmet.specs.Scopes.{scope_of};
 
 use crate::asked::Asked;
-use crate::group::{Question, append_groups};
+use crate::group::append_groups;
 use crate::paragraph::Paragraph;
+use crate::question::Question;
+use crate::trying::{Tried, is_tried};
 use deb_relation::{Env, EnvFault};
 use std::alloc::{AllocError, Global};
 
 /// Appends the lines of a paragraph: one for each group of its relations that no package of the
-/// index meets, or may not meet, as [`crate::unmet`] writes them.
+/// index meets, or may not meet, as [`crate::unmet`] writes them. A paragraph that isn't asked has
+/// none.
 ///
 /// # Errors
 ///
@@ -31,20 +34,45 @@ pub fn append_lines(
     ensures { (values : ValueEntries ValueMeaning)
         → HasTextsOf paragraph.now.asked paragraph.now.texts.now values
         → OnOk result (out.new.items ≡ out.old.items ++ paragraph_lines paragraph.now.asked
-        (environment_of question.now.environment.now) (packages_of question.now.index.now)
+        (environment_of question.now.environment.now) (scope_of question.now)
         paragraph.now.number paragraph.now.texts.now.version.now values) }
 {
+    let tried = Tried {
+        paragraph: &*paragraph,
+        applies: is_tried(question, paragraph),
+    };
+    append_tried(alloc, out, question, &tried)
+}
+
+/// Appends the lines of a paragraph that is asked so.
+fn append_tried(
+    alloc: Global,
+    out: &mut Vec<u8>,
+    question: &Question<'_>,
+    tried: &Tried<'_>,
+) -> Result<(), AllocError>
+    ensures { (values : ValueEntries ValueMeaning)
+        → HasTextsOf tried.now.paragraph.now.asked tried.now.paragraph.now.texts.now values
+        → OnOk result (out.new.items ≡ out.old.items ++ fields_lines
+        (environment_for tried.now.paragraph.now.asked
+        (environment_of question.now.environment.now) values) (scope_of question.now)
+        tried.now.applies (heading_in tried.now.paragraph.now) values
+        (fields_asked tried.now.paragraph.now.asked)) }
+{
+    if !tried.applies.may() {
+        return Ok(());
+    }
     let own = own_environment(
         alloc,
-        paragraph.asked,
+        tried.paragraph.asked,
         question.environment,
-        paragraph.texts.architecture,
+        tried.paragraph.texts.architecture,
     )?;
     let own_question = Question {
-        index: question.index,
         environment: own_or(own.as_ref(), question.environment),
+        ..*question
     };
-    append_fields(alloc, out, &own_question, paragraph)
+    append_fields(alloc, out, &own_question, tried)
 }
 
 /// Returns the own environment, if there is one, and else the other.
@@ -86,18 +114,19 @@ fn append_fields(
     alloc: Global,
     out: &mut Vec<u8>,
     question: &Question<'_>,
-    paragraph: &Paragraph<'_>,
+    tried: &Tried<'_>,
 ) -> Result<(), AllocError>
     ensures { (values : ValueEntries ValueMeaning)
-        → HasTextsOf paragraph.now.asked paragraph.now.texts.now values
+        → HasTextsOf tried.now.paragraph.now.asked tried.now.paragraph.now.texts.now values
         → OnOk result (out.new.items ≡ out.old.items ++ fields_lines
-        (environment_of question.now.environment.now) (packages_of question.now.index.now)
-        (heading_in paragraph.now) values (fields_asked paragraph.now.asked)) }
+        (environment_of question.now.environment.now) (scope_of question.now)
+        tried.now.applies (heading_in tried.now.paragraph.now) values
+        (fields_asked tried.now.paragraph.now.asked)) }
 {
-    let fields = paragraph.asked.fields();
+    let fields = tried.paragraph.asked.fields();
     for row in 0..fields.len() {
-        let text = paragraph.texts.relation(row);
-        append_groups(alloc, out, question, paragraph, fields[row], text)?;
+        let text = tried.paragraph.texts.relation(row);
+        append_groups(alloc, out, question, tried, fields[row], text)?;
     }
     Ok(())
 }

@@ -23,13 +23,24 @@ pub trait OwnLines {
     /// This is kept of fields that have these values.
     ghost Holds: { List Field → ValueEntries ValueMeaning → Self.Kept → Type 0 };
 
-    /// Which paragraphs of a file are its packages, which text of a version the lines have, the
-    /// lines of a member, and what the line of another paragraph ends with.
+    /// Which paragraphs of a file are its packages, which text of a version the lines have, which
+    /// packages they are over, the lines of a member, and what the line of another paragraph ends
+    /// with.
     ghost asks: { Self → OwnAsks };
 
     /// Returns which paragraphs of a file are its packages.
     fn members(&self) -> Members
         ensures { result ≡ (asks self.now).members };
+
+    /// Returns the index of the packages that the lines are over, of the index of all packages that
+    /// were read.
+    ///
+    /// # Errors
+    ///
+    /// Out of memory.
+    fn over(&self, alloc: Global, index: Index) -> Result<Index, AllocError>
+        ensures { IfOk result (λ rest. packages_of rest
+            ≡ (asks self.now).over (packages_of index)) };
 
     /// Returns what is kept of a member. `texts` has its words and relations.
     ///
@@ -58,8 +69,8 @@ pub trait OwnLines {
         ensures { (values : ValueEntries ValueMeaning) → GivesValues paragraph.now texts.now values
             → IfOk result (λ text. IsOther asks values text.items) };
 
-    /// Appends the lines of a member of which this is kept. `index` has all packages, and `number`
-    /// counts the members from 1.
+    /// Appends the lines of a member of which this is kept. `index` has the packages that they are
+    /// over, and `number` counts the members from 1.
     ///
     /// # Errors
     ///

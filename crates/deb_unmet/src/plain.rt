@@ -18,7 +18,7 @@ ghost use Rattle.deb_index.specs.Meeting.{effective, meets, meets_bound};
 ghost use Rattle.deb_unmet.specs.Plain.{plain};
 ghost use Rattle.deb_unmet.specs.Troubles.{is_met, trouble};
 
-use crate::group::Question;
+use crate::question::Candidates;
 use deb_base::is_package_name;
 use deb_index::Package;
 use deb_relation::{Env, Op};
@@ -26,7 +26,7 @@ use deb_version::Version;
 
 /// Returns whether the group with a canonical text is one alternative, a name alone or with a
 /// bound, that the first package of this name meets.
-pub(crate) fn is_plainly_met(question: &Question<'_>, group: &[u8]) -> bool
+pub(crate) fn is_plainly_met(question: &Candidates<'_>, group: &[u8]) -> bool
     ensures { OfGroup group.now (λ g. IsTrue result
         → trouble (environment_of question.now.environment.now)
         (packages_of question.now.index.now) g ≡ None) }
@@ -87,7 +87,7 @@ fn cut_close(text: &[u8]) -> Option<&[u8]>
 
 /// Whether the first package of this name meets the bound. Others aren't asked, since many may have
 /// the name.
-fn first_meets(question: &Question<'_>, name: &[u8], bound: &Option<(Op, Version<'_>)>) -> bool
+fn first_meets(question: &Candidates<'_>, name: &[u8], bound: &Option<(Op, Version<'_>)>) -> bool
     ensures { IsTrue result → IsTrue (is_met (environment_of question.now.environment.now)
         (packages_of question.now.index.now) (plain name.now (option_map bound_of bound.now))) }
 {

@@ -41,7 +41,8 @@ const LINES: &str = "\
     --least\"))\n\
     normalise --kind source x => Ok(Run(Call { job: Normalise(Source), first: Some(\"x\"), \
     second: None }))\n\
-    same x y => Ok(Run(Call { job: Same(Packages), first: Some(\"x\"), second: Some(\"y\") }))\n\
+    same x y => Ok(Run(Call { job: Same(Packages), first: Some(\"x\"), second: Some(\"y\") \
+    }))\n\
     diff x - => Ok(Run(Call { job: Diff { kind: Packages, detail: Fields, versions: Canonical \
     }, first: Some(\"x\"), second: Some(\"-\") }))\n\
     diff --values --spelled -k source x y => Ok(Run(Call { job: Diff { kind: Source, detail: \
@@ -61,14 +62,40 @@ const LINES: &str = "\
     query --arch amd64 --why --spelled --installed --relation-from f x => Ok(Run(Call { job: \
     QueryFrom { arch: \"amd64\", profiles: [], members: Installed, detail: Reasons, versions: \
     Spelled }, first: Some(\"f\"), second: Some(\"x\") }))\n\
+    query --arch amd64 aa x => Ok(Run(Call { job: Query { arch: \"amd64\", profiles: [], \
+    relation: \"aa\", members: All, detail: Verdicts, versions: Canonical }, first: \
+    Some(\"x\"), second: None }))\n\
+    query --arch amd64 --profiles a aa x - x => Ok(Query(QueryOver { arch: \"amd64\", profiles: \
+    [\"a\"], relation: Text(\"aa\"), members: All, detail: Verdicts, versions: Canonical, \
+    indexes: [\"x\", \"-\", \"x\"] }))\n\
+    query --arch amd64 --why --spelled --installed --relation-from f x y => Ok(Query(QueryOver \
+    { arch: \"amd64\", profiles: [], relation: From(\"f\"), members: Installed, detail: \
+    Reasons, versions: Spelled, indexes: [\"x\", \"y\"] }))\n\
+    query --arch amd64 --relation-from - x - => Err(Usage(\"usage: standard input twice\"))\n\
+    query --arch amd64 => Err(Usage(\"usage: query takes a relation, or --relation-from\"))\n\
     version-key 1 2 => Ok(Run(Call { job: VersionKey([\"1\", \"2\"]), first: None, second: None \
     }))\n\
-    unmet --arch amd64 --recommends x => Ok(Run(Call { job: Unmet { arch: \"amd64\", profiles: \
-    [], members: All, dependents: Index(Recommends), versions: Canonical }, first: Some(\"x\"), \
-    second: None }))\n\
-    unmet --arch amd64 --installed --spelled --kind sources x - => Ok(Run(Call { job: Unmet { \
-    arch: \"amd64\", profiles: [], members: Installed, dependents: Sources, versions: Spelled \
-    }, first: Some(\"x\"), second: Some(\"-\") }))\n\
+    unmet --arch amd64 --recommends x => Ok(Unmet(Unmet { arch: \"amd64\", profiles: [], \
+    all_for: None, members: All, dependents: Index(Recommends), versions: Canonical, without: \
+    [], files: UnmetFiles { unless: None, indexes: [\"x\"], path: None } }))\n\
+    unmet --arch amd64 --installed --spelled --kind sources x - => Ok(Unmet(Unmet { arch: \
+    \"amd64\", profiles: [], all_for: None, members: Installed, dependents: Sources(OfTarget), \
+    versions: Spelled, without: [], files: UnmetFiles { unless: None, indexes: [\"x\"], path: \
+    Some(\"-\") } }))\n\
+    unmet --arch amd64 --index a --index=- --unless-in o --without a,,b --all-for i386 \
+    --profiles p x y => Ok(Unmet(Unmet { arch: \"amd64\", profiles: [\"p\"], all_for: \
+    Some(\"i386\"), members: All, dependents: Packages(Depends), versions: Canonical, without: \
+    [\"a\", \"\", \"b\"], files: UnmetFiles { unless: Some(\"o\"), indexes: [\"a\", \"-\", \
+    \"x\"], path: Some(\"y\") } }))\n\
+    unmet --arch amd64 --all-sources -k source x y => Ok(Unmet(Unmet { arch: \"amd64\", \
+    profiles: [], all_for: None, members: All, dependents: Source(All), versions: Canonical, \
+    without: [], files: UnmetFiles { unless: None, indexes: [\"x\"], path: Some(\"y\") } }))\n\
+    unmet --arch amd64 --all-sources x => Err(Usage(\"usage: unmet takes --all-sources only for \
+    source packages\"))\n\
+    unmet --arch amd64 --all-for i386 -k sources x y => Err(Usage(\"usage: unmet takes \
+    --all-for only for binary packages\"))\n\
+    unmet --arch amd64 --unless-in - --index a x - => Err(Usage(\"usage: standard input \
+    twice\"))\n\
     unmet --arch amd64 -k source x => Err(Usage(\"usage: unmet takes another --kind only with a \
     second path\"))\n\
     unmet --arch amd64 --kind status x y => Err(Usage(\"usage: unmet takes no --kind \
@@ -118,6 +145,14 @@ const LINES: &str = "\
     source packages only with --index and PATH\"))\n\
     installable --arch amd64 --kind status x => Err(Usage(\"usage: installable takes --kind \
     packages, sources or source\"))\n\
+    latest x => Ok(Latest(LatestOf { kind: Packages, by: Name, before: None, paths: [\"x\"] \
+    }))\n\
+    latest -k sources --by name,arch --before 1.0 y x => Ok(Latest(LatestOf { kind: Sources, \
+    by: NameAndArchitecture, before: Some(\"1.0\"), paths: [\"y\", \"x\"] }))\n\
+    latest -k source x => Err(Usage(\"usage: latest takes --kind packages or sources\"))\n\
+    latest --by arch x => Err(Usage(\"usage: latest takes --by name or name,arch\"))\n\
+    latest x - => Err(Usage(\"usage: latest reads its files twice, so it can't read standard \
+    input\"))\n\
     compare 1 xx 2 => Err(Usage(\"usage: unknown operator\"))\n\
     check --kind foo => Err(Usage(\"usage: unknown kind\"))\n\
     explain --kind source x => Ok(Explain(File { doc: Source, path: Some(\"x\") }))\n\

@@ -1,13 +1,14 @@
 -- What the program's words ask, as a function of what `clap` makes of them. (The words are this
 -- project's own.)
-use Rattle.std.specs.Prelude.{ℕ, ◌^◌, ◌==◌, ◌&&◌, Bool, true, false, not, List, [], ◌∷◌, ◌||◌, is_some, find, nat_lt, count_by, map, Option, Some, None, unwrap_or, option_map, if◌then◌else◌, codes, string_bytes, bytes_eq}
+use Rattle.std.specs.Prelude.{ℕ, ◌^◌, ◌==◌, ◌&&◌, ◌++◌, Bool, true, false, not, List, [], ◌∷◌, ◌||◌, is_some, find, nat_lt, count_by, map, Option, Some, None, unwrap_or, option_map, if◌then◌else◌, codes, bytes_eq}
 use Rattle.std.specs.Fmt.{decimal}
 use Rattle.std.specs.Str.Parse.{digits_value}
-use Rattle.std.specs.List.{slice_split}
+use Rattle.std.specs.List.{list_any, slice_split}
 use Rattle.std.specs.Option.{option_map_or}
 use Rattle.clap.specs.Simple.{subcommand_of}
 use Rattle.clap.specs.Walk.{Row, Text, all_of, first_of}
 use Rattle.debctl_args.specs.Commands.{debctl_app, has_help}
+use Rattle.debctl_args.specs.Requests.{Audited, AskedFiles, AskedQuery, AskedRelation, AskedTerms, AskedUnmet, Request, Wanted, audits, canonicalises, checks, checks_all, checks_health, checks_whole, compares, compares_files, explains, explains_all, explains_relation, explains_rule, explains_version, finds_changes, finds_latest, finds_unbuildable, finds_uninstallable, finds_unmet, finds_witness, keys, listed, normalises, of_file, of_text, paths, queries, queries_from, queries_over, sorts, wants}
 use Rattle.deb_base.specs.Codes.{name_of, number_of}
 use Rattle.deb_base.specs.declared.code.Code.{Code}
 use Rattle.deb_base.specs.declared.code.Code.TheVariants as code
@@ -27,26 +28,22 @@ use Rattle.debctl_args.specs.declared.jobs.DiffDetail.{DiffDetail}
 use Rattle.debctl_args.specs.declared.jobs.DiffDetail.TheVariants.{Fields, Values}
 use Rattle.debctl_args.specs.declared.jobs.DiffKind.{DiffKind}
 use Rattle.debctl_args.specs.declared.jobs.DiffKind.TheVariants as diffed
-use Rattle.debctl_args.specs.declared.jobs.Explain.TheVariants as explain
 use Rattle.debctl_args.specs.declared.jobs.Extent.{Extent}
 use Rattle.debctl_args.specs.declared.jobs.Extent.TheVariants.{First, All}
-use Rattle.debctl_args.specs.declared.jobs.Files.{Files}
-use Rattle.debctl_args.specs.declared.jobs.Files.TheVariants as files
-use Rattle.debctl_args.specs.declared.jobs.Job.{Job}
-use Rattle.debctl_args.specs.declared.jobs.Job.TheVariants as job
+use Rattle.debctl_args.specs.declared.jobs.LatestBy.{LatestBy}
+use Rattle.debctl_args.specs.declared.jobs.LatestBy.TheVariants.{Name, NameAndArchitecture}
+use Rattle.debctl_args.specs.declared.jobs.LatestKind.{LatestKind}
+use Rattle.debctl_args.specs.declared.jobs.LatestKind.TheVariants as latest
 use Rattle.debctl_args.specs.declared.jobs.LineEnd.{LineEnd}
 use Rattle.debctl_args.specs.declared.jobs.LineEnd.TheVariants.{Newline, Nul}
 use Rattle.debctl_args.specs.declared.jobs.Members.{Members}
 use Rattle.debctl_args.specs.declared.jobs.Members.TheVariants as members
-use Rattle.debctl_args.specs.declared.jobs.Reads.{Reads}
-use Rattle.debctl_args.specs.declared.jobs.Reads.TheVariants.{Nothing, OneFile, Paths}
 use Rattle.debctl_args.specs.declared.jobs.SourceKind.{SourceKind}
 use Rattle.debctl_args.specs.declared.jobs.SourceKind.TheVariants as sources
+use Rattle.debctl_args.specs.declared.jobs.SourcesTried.{SourcesTried}
+use Rattle.debctl_args.specs.declared.jobs.SourcesTried.TheVariants as tried
 use Rattle.debctl_args.specs.declared.jobs.Strength.{Strength}
 use Rattle.debctl_args.specs.declared.jobs.Strength.TheVariants.{Depends, Recommends}
-use Rattle.debctl_args.specs.declared.jobs.Task.{Task}
-use Rattle.debctl_args.specs.declared.jobs.Task.TheVariants as task
-use Rattle.debctl_args.specs.declared.jobs.Terms.{Terms}
 
 -- ---- words
 
@@ -165,143 +162,27 @@ abbrev pub strength_asked : Bool → Strength
 strength_asked false = Depends
 strength_asked true = Recommends
 
+-- which source packages are tried: all where that is asked for
+abbrev pub tried_asked : Bool → SourcesTried
+tried_asked false = tried.OfTarget
+tried_asked true = tried.All
+
+-- which paragraphs are of one package for `latest`: those with one name, or with one architecture
+-- too
+abbrev pub by_named : Text → Option LatestBy
+by_named word =
+    if bytes_eq word (codes "name") then Some Name
+    else if bytes_eq word (codes "name,arch") then Some NameAndArchitecture
+    else None
+
+-- the same: those with one name without a word
+abbrev pub by_asked : Option Text → Option LatestBy
+by_asked None = Some Name
+by_asked (Some word) = by_named word
+
 -- the texts that are given for an argument that takes any number
 abbrev pub texts_asked : Option (List Text) → List Text
 texts_asked given = unwrap_or given []
-
--- ---- requests
-
--- the files of `audit`: those of these paths, or those that a file lists
-pub data Audited : Type 0 where
-  paths : List Text → Audited
-  listed : Text → Audited
-
--- what a set has to contain and what it may not, with the bytes of the names
-pub record AskedTerms : Type 0 where
-  pub essential : Bool
-  pub without : List Text
-
--- a task, with the bytes of its words
-pub data Wanted : Type 0 where
-  checks : Doc → Wanted
-  checks_all : Doc → Wanted
-  checks_whole : Doc → Demands → Wanted
-  normalises : Doc → Wanted
-  compares_files : Doc → Wanted
-  finds_changes : DiffKind → DiffDetail → VersionText → Wanted
-  compares : Text → Cmp → Text → Wanted
-  canonicalises : Text → Wanted
-  keys : List Text → Wanted
-  sorts : Bool → Wanted
-  queries : Text → List Text → Text → Members → Detail → VersionText → Wanted
-  queries_from : Text → List Text → Members → Detail → VersionText → Wanted
-  finds_unmet : Text → List Text → Members → Dependents → VersionText → Wanted
-  checks_health : Text → Members → Strength → Wanted
-  finds_uninstallable : Text → Members → Strength → AskedTerms → List Text → ℕ → Bool → Wanted
-  finds_witness : Text → Members → Strength → AskedTerms → List Text → ℕ → Bool → Wanted
-  finds_unbuildable : Text → List Text → Members → SourceKind → AskedTerms → ℕ → Bool → Wanted
-  explains : Doc → Wanted
-  explains_all : Doc → Wanted
-  explains_rule : Code → Wanted
-  explains_relation : Text → Wanted
-  explains_version : Text → Wanted
-  audits : Doc → Audited → Extent → LineEnd → Demands → Wanted
-
--- what is wanted, and the paths of the files, two at most, that it reads if it is no audit
-pub record Request : Type 0 where
-  pub wanted : Wanted
-  pub first : Option Text
-  pub second : Option Text
-
-abbrev pub terms_of : Terms → AskedTerms
-terms_of terms =
-    record { essential = terms.essential; without = map string_bytes terms.without.items }
-
-abbrev pub wanted_of : Job → Wanted
-wanted_of (job.Check kind) = checks kind
-wanted_of (job.CheckAll kind) = checks_all kind
-wanted_of (job.CheckWhole kind demands) = checks_whole kind demands
-wanted_of (job.Normalise kind) = normalises kind
-wanted_of (job.Same kind) = compares_files kind
-wanted_of (job.Diff kind detail versions) = finds_changes kind detail versions
-wanted_of (job.Compare left operator right) =
-    compares (string_bytes left) operator (string_bytes right)
-wanted_of (job.CanonVersion version) = canonicalises (string_bytes version)
-wanted_of (job.VersionKey versions) = keys (map string_bytes versions.items)
-wanted_of (job.Sort reverse) = sorts reverse
-wanted_of (job.Query arch profiles relation members detail versions) =
-    queries (string_bytes arch) (map string_bytes profiles.items) (string_bytes relation) members
-    detail versions
-wanted_of (job.QueryFrom arch profiles members detail versions) =
-    queries_from (string_bytes arch) (map string_bytes profiles.items) members detail versions
-wanted_of (job.Unmet arch profiles members dependents versions) =
-    finds_unmet (string_bytes arch) (map string_bytes profiles.items) members dependents versions
-wanted_of (job.Healthy arch members strength) = checks_health (string_bytes arch) members strength
-wanted_of (job.Installable arch members strength terms names budget reasons) =
-    finds_uninstallable (string_bytes arch) members strength (terms_of terms)
-    (map string_bytes names.items) budget reasons
-wanted_of (job.Witness arch members strength terms names budget reasons) =
-    finds_witness (string_bytes arch) members strength (terms_of terms)
-    (map string_bytes names.items) budget reasons
-wanted_of (job.Buildable arch profiles members kind terms budget reasons) =
-    finds_unbuildable (string_bytes arch) (map string_bytes profiles.items) members kind
-    (terms_of terms) budget reasons
-
--- the files that a job reads
-abbrev pub reads_of : Job → Reads
-reads_of (job.Check kind) = OneFile
-reads_of (job.CheckAll kind) = OneFile
-reads_of (job.CheckWhole kind demands) = OneFile
-reads_of (job.Normalise kind) = OneFile
-reads_of (job.Same kind) = Paths
-reads_of (job.Diff kind detail versions) = Paths
-reads_of (job.Compare left operator right) = Nothing
-reads_of (job.CanonVersion version) = Nothing
-reads_of (job.VersionKey versions) = Nothing
-reads_of (job.Sort reverse) = OneFile
-reads_of (job.Query arch profiles relation members detail versions) = OneFile
-reads_of (job.QueryFrom arch profiles members detail versions) = Paths
-reads_of (job.Unmet arch profiles members dependents versions) = Paths
-reads_of (job.Healthy arch members strength) = OneFile
-reads_of (job.Installable arch members strength terms names budget reasons) = OneFile
-reads_of (job.Witness arch members strength terms names budget reasons) = OneFile
-reads_of (job.Buildable arch profiles members kind terms budget reasons) = Paths
-
--- the kind that is named for the files of a job whose refusals are lines on standard error
-abbrev pub document_of : Job → Option Doc
-document_of (job.Check kind) = Some kind
-document_of (job.CheckWhole kind demands) = Some kind
-document_of (job.Normalise kind) = Some kind
-document_of (job.Same kind) = Some kind
-document_of _ = None
-
-abbrev pub audited_of : Files → Audited
-audited_of (files.Paths given) = paths (map string_bytes given.items)
-audited_of (files.Listed path) = listed (string_bytes path)
-
-abbrev pub request_of : Task → Request
-request_of (task.Run call) =
-    record {
-      wanted = wanted_of call.job;
-      first = option_map string_bytes call.first;
-      second = option_map string_bytes call.second;
-    }
-request_of (task.Explain (explain.File kind path)) =
-    record { wanted = explains kind; first = option_map string_bytes path; second = None }
-request_of (task.Explain (explain.All kind path)) =
-    record { wanted = explains_all kind; first = option_map string_bytes path; second = None }
-request_of (task.Explain (explain.Rule code)) =
-    record { wanted = explains_rule code; first = None; second = None }
-request_of (task.Explain (explain.Relation text)) =
-    record { wanted = explains_relation (string_bytes text); first = None; second = None }
-request_of (task.Explain (explain.Version text)) =
-    record { wanted = explains_version (string_bytes text); first = None; second = None }
-request_of (task.Audit audit) =
-    record {
-      wanted = audits audit.doc (audited_of audit.files) audit.extent audit.end audit.demands;
-      first = None;
-      second = None;
-    }
 
 -- ---- what is asked
 
@@ -323,6 +204,8 @@ pub data Asked : Type 0 where
   no_status : Asked
   no_recommends : Asked
   kind_of_path : Asked
+  all_sources_of_packages : Asked
+  all_for_of_sources : Asked
   other_kind : Asked
   index_of_packages : Asked
   profiles_of_packages : Asked
@@ -330,6 +213,9 @@ pub data Asked : Type 0 where
   sources_recommend : Asked
   names_of_sources : Asked
   index_and_path : Asked
+  other_latest_kind : Asked
+  other_by : Asked
+  reads_twice : Asked
   no_number : Asked
   no_budget : Asked
   first_or_whole : Asked
@@ -338,7 +224,8 @@ pub data Asked : Type 0 where
 abbrev pub word_in : Text → List Row → Text
 word_in id rows = unwrap_or (first_of id rows) []
 
--- which packages the index of `query` and `unmet` has, or the file of `healthy` and `installable`
+-- which packages the indexes of `query` and `unmet` have, or the file of `healthy` and of
+-- `installable`
 abbrev pub members_in : List Row → Members
 members_in rows = members_asked (flag_asked (first_of (codes "installed") rows))
 
@@ -389,6 +276,10 @@ check_asked rows =
 abbrev pub is_standard_input : Text → Bool
 is_standard_input path = bytes_eq path (codes "-")
 
+-- two of the paths or more stand for it
+abbrev pub is_standard_input_twice : List Text → Bool
+is_standard_input_twice given = nat_lt 1 (count_by is_standard_input given)
+
 -- `same`, which has two paths, not both of which are standard input
 abbrev pub same_asked : List Row → Asked
 same_asked rows = option_map_or
@@ -438,13 +329,13 @@ names_file rows =
 abbrev pub version_asked : List Row → Text → Asked
 version_asked rows text =
     if names_file rows then explain_takes_one
-    else asks (record { wanted = explains_version text; first = None; second = None })
+    else asks (wants (explains_version text))
 
 -- `explain --relation`, with a text and nothing else
 abbrev pub relation_asked : List Row → Text → Asked
 relation_asked rows text =
     if names_file rows || is_some (first_of (codes "version-text") rows) then explain_takes_one
-    else asks (record { wanted = explains_relation text; first = None; second = None })
+    else asks (wants (explains_relation text))
 
 -- `explain --code`, with the word for a code and nothing else
 abbrev pub rule_asked : List Row → Text → Asked
@@ -452,7 +343,7 @@ rule_asked rows word =
     if names_file rows || is_some (first_of (codes "relation") rows)
     || is_some (first_of (codes "version-text") rows) then explain_takes_one
     else option_map_or
-    (λ code. asks (record { wanted = explains_rule code; first = None; second = None }))
+    (λ code. asks (wants (explains_rule code)))
     (code_named word) unknown_code
 
 -- `explain` of a file
@@ -481,7 +372,7 @@ audited_by (Some given) (Some path) = None
 
 -- two of the paths are standard input
 abbrev pub has_standard_input_twice : Audited → Bool
-has_standard_input_twice (paths given) = nat_lt 1 (count_by is_standard_input given)
+has_standard_input_twice (paths given) = is_standard_input_twice given
 has_standard_input_twice (listed path) = false
 
 -- an audit of files of this kind, with these of their refusals, this end of each record and these
@@ -490,11 +381,7 @@ abbrev pub files_asked : Extent → LineEnd → Option Audited → Demands → D
 files_asked extent end None demands kind = paths_or_list
 files_asked extent end (Some audited) demands kind =
     if has_standard_input_twice audited then standard_input_twice
-    else asks (record {
-      wanted = audits kind audited extent end demands;
-      first = None;
-      second = None;
-    })
+    else asks (wants (audits kind audited extent end demands))
 
 -- `audit` of files of this kind
 abbrev pub audit_of_kind : List Row → Doc → Asked
@@ -514,29 +401,16 @@ audit_asked rows =
 
 abbrev pub compare_asked : List Row → Asked
 compare_asked rows = option_map_or
-    (λ operator. asks (record {
-      wanted = compares (word_in (codes "left") rows) operator (word_in (codes "right") rows);
-      first = None;
-      second = None;
-    }))
+    (λ operator. asks (wants
+    (compares (word_in (codes "left") rows) operator (word_in (codes "right") rows))))
     (operator_named (word_in (codes "operator") rows)) unknown_operator
 
 abbrev pub canon_version_asked : List Row → Asked
-canon_version_asked rows =
-    asks (record {
-      wanted = canonicalises (word_in (codes "version") rows);
-      first = None;
-      second = None;
-    })
+canon_version_asked rows = asks (wants (canonicalises (word_in (codes "version") rows)))
 
 -- `version-key`, with its versions
 abbrev pub version_key_asked : List Row → Asked
-version_key_asked rows =
-    asks (record {
-      wanted = keys (texts_asked (all_of (codes "version") rows));
-      first = None;
-      second = None;
-    })
+version_key_asked rows = asks (wants (keys (texts_asked (all_of (codes "version") rows))))
 
 -- `sort`, by its order
 abbrev pub sort_asked : List Row → Asked
@@ -547,37 +421,83 @@ sort_asked rows =
       second = None;
     })
 
--- `query` with a relation, by its architecture and its profiles
-abbrev pub query_of_word : List Row → Text → Asked
-query_of_word rows relation =
+-- `query` over the index of this path, or over standard input without one
+abbrev pub query_of_index : List Row → Text → Option Text → Asked
+query_of_index rows relation index =
     asks (record {
       wanted = queries (word_in (codes "arch") rows)
           (pieces_asked (first_of (codes "profiles") rows)) relation (members_in rows)
           (detail_asked (flag_asked (first_of (codes "why") rows)))
           (versions_asked (flag_asked (first_of (codes "spelled") rows)));
-      first = first_of (codes "path") rows;
+      first = index;
       second = None;
     })
 
--- the index of a query with a relation from a file: its one word, or standard input
-abbrev pub index_asked : List Row → Text
-index_asked rows = unwrap_or (first_of (codes "relation") rows) (codes "-")
-
--- `query --relation-from`, with the path of the relation: it takes one word at most, and not both
--- files are standard input
-abbrev pub query_of_file : List Row → Text → Asked
-query_of_file rows path =
-    if is_some (first_of (codes "path") rows) then relation_or_file
-    else if is_standard_input path && is_standard_input (index_asked rows)
-    then standard_input_twice
-    else asks (record {
+-- the same, with the relation of the file of this path
+abbrev pub query_from_index : List Row → Text → Text → Asked
+query_from_index rows path index =
+    asks (record {
       wanted = queries_from (word_in (codes "arch") rows)
           (pieces_asked (first_of (codes "profiles") rows)) (members_in rows)
           (detail_asked (flag_asked (first_of (codes "why") rows)))
           (versions_asked (flag_asked (first_of (codes "spelled") rows)));
       first = Some path;
-      second = Some (index_asked rows);
+      second = Some index;
     })
+
+-- what `query` over these indexes wants
+abbrev pub query_over : List Row → AskedRelation → List Text → AskedQuery
+query_over rows relation indexes = record {
+  arch = word_in (codes "arch") rows;
+  profiles = pieces_asked (first_of (codes "profiles") rows);
+  relation = relation;
+  members = members_in rows;
+  detail = detail_asked (flag_asked (first_of (codes "why") rows));
+  versions = versions_asked (flag_asked (first_of (codes "spelled") rows));
+  indexes = indexes;
+}
+
+-- `query` with a relation, over all of these indexes
+abbrev pub query_of_indexes : List Row → Text → List Text → Asked
+query_of_indexes rows relation [] = query_of_index rows relation None
+query_of_indexes rows relation (index ∷ []) = query_of_index rows relation (Some index)
+query_of_indexes rows relation (index ∷ next ∷ more) =
+    asks (wants (queries_over (query_over rows (of_text relation) (index ∷ next ∷ more))))
+
+-- the same, where at most one of them is standard input
+abbrev pub query_of_word : List Row → Text → Asked
+query_of_word rows relation =
+    if is_standard_input_twice (texts_asked (all_of (codes "index") rows))
+    then standard_input_twice
+    else query_of_indexes rows relation (texts_asked (all_of (codes "index") rows))
+
+-- one text, or none
+abbrev pub text_list : Option Text → List Text
+text_list None = []
+text_list (Some text) = text ∷ []
+
+-- standard input stands for an index that isn't named
+abbrev pub or_standard_input : List Text → List Text
+or_standard_input [] = codes "-" ∷ []
+or_standard_input (index ∷ more) = index ∷ more
+
+-- the indexes of a query with a relation from a file: all its words, also the first one, which
+-- `clap` takes for the relation
+abbrev pub indexes_beside : List Row → List Text
+indexes_beside rows = or_standard_input
+    (text_list (first_of (codes "relation") rows) ++ texts_asked (all_of (codes "index") rows))
+
+-- `query` with the relation of a file, over all of these indexes; there is at least one
+abbrev pub query_from_indexes : List Row → Text → List Text → Asked
+query_from_indexes rows path (index ∷ []) = query_from_index rows path index
+query_from_indexes rows path indexes =
+    asks (wants (queries_over (query_over rows (of_file path) indexes)))
+
+-- the same, where at most one of these files is standard input
+abbrev pub query_of_file : List Row → Text → Asked
+query_of_file rows path =
+    if is_standard_input_twice (path ∷ indexes_beside rows) then standard_input_twice
+    else query_from_indexes rows path (indexes_beside rows)
 
 -- `query`, with a relation from a file or among its words
 abbrev pub query_asked : List Row → Asked
@@ -589,18 +509,42 @@ query_asked rows =
 abbrev pub has_input_beside : List Row → Bool
 has_input_beside rows = option_map_or is_standard_input (first_of (codes "path") rows) false
 
--- `unmet` of a file, or without one of the index itself: not both files are standard input
+-- the indexes of `unmet`: those of its option, in their order, and then the one among its words
+abbrev pub indexes_in : List Row → List Text
+indexes_in rows = texts_asked (all_of (codes "index") rows) ++ word_in (codes "last") rows ∷ []
+
+-- the files of `unmet`
+abbrev pub unmet_files_in : List Row → AskedFiles
+unmet_files_in rows = record {
+  unless = first_of (codes "unless-in") rows;
+  indexes = indexes_in rows;
+  path = first_of (codes "path") rows;
+}
+
+-- their paths, in the order in which the files are read
+abbrev pub paths_in : List Row → List Text
+paths_in rows =
+    text_list (first_of (codes "unless-in") rows) ++ (indexes_in rows
+    ++ text_list (first_of (codes "path") rows))
+
+-- what `unmet` of these dependents wants, with its files
+abbrev pub unmet_in : List Row → Dependents → AskedFiles → AskedUnmet
+unmet_in rows dependents files = record {
+  arch = word_in (codes "arch") rows;
+  profiles = pieces_asked (first_of (codes "profiles") rows);
+  all_for = first_of (codes "all-for") rows;
+  members = members_in rows;
+  dependents = dependents;
+  versions = versions_asked (flag_asked (first_of (codes "spelled") rows));
+  without = pieces_asked (first_of (codes "without") rows);
+  files = files;
+}
+
+-- `unmet`, at most one of whose files is standard input
 abbrev pub unmet_of_files : List Row → Dependents → Asked
 unmet_of_files rows dependents =
-    if is_standard_input (word_in (codes "index") rows) && has_input_beside rows
-    then standard_input_twice
-    else asks (record {
-      wanted = finds_unmet (word_in (codes "arch") rows)
-          (pieces_asked (first_of (codes "profiles") rows)) (members_in rows) dependents
-          (versions_asked (flag_asked (first_of (codes "spelled") rows)));
-      first = Some (word_in (codes "index") rows);
-      second = first_of (codes "path") rows;
-    })
+    if is_standard_input_twice (paths_in rows) then standard_input_twice
+    else asks (wants (finds_unmet (unmet_in rows dependents (unmet_files_in rows))))
 
 -- `unmet` of a kind that an index hasn't: with a file of that kind
 abbrev pub unmet_of_path : List Row → Dependents → Asked
@@ -608,10 +552,15 @@ unmet_of_path rows dependents =
     if not (is_some (first_of (codes "path") rows)) then kind_of_path
     else unmet_of_files rows dependents
 
--- `unmet` of source packages, which have no Recommends
+-- which source packages are tried
+abbrev pub tried_in : List Row → SourcesTried
+tried_in rows = tried_asked (flag_asked (first_of (codes "all-sources") rows))
+
+-- `unmet` of source packages, which have no Recommends and whose target is always the same
 abbrev pub unmet_of_sources : List Row → Dependents → Asked
 unmet_of_sources rows dependents =
     if flag_asked (first_of (codes "recommends") rows) then no_recommends
+    else if is_some (first_of (codes "all-for") rows) then all_for_of_sources
     else unmet_of_path rows dependents
 
 -- which fields of binary packages `unmet`, `healthy` and `installable` try
@@ -624,12 +573,23 @@ packages_in rows =
     if is_some (first_of (codes "path") rows) then dependents.Packages (strength_in rows)
     else dependents.Index (strength_in rows)
 
+-- `unmet` of binary packages, which all are tried
+abbrev pub unmet_of_packages : List Row → Asked
+unmet_of_packages rows =
+    if flag_asked (first_of (codes "all-sources") rows) then all_sources_of_packages
+    else unmet_of_files rows (packages_in rows)
+
+abbrev pub unmet_of_binary : List Row → Asked
+unmet_of_binary rows =
+    if flag_asked (first_of (codes "all-sources") rows) then all_sources_of_packages
+    else unmet_of_path rows (dependents.Binary (strength_in rows))
+
 -- `unmet` of files of this kind
 abbrev pub unmet_of_kind : List Row → Doc → Asked
-unmet_of_kind rows Packages = unmet_of_files rows (packages_in rows)
-unmet_of_kind rows Binary = unmet_of_path rows (dependents.Binary (strength_in rows))
-unmet_of_kind rows Sources = unmet_of_sources rows dependents.Sources
-unmet_of_kind rows Source = unmet_of_sources rows dependents.Source
+unmet_of_kind rows Packages = unmet_of_packages rows
+unmet_of_kind rows Binary = unmet_of_binary rows
+unmet_of_kind rows Sources = unmet_of_sources rows (dependents.Sources (tried_in rows))
+unmet_of_kind rows Source = unmet_of_sources rows (dependents.Source (tried_in rows))
 unmet_of_kind rows Status = no_status
 unmet_of_kind rows Any = no_relations
 
@@ -734,6 +694,36 @@ abbrev pub installable_asked : List Row → Asked
 installable_asked rows = option_map_or (installable_of_kind rows)
     (kind_asked (first_of (codes "kind") rows)) unknown_kind
 
+-- `latest` of files of this kind, none of which is standard input: it reads each twice
+abbrev pub latest_by : List Row → LatestKind → LatestBy → Asked
+latest_by rows kind by =
+    if list_any is_standard_input (texts_asked (all_of (codes "path") rows)) then reads_twice
+    else asks (wants (finds_latest (record {
+      kind = kind;
+      by = by;
+      before = first_of (codes "before") rows;
+      paths = texts_asked (all_of (codes "path") rows);
+    })))
+
+-- the same, with the word for what one package is
+abbrev pub latest_of_files : List Row → LatestKind → Asked
+latest_of_files rows kind =
+    option_map_or (latest_by rows kind) (by_asked (first_of (codes "by") rows)) other_by
+
+-- the same, of a kind of document: its files are indexes
+abbrev pub latest_of_kind : List Row → Doc → Asked
+latest_of_kind rows Packages = latest_of_files rows latest.Packages
+latest_of_kind rows Sources = latest_of_files rows latest.Sources
+latest_of_kind rows Binary = other_latest_kind
+latest_of_kind rows Source = other_latest_kind
+latest_of_kind rows Status = other_latest_kind
+latest_of_kind rows Any = other_latest_kind
+
+-- `latest`
+abbrev pub latest_asked : List Row → Asked
+latest_asked rows =
+    option_map_or (latest_of_kind rows) (kind_asked (first_of (codes "kind") rows)) unknown_kind
+
 abbrev pub help_asked : Option Text → Asked
 help_asked None = asks_help
 help_asked (Some word) = if has_help word then asks_help else unknown_command
@@ -755,6 +745,7 @@ asked_by name rows =
     else if bytes_eq name (codes "unmet") then unmet_asked rows
     else if bytes_eq name (codes "healthy") then healthy_asked rows
     else if bytes_eq name (codes "installable") then installable_asked rows
+    else if bytes_eq name (codes "latest") then latest_asked rows
     else help_asked (first_of (codes "command") rows)
 
 -- what the command that `clap` met asks

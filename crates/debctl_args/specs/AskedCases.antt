@@ -6,23 +6,16 @@ use Rattle.clap.specs.Faults.{fault_of}
 use Rattle.clap.specs.Takes.{takes}
 use Rattle.clap.specs.Walk.{Text}
 use Rattle.clap.specs.declared.error.kind.ErrorKind.TheVariants as kind
-use Rattle.debctl_args.specs.Asked.{asked_of, asks, asks_help, canonicalises, checks, checks_all, checks_whole, comma_pieces, compares, finds_changes, finds_unmet, first_or_whole, keys, kind_asked, kind_of_path, no_names, no_number, no_recommends, no_relations, no_status, normalises, number_named, pieces_asked, queries, queries_from, relation_or_file, sorts, compares_files, unknown_command, unknown_kind, unknown_operator, standard_input_twice, operator_named, Asked}
+use Rattle.debctl_args.specs.Asked.{asked_of, asks, asks_help, comma_pieces, first_or_whole, kind_asked, no_names, no_number, number_named, pieces_asked, unknown_command, unknown_kind, unknown_operator, standard_input_twice, operator_named, Asked}
 use Rattle.debctl_args.specs.Commands.{debctl_app}
 use Rattle.deb_base.specs.declared.doc.Doc.TheVariants.{Any, Binary, Packages, Source, Sources, Status}
-use Rattle.deb_base.specs.declared.version_text.VersionText.{VersionText}
 use Rattle.deb_base.specs.declared.version_text.VersionText.TheVariants.{Canonical, Spelled}
+use Rattle.debctl_args.specs.Requests.{canonicalises, checks, checks_all, checks_whole, compares, finds_changes, keys, normalises, sorts, compares_files}
 use Rattle.debctl_args.specs.declared.jobs.Cmp.TheVariants as cmp
-use Rattle.debctl_args.specs.declared.jobs.Dependents.{Dependents}
-use Rattle.debctl_args.specs.declared.jobs.Dependents.TheVariants as dependents
-use Rattle.debctl_args.specs.declared.jobs.Detail.{Detail}
-use Rattle.debctl_args.specs.declared.jobs.Detail.TheVariants.{Verdicts, Reasons}
 use Rattle.debctl_args.specs.declared.jobs.DiffDetail.{DiffDetail}
 use Rattle.debctl_args.specs.declared.jobs.DiffDetail.TheVariants.{Fields, Values}
 use Rattle.debctl_args.specs.declared.jobs.DiffKind.{DiffKind}
 use Rattle.debctl_args.specs.declared.jobs.DiffKind.TheVariants as diffed
-use Rattle.debctl_args.specs.declared.jobs.Members.{Members}
-use Rattle.debctl_args.specs.declared.jobs.Members.TheVariants as members
-use Rattle.debctl_args.specs.declared.jobs.Strength.TheVariants.{Depends, Recommends}
 
 -- the program's name, and the arguments after it
 abbrev line : List Text → List Text
@@ -316,266 +309,6 @@ empty_piece_between = refl
 no_profiles : pieces_asked None ≡ []
 no_profiles = refl
 
--- a query for amd64, with its other arguments
-abbrev query_line : List Text → List Text
-query_line words = line (codes "query" ∷ codes "--arch" ∷ codes "amd64" ∷ words)
-
--- what is asked of `aa` for amd64
-abbrev asks_of_aa : List Text → Option Text → Option Asked
-asks_of_aa profiles path =
-    Some (asks (record {
-      wanted = queries (codes "amd64") profiles (codes "aa") members.All Verdicts Canonical;
-      first = path;
-      second = None;
-    }))
-
-query_with_profiles : asked_of
-    (query_line (codes "--profiles" ∷ codes "a,b" ∷ codes "aa" ∷ codes "x" ∷ []))
-    ≡ asks_of_aa (codes "a" ∷ codes "b" ∷ []) (Some (codes "x"))
-unfolding clap_on_literals
-query_with_profiles = refl
-
-query_without_profiles : asked_of (query_line (codes "aa" ∷ codes "x" ∷ []))
-    ≡ asks_of_aa [] (Some (codes "x"))
-unfolding clap_on_literals
-query_without_profiles = refl
-
-query_with_empty_profile : asked_of
-    (query_line (codes "--profiles" ∷ [] ∷ codes "aa" ∷ codes "x" ∷ []))
-    ≡ asks_of_aa ([] ∷ []) (Some (codes "x"))
-unfolding clap_on_literals
-query_with_empty_profile = refl
-
-query_without_path : asked_of (query_line (codes "--profiles=a,,x" ∷ codes "aa" ∷ []))
-    ≡ asks_of_aa (codes "a" ∷ [] ∷ codes "x" ∷ []) None
-unfolding clap_on_literals
-query_without_path = refl
-
--- ---- a relation from a file
-
--- what is asked of the relation of a file, for amd64
-abbrev asks_of_file : List Text → Text → Text → Option Asked
-asks_of_file profiles path index =
-    Some (asks (record {
-      wanted = queries_from (codes "amd64") profiles members.All Verdicts Canonical;
-      first = Some path;
-      second = Some index;
-    }))
-
-query_of_a_file : asked_of (query_line (codes "--relation-from" ∷ codes "f" ∷ codes "x" ∷ []))
-    ≡ asks_of_file [] (codes "f") (codes "x")
-unfolding clap_on_literals
-query_of_a_file = refl
-
-query_of_a_file_without_index : asked_of
-    (query_line (codes "--profiles=a,b" ∷ codes "--relation-from=f" ∷ []))
-    ≡ asks_of_file (codes "a" ∷ codes "b" ∷ []) (codes "f") (codes "-")
-unfolding clap_on_literals
-query_of_a_file_without_index = refl
-
-query_of_standard_input : asked_of
-    (query_line (codes "x" ∷ codes "--relation-from" ∷ codes "-" ∷ []))
-    ≡ asks_of_file [] (codes "-") (codes "x")
-unfolding clap_on_literals
-query_of_standard_input = refl
-
-relation_beside_its_file : asked_of
-    (query_line (codes "--relation-from" ∷ codes "-" ∷ codes "aa" ∷ codes "-" ∷ []))
-    ≡ Some relation_or_file
-unfolding clap_on_literals
-relation_beside_its_file = refl
-
-standard_input_for_relation_and_index : map (λ words. asked_of (query_line words))
-    ((codes "--relation-from" ∷ codes "-" ∷ [])
-    ∷ (codes "--relation-from" ∷ codes "-" ∷ codes "-" ∷ []) ∷ [])
-    ≡ Some standard_input_twice ∷ Some standard_input_twice ∷ []
-unfolding clap_on_literals
-standard_input_for_relation_and_index = refl
-
-query_of_nothing : asked_of (query_line []) ≡ Some relation_or_file
-unfolding clap_on_literals
-query_of_nothing = refl
-
--- for aa, and for the relation of the file f over x: of these packages, with this detail and these
--- texts of versions
-abbrev asks_aa : Members → Detail → VersionText → Option Asked
-asks_aa packages detail versions =
-    Some (asks (record {
-      wanted = queries (codes "amd64") [] (codes "aa") packages detail versions;
-      first = None;
-      second = None;
-    }))
-
-abbrev asks_f : Members → Detail → VersionText → Option Asked
-asks_f packages detail versions =
-    Some (asks (record {
-      wanted = queries_from (codes "amd64") [] packages detail versions;
-      first = Some (codes "f");
-      second = Some (codes "x");
-    }))
-
-query_with_reasons : asked_of (query_line (codes "aa" ∷ codes "--why" ∷ []))
-    ≡ asks_aa members.All Reasons Canonical
-unfolding clap_on_literals
-query_with_reasons = refl
-
-query_of_a_file_with_reasons : asked_of
-    (query_line (codes "--why" ∷ codes "--relation-from" ∷ codes "f" ∷ codes "x" ∷ []))
-    ≡ asks_f members.All Reasons Canonical
-unfolding clap_on_literals
-query_of_a_file_with_reasons = refl
-
-query_with_spelled_versions : asked_of (query_line (codes "--spelled" ∷ codes "aa" ∷ []))
-    ≡ asks_aa members.All Verdicts Spelled
-unfolding clap_on_literals
-query_with_spelled_versions = refl
-
-query_of_a_file_with_spelled_versions : asked_of (query_line
-    (codes "--relation-from" ∷ codes "f" ∷ codes "--why" ∷ codes "x" ∷ codes "--spelled" ∷ []))
-    ≡ asks_f members.All Reasons Spelled
-unfolding clap_on_literals
-query_of_a_file_with_spelled_versions = refl
-
-query_of_installed_packages : map (λ words. asked_of (query_line words))
-    ((codes "--installed" ∷ codes "aa" ∷ [])
-    ∷ (codes "--relation-from=f" ∷ codes "x" ∷ codes "--installed" ∷ []) ∷ [])
-    ≡ asks_aa members.Installed Verdicts Canonical
-    ∷ asks_f members.Installed Verdicts Canonical ∷ []
-unfolding clap_on_literals
-query_of_installed_packages = refl
-
--- ---- `unmet`
-
--- an `unmet` for amd64, with its other arguments
-abbrev unmet_line : List Text → List Text
-unmet_line words = line (codes "unmet" ∷ codes "--arch" ∷ codes "amd64" ∷ words)
-
--- what is asked of the index `x`, and of another file
-abbrev asks_unmet : Dependents → Option Text → Option Asked
-asks_unmet dependents path =
-    Some (asks (record {
-      wanted = finds_unmet (codes "amd64") [] members.All dependents Canonical;
-      first = Some (codes "x");
-      second = path;
-    }))
-
-unmet_of_an_index : asked_of (unmet_line (codes "x" ∷ []))
-    ≡ asks_unmet (dependents.Index Depends) None
-unfolding clap_on_literals kind_asked
-unmet_of_an_index = refl
-
-unmet_of_another_index : asked_of (unmet_line (codes "x" ∷ codes "y" ∷ []))
-    ≡ asks_unmet (dependents.Packages Depends) (Some (codes "y"))
-unfolding clap_on_literals kind_asked
-unmet_of_another_index = refl
-
-unmet_with_recommends : asked_of
-    (unmet_line (codes "x" ∷ codes "--recommends" ∷ codes "y" ∷ codes "-kbinary" ∷ []))
-    ≡ asks_unmet (dependents.Binary Recommends) (Some (codes "y"))
-unfolding clap_on_literals kind_asked
-unmet_with_recommends = refl
-
-unmet_of_sources_in_input : asked_of
-    (unmet_line (codes "--kind" ∷ codes "sources" ∷ codes "x" ∷ codes "-" ∷ []))
-    ≡ asks_unmet dependents.Sources (Some (codes "-"))
-unfolding clap_on_literals kind_asked
-unmet_of_sources_in_input = refl
-
-unmet_of_a_source : asked_of (unmet_line (codes "--kind=source" ∷ codes "x" ∷ codes "y" ∷ []))
-    ≡ asks_unmet dependents.Source (Some (codes "y"))
-unfolding clap_on_literals kind_asked
-unmet_of_a_source = refl
-
-unmet_with_profiles : asked_of
-    (unmet_line (codes "--profiles" ∷ codes "a,b" ∷ codes "-" ∷ codes "y" ∷ []))
-    ≡ Some (asks (record {
-      wanted = finds_unmet (codes "amd64") (codes "a" ∷ codes "b" ∷ []) members.All
-          (dependents.Packages Depends) Canonical;
-      first = Some (codes "-");
-      second = Some (codes "y");
-    }))
-unfolding clap_on_literals kind_asked
-unmet_with_profiles = refl
-
-unmet_with_spelled_versions : asked_of (unmet_line (codes "--spelled" ∷ codes "x" ∷ []))
-    ≡ Some (asks (record {
-      wanted = finds_unmet (codes "amd64") [] members.All (dependents.Index Depends) Spelled;
-      first = Some (codes "x");
-      second = None;
-    }))
-unfolding clap_on_literals kind_asked
-unmet_with_spelled_versions = refl
-
--- the index is a status file, and the file beside it is of its own kind
-unmet_of_installed_packages : map (λ words. asked_of (unmet_line words))
-    ((codes "--installed" ∷ codes "x" ∷ [])
-    ∷ (codes "x" ∷ codes "y" ∷ codes "--installed" ∷ codes "-ksources" ∷ []) ∷ [])
-    ≡ Some (asks (record {
-      wanted = finds_unmet (codes "amd64") [] members.Installed (dependents.Index Depends)
-          Canonical;
-      first = Some (codes "x");
-      second = None;
-    }))
-    ∷ Some (asks (record {
-      wanted = finds_unmet (codes "amd64") [] members.Installed dependents.Sources Canonical;
-      first = Some (codes "x");
-      second = Some (codes "y");
-    })) ∷ []
-unfolding clap_on_literals kind_asked
-unmet_of_installed_packages = refl
-
--- an index in itself that is standard input
-unmet_of_an_index_in_input : asked_of (unmet_line (codes "-" ∷ []))
-    ≡ Some (asks (record {
-      wanted = finds_unmet (codes "amd64") [] members.All (dependents.Index Depends) Canonical;
-      first = Some (codes "-");
-      second = None;
-    }))
-unfolding clap_on_literals kind_asked
-unmet_of_an_index_in_input = refl
-
--- not both files are standard input
-standard_input_for_index_and_file : map (λ words. asked_of (unmet_line words))
-    ((codes "-" ∷ codes "-" ∷ []) ∷ (codes "-" ∷ codes "-" ∷ codes "--kind=sources" ∷ []) ∷ [])
-    ≡ Some standard_input_twice ∷ Some standard_input_twice ∷ []
-unfolding clap_on_literals kind_asked
-standard_input_for_index_and_file = refl
-
--- an index is of packages; another kind is that of another file
-kinds_of_an_index : map (λ kind. asked_of (unmet_line (codes "--kind" ∷ kind ∷ codes "x" ∷ [])))
-    (codes "packages" ∷ codes "binary" ∷ codes "sources" ∷ codes "source" ∷ codes "status"
-    ∷ codes "any" ∷ codes "foo" ∷ [])
-    ≡ asks_unmet (dependents.Index Depends) None ∷ Some kind_of_path ∷ Some kind_of_path
-    ∷ Some kind_of_path ∷ Some no_status ∷ Some no_relations ∷ Some unknown_kind ∷ []
-unfolding clap_on_literals kind_asked
-kinds_of_an_index = refl
-
--- the index given again is another file, which is read as a file is
-unmet_of_the_index_as_a_file : asked_of (unmet_line (codes "x" ∷ codes "x" ∷ []))
-    ≡ asks_unmet (dependents.Packages Depends) (Some (codes "x"))
-unfolding clap_on_literals kind_asked
-unmet_of_the_index_as_a_file = refl
-
--- without `--recommends` no kind has Recommends
-kinds_without_recommends : map (λ kind. asked_of
-    (unmet_line (codes "--kind" ∷ kind ∷ codes "x" ∷ codes "y" ∷ [])))
-    (codes "packages" ∷ codes "binary" ∷ codes "sources" ∷ codes "source" ∷ [])
-    ≡ asks_unmet (dependents.Packages Depends) (Some (codes "y"))
-    ∷ asks_unmet (dependents.Binary Depends) (Some (codes "y"))
-    ∷ asks_unmet dependents.Sources (Some (codes "y"))
-    ∷ asks_unmet dependents.Source (Some (codes "y")) ∷ []
-unfolding clap_on_literals kind_asked
-kinds_without_recommends = refl
-
--- source packages have no Recommends
-kinds_with_recommends : map (λ kind. asked_of
-    (unmet_line (codes "--recommends" ∷ codes "--kind" ∷ kind ∷ codes "x" ∷ codes "y" ∷ [])))
-    (codes "packages" ∷ codes "sources" ∷ codes "source" ∷ codes "status" ∷ codes "any" ∷ [])
-    ≡ asks_unmet (dependents.Packages Recommends) (Some (codes "y")) ∷ Some no_recommends
-    ∷ Some no_recommends ∷ Some no_status ∷ Some no_relations ∷ []
-unfolding clap_on_literals kind_asked
-kinds_with_recommends = refl
-
 -- ---- `version-key`
 
 keys_in_order : asked_of
@@ -683,29 +416,6 @@ kind_twice : fault_of debctl_app
 unfolding clap_on_literals
 kind_twice = refl
 
-missing_architecture : fault_of debctl_app (line (codes "query" ∷ codes "aa" ∷ []))
-    ≡ kind.MissingRequiredArgument ∷ []
-unfolding clap_on_literals
-missing_architecture = refl
-
-relation_file_twice : fault_of debctl_app
-    (query_line (codes "--relation-from=x" ∷ codes "--relation-from=x" ∷ []))
-    ≡ kind.ArgumentConflict ∷ []
-unfolding clap_on_literals
-relation_file_twice = refl
-
-architecture_twice : fault_of debctl_app
-    (query_line (codes "--arch" ∷ codes "i386" ∷ codes "aa" ∷ []))
-    ≡ kind.ArgumentConflict ∷ []
-unfolding clap_on_literals
-architecture_twice = refl
-
-argument_after_a_path : fault_of debctl_app
-    (query_line (codes "aa" ∷ codes "x" ∷ codes "y" ∷ []))
-    ≡ kind.UnknownArgument ∷ []
-unfolding clap_on_literals
-argument_after_a_path = refl
-
 code_twice : fault_of debctl_app
     (line (codes "explain" ∷ codes "--code=1" ∷ codes "--code=2" ∷ []))
     ≡ kind.ArgumentConflict ∷ []
@@ -751,9 +461,9 @@ help_on_kinds = refl
 
 help_on_each_command : map (λ word. asked_of (line (codes "help" ∷ word ∷ [])))
     (codes "normalise" ∷ codes "same" ∷ codes "compare" ∷ codes "canon-version" ∷ codes "sort"
-    ∷ codes "version-key" ∷ codes "unmet" ∷ codes "diff" ∷ [])
+    ∷ codes "version-key" ∷ codes "unmet" ∷ codes "diff" ∷ codes "latest" ∷ [])
     ≡ Some asks_help ∷ Some asks_help ∷ Some asks_help ∷ Some asks_help ∷ Some asks_help
-    ∷ Some asks_help ∷ Some asks_help ∷ Some asks_help ∷ []
+    ∷ Some asks_help ∷ Some asks_help ∷ Some asks_help ∷ Some asks_help ∷ []
 unfolding clap_on_literals
 help_on_each_command = refl
 
@@ -766,20 +476,6 @@ missing_versions : fault_of debctl_app (line (codes "version-key" ∷ []))
     ≡ kind.MissingRequiredArgument ∷ []
 unfolding clap_on_literals
 missing_versions = refl
-
-missing_index : fault_of debctl_app (unmet_line []) ≡ kind.MissingRequiredArgument ∷ []
-unfolding clap_on_literals
-missing_index = refl
-
-unmet_without_architecture : fault_of debctl_app (line (codes "unmet" ∷ codes "x" ∷ []))
-    ≡ kind.MissingRequiredArgument ∷ []
-unfolding clap_on_literals
-unmet_without_architecture = refl
-
-third_file : fault_of debctl_app (unmet_line (codes "x" ∷ codes "y" ∷ codes "z" ∷ []))
-    ≡ kind.UnknownArgument ∷ []
-unfolding clap_on_literals
-third_file = refl
 
 -- only `sort` has `-r`
 no_other_reverse : map (fault_of debctl_app)

@@ -5,8 +5,9 @@ use Rattle.clap.proofs.OnLiterals.{clap_on_literals}
 use Rattle.clap.specs.Faults.{fault_of}
 use Rattle.clap.specs.Walk.{Text}
 use Rattle.clap.specs.declared.error.kind.ErrorKind.TheVariants as kind
-use Rattle.debctl_args.specs.Asked.{asked_of, asks, finds_unbuildable, finds_uninstallable, index_and_path, index_of_packages, kind_asked, names_of_sources, no_budget, other_kind, profiles_of_packages, sources_recommend, standard_input_twice, unknown_kind, Asked, AskedTerms}
+use Rattle.debctl_args.specs.Asked.{asked_of, asks, index_and_path, index_of_packages, kind_asked, names_of_sources, no_budget, other_kind, profiles_of_packages, sources_recommend, standard_input_twice, unknown_kind, Asked}
 use Rattle.debctl_args.specs.Commands.{debctl_app}
+use Rattle.debctl_args.specs.Requests.{finds_unbuildable, finds_uninstallable, AskedTerms}
 use Rattle.debctl_args.specs.declared.jobs.Members.{Members}
 use Rattle.debctl_args.specs.declared.jobs.Members.TheVariants.{All, Installed}
 use Rattle.debctl_args.specs.declared.jobs.SourceKind.{SourceKind}

@@ -9,9 +9,9 @@ use Rattle.clap.specs.declared.builder.range.ValueRange.{ValueRange}
 use Rattle.deb_base.specs.Literals.{lent}
 use Rattle.debctl_args.specs.declared.options.Argument.{Argument}
 use Rattle.debctl_args.specs.declared.options.Form.{Form}
-use Rattle.debctl_args.specs.declared.options.Form.TheVariants.{Flag, Value, RequiredValue, Word, RequiredWord, Words, RequiredWords}
+use Rattle.debctl_args.specs.declared.options.Form.TheVariants.{Flag, Value, RequiredValue, Values, Word, RequiredWord, Words, RequiredWords}
 use Rattle.debctl_args.specs.declared.rows.Row.{Row}
-use Rattle.clap.specs.declared.builder.action.ArgAction.TheVariants.{SetTrue}
+use Rattle.clap.specs.declared.builder.action.ArgAction.TheVariants.{Append, SetTrue}
 use Rattle.clap.specs.declared.builder.command.Command.{Command}
 use Rattle.clap.specs.declared.builder.command.Command.TheViews.{out-Command}
 
@@ -101,6 +101,36 @@ without_rule =
 abbrev pub index_rule : Rule
 index_rule = record (new_rule (codes "index")) { long = Some (codes "index"); value_names = 1 }
 
+-- `--index PATH`, any number of times
+abbrev pub indexes_rule : Rule
+indexes_rule =
+    record (new_rule (codes "index"))
+    { long = Some (codes "index"); action = Some Append; value_names = 1 }
+
+-- `--unless-in OLD`
+abbrev pub unless_rule : Rule
+unless_rule =
+    record (new_rule (codes "unless-in")) { long = Some (codes "unless-in"); value_names = 1 }
+
+-- `--all-sources`, which takes no value
+abbrev pub all_sources_rule : Rule
+all_sources_rule =
+    record (new_rule (codes "all-sources"))
+    { long = Some (codes "all-sources"); action = Some SetTrue }
+
+-- `--all-for A`
+abbrev pub all_for_rule : Rule
+all_for_rule =
+    record (new_rule (codes "all-for")) { long = Some (codes "all-for"); value_names = 1 }
+
+-- `--by name` or `--by name,arch`
+abbrev pub by_rule : Rule
+by_rule = record (new_rule (codes "by")) { long = Some (codes "by"); value_names = 1 }
+
+-- `--before V`
+abbrev pub before_rule : Rule
+before_rule = record (new_rule (codes "before")) { long = Some (codes "before"); value_names = 1 }
+
 -- `--relation-from PATH`
 abbrev pub relation_file_rule : Rule
 relation_file_rule =
@@ -133,16 +163,16 @@ null_rule =
     record (new_rule (codes "null"))
     { short = Some 48; long = Some (codes "null"); action = Some SetTrue }
 
--- paths, of which there may be any number
+-- words of which there may be any number
 abbrev pub at_least_one : ValueRange
 at_least_one = record { start_inclusive = 1; end_inclusive = usize_max }
 
-abbrev pub paths_rule : Rule
-paths_rule = record (new_rule (codes "path")) { range = Some at_least_one; value_names = 1 }
+abbrev pub words_rule : Text → Rule
+words_rule id = record (new_rule id) { range = Some at_least_one; value_names = 1 }
 
--- versions, of which there is at least one
-abbrev pub versions_rule : Rule
-versions_rule = record (new_rule (codes "version"))
+-- words of which there is at least one
+abbrev pub required_words_rule : Text → Rule
+required_words_rule id = record (new_rule id)
     { range = Some at_least_one; value_names = 1; required = true }
 
 -- `--reverse`, or `-r` (r is 114), which takes no value
@@ -167,10 +197,13 @@ rule_by Flag id short =
 rule_by Value id short = record (new_rule id) { short = short; long = Some id; value_names = 1 }
 rule_by RequiredValue id short =
     record (new_rule id) { short = short; long = Some id; value_names = 1; required = true }
+rule_by Values id short =
+    record (new_rule id)
+    { short = short; long = Some id; action = Some Append; value_names = 1 }
 rule_by Word id short = optional_rule id
 rule_by RequiredWord id short = required_rule id
-rule_by Words id short = record (optional_rule id) { range = Some at_least_one }
-rule_by RequiredWords id short = record (required_rule id) { range = Some at_least_one }
+rule_by Words id short = words_rule id
+rule_by RequiredWords id short = required_words_rule id
 
 abbrev pub rule_in : Argument → Rule
 rule_in argument = rule_by argument.form argument.id.now argument.short
@@ -239,7 +272,7 @@ file_commands =
     -- `audit [--kind K] [--all] [--complete] [--least N] [--null] PATH ..` and
     -- `audit [--kind K] [--all] [--complete] [--least N] [--null] --files0-from PATH`
     ∷ row (codes "audit") (kind_rule ∷ all_rule ∷ complete_rule ∷ least_rule ∷ list_rule
-    ∷ null_rule ∷ paths_rule ∷ [])
+    ∷ null_rule ∷ words_rule (codes "path") ∷ [])
     -- `normalise [--kind K] [PATH]`
     ∷ row (codes "normalise") (kind_rule ∷ optional_rule (codes "path") ∷ [])
     -- `same [--kind K] PATH PATH`
@@ -254,21 +287,22 @@ file_commands =
     -- `canon-version V`
     ∷ row (codes "canon-version") (required_rule (codes "version") ∷ [])
     -- `version-key V ..`
-    ∷ row (codes "version-key") (versions_rule ∷ [])
+    ∷ row (codes "version-key") (required_words_rule (codes "version") ∷ [])
     -- `sort [--reverse] [PATH]`
     ∷ row (codes "sort") (reverse_rule ∷ optional_rule (codes "path") ∷ []) ∷ []
 
 -- the commands on packages, and the one for help
 abbrev pub package_commands : List CommandRow
 package_commands =
-    -- `query --arch A [--profiles P,P] [--why] [--spelled] [--installed] RELATION [PATH]`, or with
-    -- `--relation-from PATH` and without RELATION
+    -- `query --arch A [--profiles P,P] [--why] [--spelled] [--installed] RELATION [INDEX ..]`, or
+    -- with `--relation-from PATH` and without RELATION
     row (codes "query") (arch_rule ∷ profiles_rule ∷ why_rule ∷ spelled_rule ∷ installed_rule
-    ∷ relation_file_rule ∷ optional_rule (codes "relation") ∷ optional_rule (codes "path") ∷ [])
-    -- `unmet --arch A [--profiles P,P] [--kind K] [--recommends] [--spelled] [--installed] INDEX
-    -- [PATH]`
+    ∷ relation_file_rule ∷ optional_rule (codes "relation") ∷ words_rule (codes "index") ∷ [])
+    -- `unmet --arch A [--profiles P,P] [--kind K] [--recommends] [--spelled] [--installed] [--index
+    -- PATH].. [--unless-in OLD] [--without N,N] [--all-sources] [--all-for A] INDEX [PATH]`
     ∷ row (codes "unmet") (arch_rule ∷ profiles_rule ∷ kind_rule ∷ recommends_rule
-    ∷ spelled_rule ∷ installed_rule ∷ required_rule (codes "index")
+    ∷ spelled_rule ∷ installed_rule ∷ indexes_rule ∷ unless_rule ∷ without_rule
+    ∷ all_sources_rule ∷ all_for_rule ∷ required_rule (codes "last")
     ∷ optional_rule (codes "path") ∷ [])
     -- `healthy --arch A [--recommends] [--installed] [PATH]`
     ∷ row (codes "healthy") (arch_rule ∷ recommends_rule ∷ installed_rule
@@ -280,6 +314,9 @@ package_commands =
     ∷ row (codes "installable") (arch_rule ∷ profiles_rule ∷ kind_rule ∷ index_rule
     ∷ recommends_rule ∷ essential_rule ∷ without_rule ∷ installed_rule ∷ budget_rule ∷ only_rule
     ∷ witness_rule ∷ why_rule ∷ optional_rule (codes "path") ∷ [])
+    -- `latest [--kind K] [--by B] [--before V] PATH ..`
+    ∷ row (codes "latest") (kind_rule ∷ by_rule ∷ before_rule ∷ required_words_rule (codes "path")
+    ∷ [])
     -- `help [COMMAND]`
     ∷ row (codes "help") (optional_rule (codes "command") ∷ []) ∷ []
 
@@ -309,11 +346,18 @@ argument id short form = record {
 rules_of_arguments : map rule_in
     (argument (codes "kind") (Some 107) Value ∷ argument (codes "all") (Some 97) Flag
     ∷ argument (codes "why") None Flag ∷ argument (codes "arch") None RequiredValue
-    ∷ argument (codes "path") None Word ∷ argument (codes "index") None RequiredWord
-    ∷ argument (codes "path") None Words ∷ argument (codes "version") None RequiredWords ∷ [])
-    ≡ kind_rule ∷ all_rule ∷ why_rule ∷ arch_rule ∷ optional_rule (codes "path")
-    ∷ required_rule (codes "index") ∷ paths_rule ∷ versions_rule ∷ []
+    ∷ argument (codes "index") None Values ∷ argument (codes "path") None Word
+    ∷ argument (codes "last") None RequiredWord ∷ argument (codes "index") None Words
+    ∷ argument (codes "version") None RequiredWords ∷ [])
+    ≡ kind_rule ∷ all_rule ∷ why_rule ∷ arch_rule ∷ indexes_rule ∷ optional_rule (codes "path")
+    ∷ required_rule (codes "last") ∷ words_rule (codes "index")
+    ∷ required_words_rule (codes "version") ∷ []
 rules_of_arguments = refl
+
+-- an option that may be repeated has a short name if one is given
+repeated_rule : rule_in (argument (codes "index") (Some 105) Values)
+    ≡ record indexes_rule { short = Some 105 }
+repeated_rule = refl
 
 row_of_sort : row_in (record {
   name = lent (codes "sort");

@@ -3,9 +3,10 @@ use Rattle.std.specs.Fmt.{digits}
 use Rattle.std.specs.Prelude.{◌≡◌, List, [], map, ◌∷◌, Option, Some, None, true, false, codes, refl}
 use Rattle.clap.proofs.OnLiterals.{clap_on_literals}
 use Rattle.clap.specs.Walk.{Text}
-use Rattle.debctl_args.specs.Asked.{asked_of, asks, audits, code_named, explain_takes_one, explains, explains_all, explains_relation, explains_version, listed, paths, paths_or_list, explains_rule, unknown_code, kind_asked, no_number, unknown_kind, standard_input_twice, Asked}
+use Rattle.debctl_args.specs.Asked.{asked_of, asks, code_named, explain_takes_one, paths_or_list, unknown_code, kind_asked, no_number, unknown_kind, standard_input_twice, Asked}
 use Rattle.deb_base.specs.declared.code.Code.TheVariants as code
 use Rattle.deb_base.specs.declared.doc.Doc.TheVariants.{Any, Packages, Source, Sources}
+use Rattle.debctl_args.specs.Requests.{audits, explains, explains_all, explains_relation, explains_version, listed, paths, explains_rule}
 use Rattle.debctl_args.specs.declared.jobs.Demands.{Demands}
 use Rattle.debctl_args.specs.declared.jobs.Extent.TheVariants.{First, All}
 use Rattle.debctl_args.specs.declared.jobs.LineEnd.TheVariants.{Newline, Nul}

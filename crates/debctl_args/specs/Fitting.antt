@@ -9,7 +9,8 @@ use Rattle.deb_base.specs.declared.doc.Doc.{Doc}
 use Rattle.debctl_args.specs.declared.jobs.Task.{Task}
 use Rattle.debctl_args.specs.declared.arguments.UsageFault.{UsageFault}
 use Rattle.debctl_args.specs.declared.arguments.UsageFault.TheVariants.{Usage, Help, Memory}
-use Rattle.debctl_args.specs.Asked.{asks, asks_help, explain_takes_one, first_or_whole, index_and_path, index_of_packages, kind_of_path, no_budget, no_names, no_number, no_recommends, no_relations, no_status, names_of_sources, only_or_witness, other_kind, paths_or_list, profiles_of_packages, relation_or_file, request_of, sources_recommend, standard_input_twice, unknown_code, unknown_command, unknown_kind, unknown_operator, Asked}
+use Rattle.debctl_args.specs.Requests.{request_of}
+use Rattle.debctl_args.specs.Asked.{all_for_of_sources, all_sources_of_packages, asks, asks_help, explain_takes_one, first_or_whole, index_and_path, index_of_packages, kind_of_path, no_budget, no_names, no_number, no_recommends, no_relations, no_status, names_of_sources, only_or_witness, other_by, other_kind, other_latest_kind, paths_or_list, profiles_of_packages, reads_twice, relation_or_file, sources_recommend, standard_input_twice, unknown_code, unknown_command, unknown_kind, unknown_operator, Asked}
 
 -- the text names what isn't known, what stands twice, or what doesn't go together
 abbrev pub IsUsage : Asked → Text → Type 0
@@ -28,6 +29,10 @@ IsUsage no_status text = text ≡ codes "usage: unmet takes no --kind status"
 IsUsage no_recommends text = text ≡ codes "usage: unmet takes --recommends only for binary packages"
 IsUsage kind_of_path text =
     text ≡ codes "usage: unmet takes another --kind only with a second path"
+IsUsage all_sources_of_packages text =
+    text ≡ codes "usage: unmet takes --all-sources only for source packages"
+IsUsage all_for_of_sources text =
+    text ≡ codes "usage: unmet takes --all-for only for binary packages"
 IsUsage other_kind text =
     text ≡ codes "usage: installable takes --kind packages, sources or source"
 IsUsage index_of_packages text =
@@ -41,6 +46,10 @@ IsUsage names_of_sources text =
     text ≡ codes "usage: installable takes --only and --witness only for binary packages"
 IsUsage index_and_path text =
     text ≡ codes "usage: installable takes source packages only with --index and PATH"
+IsUsage other_latest_kind text = text ≡ codes "usage: latest takes --kind packages or sources"
+IsUsage other_by text = text ≡ codes "usage: latest takes --by name or name,arch"
+IsUsage reads_twice text =
+    text ≡ codes "usage: latest reads its files twice, so it can't read standard input"
 IsUsage no_number text = text ≡ codes "usage: --least takes a number"
 IsUsage no_budget text = text ≡ codes "usage: --budget takes a number from 1 to 1000000000"
 IsUsage first_or_whole text = text ≡ codes "usage: --all takes neither --complete nor --least"

@@ -5,8 +5,9 @@ use Rattle.clap.specs.Faults.{fault_of}
 use Rattle.clap.specs.Takes.{takes}
 use Rattle.clap.specs.Walk.{Text}
 use Rattle.clap.specs.declared.error.kind.ErrorKind.TheVariants as kind
-use Rattle.debctl_args.specs.Asked.{asked_of, asks, asks_help, checks_health, Asked}
+use Rattle.debctl_args.specs.Asked.{asked_of, asks, asks_help, Asked}
 use Rattle.debctl_args.specs.Commands.{debctl_app}
+use Rattle.debctl_args.specs.Requests.{checks_health}
 use Rattle.debctl_args.specs.declared.jobs.Members.TheVariants as members
 use Rattle.debctl_args.specs.declared.jobs.Strength.{Strength}
 use Rattle.debctl_args.specs.declared.jobs.Strength.TheVariants.{Depends, Recommends}

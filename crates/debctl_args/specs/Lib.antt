@@ -6,4 +6,8 @@ pub mod ExplainAuditCases
 pub mod Fitting
 pub mod HealthyCases
 pub mod InstallableCases
+pub mod LatestCases
+pub mod QueryCases
 pub mod RequestCases
+pub mod Requests
+pub mod UnmetCases

@@ -4,8 +4,9 @@ use Rattle.std.specs.Prelude.{◌≡◌, ℕ, [], ◌∷◌, map, Option, Some, 
 use Rattle.std.specs.declared.alloc.Global.{Global}
 use Rattle.clap.specs.declared.error.kind.ErrorKind.TheVariants as kind
 use Rattle.deb_base.specs.declared.code.Code.TheVariants as code
-use Rattle.debctl_args.specs.Asked.{audits, canonicalises, checks, checks_all, checks_health, checks_whole, compares, document_of, explain_takes_one, explains, explains_all, explains_relation, explains_version, finds_changes, finds_unbuildable, finds_uninstallable, finds_unmet, finds_witness, first_or_whole, index_and_path, index_of_packages, keys, kind_of_path, listed, names_of_sources, no_budget, no_names, no_number, no_recommends, no_relations, no_status, normalises, only_or_witness, other_kind, paths, paths_or_list, profiles_of_packages, queries, queries_from, reads_of, relation_or_file, request_of, sorts, sources_recommend, standard_input_twice, explains_rule, compares_files, unknown_code, unknown_command, unknown_kind, unknown_operator, wanted_of, AskedTerms, Request, Wanted}
+use Rattle.debctl_args.specs.Asked.{all_for_of_sources, all_sources_of_packages, explain_takes_one, first_or_whole, index_and_path, index_of_packages, kind_of_path, names_of_sources, no_budget, no_names, no_number, no_recommends, no_relations, no_status, only_or_witness, other_by, other_kind, other_latest_kind, paths_or_list, profiles_of_packages, reads_twice, relation_or_file, sources_recommend, standard_input_twice, unknown_code, unknown_command, unknown_kind, unknown_operator}
 use Rattle.debctl_args.specs.Fitting.{has_mistake, has_request, is_request_kind, IsUsage, FitsKind}
+use Rattle.debctl_args.specs.Requests.{audits, canonicalises, checks, checks_all, checks_health, checks_whole, compares, document_of, explains, explains_all, explains_relation, explains_version, finds_changes, finds_latest, finds_unbuildable, finds_uninstallable, finds_unmet, finds_witness, keys, listed, normalises, of_file, of_text, paths, queries, queries_from, queries_over, reads_of, request_of, sorts, explains_rule, compares_files, wanted_of, wants, AskedTerms, Request, Wanted}
 use Rattle.debctl_args.specs.declared.jobs.Demands.{Demands}
 use Rattle.debctl_args.specs.declared.jobs.Explain.TheVariants as explain
 use Rattle.debctl_args.specs.declared.jobs.Files.{Files}
@@ -23,9 +24,13 @@ use Rattle.debctl_args.specs.declared.jobs.DiffDetail.TheVariants as diff_detail
 use Rattle.debctl_args.specs.declared.jobs.Cmp.TheVariants as cmps
 use Rattle.debctl_args.specs.declared.jobs.Dependents.TheVariants as dependents
 use Rattle.debctl_args.specs.declared.jobs.Extent.TheVariants as extents
+use Rattle.debctl_args.specs.declared.jobs.LatestBy.TheVariants as latest_by
+use Rattle.debctl_args.specs.declared.jobs.LatestKind.TheVariants as latest_kinds
 use Rattle.debctl_args.specs.declared.jobs.LineEnd.TheVariants as line_ends
+use Rattle.debctl_args.specs.declared.jobs.RelationArgument.TheVariants as relation
 use Rattle.debctl_args.specs.declared.jobs.Detail.TheVariants.{Reasons, Verdicts}
 use Rattle.debctl_args.specs.declared.jobs.SourceKind.TheVariants as sources
+use Rattle.debctl_args.specs.declared.jobs.SourcesTried.TheVariants as tried
 use Rattle.debctl_args.specs.declared.jobs.Strength.TheVariants.{Depends, Recommends}
 use Rattle.deb_base.specs.declared.version_text.VersionText.TheVariants.{Canonical, Spelled}
 use Rattle.deb_base.specs.declared.doc.Doc.TheVariants as docs
@@ -74,7 +79,6 @@ jobs_on_words : map wanted_of
     ∷ job.VersionKey (vector (one ∷ other ∷ []) refl)
     ∷ job.Query one (vector (one ∷ other ∷ []) refl) other members.Installed Reasons Canonical
     ∷ job.QueryFrom other (vector (other ∷ one ∷ []) refl) members.All Verdicts Spelled
-    ∷ job.Unmet one (vector (other ∷ []) refl) members.Installed dependents.Sources Spelled
     ∷ job.Healthy one members.All Recommends ∷ job.Healthy other members.Installed Depends
     ∷ job.Installable one members.Installed Depends terms (vector [] refl) 7 false
     ∷ job.Installable other members.All Recommends no_terms (vector (other ∷ one ∷ []) refl)
@@ -88,7 +92,6 @@ jobs_on_words : map wanted_of
     ∷ queries (codes "amd64") (codes "amd64" ∷ codes "b-" ∷ []) (codes "b-") members.Installed
     Reasons Canonical
     ∷ queries_from (codes "b-") (codes "b-" ∷ codes "amd64" ∷ []) members.All Verdicts Spelled
-    ∷ finds_unmet (codes "amd64") (codes "b-" ∷ []) members.Installed dependents.Sources Spelled
     ∷ checks_health (codes "amd64") members.All Recommends
     ∷ checks_health (codes "b-") members.Installed Depends
     ∷ finds_uninstallable (codes "amd64") members.Installed Depends bytes_of_terms [] 7 false
@@ -115,7 +118,6 @@ jobs =
     ∷ job.CanonVersion one ∷ job.VersionKey (vector (one ∷ []) refl) ∷ job.Sort true
     ∷ job.Query one (vector [] refl) other members.All Reasons Canonical
     ∷ job.QueryFrom one (vector [] refl) members.All Verdicts Spelled
-    ∷ job.Unmet one (vector [] refl) members.All dependents.Sources Spelled
     ∷ job.Healthy one members.Installed Depends
     ∷ job.Installable one members.All Recommends terms (vector [] refl) 1 true
     ∷ job.Witness one members.All Depends terms (vector (other ∷ []) refl) 1 false
@@ -123,12 +125,12 @@ jobs =
 
 files_of_jobs : map reads_of jobs
     ≡ OneFile ∷ OneFile ∷ OneFile ∷ Paths ∷ OneFile ∷ Paths ∷ Nothing ∷ Nothing ∷ Nothing
-    ∷ OneFile ∷ OneFile ∷ Paths ∷ Paths ∷ OneFile ∷ OneFile ∷ OneFile ∷ Paths ∷ []
+    ∷ OneFile ∷ OneFile ∷ Paths ∷ OneFile ∷ OneFile ∷ OneFile ∷ Paths ∷ []
 files_of_jobs = refl
 
 documents_of_jobs : map document_of jobs
     ≡ Some docs.Binary ∷ Some docs.Source ∷ Some docs.Any ∷ Some docs.Sources ∷ None ∷ None
-    ∷ None ∷ None ∷ None ∷ None ∷ None ∷ None ∷ None ∷ None ∷ None ∷ None ∷ None ∷ []
+    ∷ None ∷ None ∷ None ∷ None ∷ None ∷ None ∷ None ∷ None ∷ None ∷ None ∷ []
 documents_of_jobs = refl
 
 -- ---- requests
@@ -148,19 +150,18 @@ calls : map request_of
 unfolding one other
 calls = refl
 
--- what an explanation or an audit wants, and the path that it reads
-abbrev wants : Wanted → Option (List ℕ) → Request
-wants wanted first = record { wanted = wanted; first = first; second = None }
+-- a request that reads this path, if there is one
+abbrev reads : Wanted → Option (List ℕ) → Request
+reads wanted first = record { wanted = wanted; first = first; second = None }
 
 explanations : map (λ it. request_of (task.Explain it))
     (explain.File docs.Any (Some one) ∷ explain.File docs.Binary None
     ∷ explain.All docs.Sources (Some other) ∷ explain.All docs.Packages None
     ∷ explain.Rule code.BadVersion ∷ explain.Relation one ∷ explain.Version other ∷ [])
-    ≡ wants (explains docs.Any) (Some (codes "amd64")) ∷ wants (explains docs.Binary) None
-    ∷ wants (explains_all docs.Sources) (Some (codes "b-"))
-    ∷ wants (explains_all docs.Packages) None ∷ wants (explains_rule code.BadVersion) None
-    ∷ wants (explains_relation (codes "amd64")) None ∷ wants (explains_version (codes "b-")) None
-    ∷ []
+    ≡ reads (explains docs.Any) (Some (codes "amd64")) ∷ wants (explains docs.Binary)
+    ∷ reads (explains_all docs.Sources) (Some (codes "b-"))
+    ∷ wants (explains_all docs.Packages) ∷ wants (explains_rule code.BadVersion)
+    ∷ wants (explains_relation (codes "amd64")) ∷ wants (explains_version (codes "b-")) ∷ []
 unfolding one other
 explanations = refl
 
@@ -175,11 +176,133 @@ audit given = task.Audit (record {
 
 audits_of_files : (request_of (audit (files.Paths (vector (one ∷ other ∷ one ∷ []) refl)))
     ≡ wants (audits docs.Packages (paths (codes "amd64" ∷ codes "b-" ∷ codes "amd64" ∷ []))
-    extents.All line_ends.Nul demands) None)
+    extents.All line_ends.Nul demands))
     × (request_of (audit (files.Listed other))
-    ≡ wants (audits docs.Packages (listed (codes "b-")) extents.All line_ends.Nul demands) None)
+    ≡ wants (audits docs.Packages (listed (codes "b-")) extents.All line_ends.Nul demands))
 unfolding one other
 audits_of_files = (refl, refl)
+
+-- ---- the tasks over several files
+
+queries_of_indexes : map request_of
+    (task.Query (record {
+      arch = one;
+      profiles = vector (one ∷ other ∷ []) refl;
+      relation = relation.Text other;
+      members = members.Installed;
+      detail = Reasons;
+      versions = Spelled;
+      indexes = vector (other ∷ one ∷ []) refl;
+    })
+    ∷ task.Query (record {
+      arch = other;
+      profiles = vector [] refl;
+      relation = relation.From one;
+      members = members.All;
+      detail = Verdicts;
+      versions = Canonical;
+      indexes = vector (one ∷ one ∷ []) refl;
+    }) ∷ [])
+    ≡ wants (queries_over (record {
+      arch = codes "amd64";
+      profiles = codes "amd64" ∷ codes "b-" ∷ [];
+      relation = of_text (codes "b-");
+      members = members.Installed;
+      detail = Reasons;
+      versions = Spelled;
+      indexes = codes "b-" ∷ codes "amd64" ∷ [];
+    }))
+    ∷ wants (queries_over (record {
+      arch = codes "b-";
+      profiles = [];
+      relation = of_file (codes "amd64");
+      members = members.All;
+      detail = Verdicts;
+      versions = Canonical;
+      indexes = codes "amd64" ∷ codes "amd64" ∷ [];
+    })) ∷ []
+unfolding one other
+queries_of_indexes = refl
+
+unmet_of_tasks : map request_of
+    (task.Unmet (record {
+      arch = one;
+      profiles = vector (one ∷ other ∷ []) refl;
+      all_for = Some other;
+      members = members.Installed;
+      dependents = dependents.Sources tried.All;
+      versions = Spelled;
+      without = vector (other ∷ []) refl;
+      files = record {
+        unless = Some one;
+        indexes = vector (other ∷ one ∷ []) refl;
+        path = Some other;
+      };
+    })
+    ∷ task.Unmet (record {
+      arch = other;
+      profiles = vector [] refl;
+      all_for = None;
+      members = members.All;
+      dependents = dependents.Index Recommends;
+      versions = Canonical;
+      without = vector [] refl;
+      files = record { unless = None; indexes = vector (one ∷ []) refl; path = None };
+    }) ∷ [])
+    ≡ wants (finds_unmet (record {
+      arch = codes "amd64";
+      profiles = codes "amd64" ∷ codes "b-" ∷ [];
+      all_for = Some (codes "b-");
+      members = members.Installed;
+      dependents = dependents.Sources tried.All;
+      versions = Spelled;
+      without = codes "b-" ∷ [];
+      files = record {
+        unless = Some (codes "amd64");
+        indexes = codes "b-" ∷ codes "amd64" ∷ [];
+        path = Some (codes "b-");
+      };
+    }))
+    ∷ wants (finds_unmet (record {
+      arch = codes "b-";
+      profiles = [];
+      all_for = None;
+      members = members.All;
+      dependents = dependents.Index Recommends;
+      versions = Canonical;
+      without = [];
+      files = record { unless = None; indexes = codes "amd64" ∷ []; path = None };
+    })) ∷ []
+unfolding one other
+unmet_of_tasks = refl
+
+latest_of_tasks : map request_of
+    (task.Latest (record {
+      kind = latest_kinds.Sources;
+      by = latest_by.NameAndArchitecture;
+      before = Some other;
+      paths = vector (other ∷ one ∷ []) refl;
+    })
+    ∷ task.Latest (record {
+      kind = latest_kinds.Packages;
+      by = latest_by.Name;
+      before = None;
+      paths = vector (one ∷ []) refl;
+    }) ∷ [])
+    ≡ wants (finds_latest (record {
+      kind = latest_kinds.Sources;
+      by = latest_by.NameAndArchitecture;
+      before = Some (codes "b-");
+      paths = codes "b-" ∷ codes "amd64" ∷ [];
+    }))
+    ∷ wants (finds_latest (record {
+      kind = latest_kinds.Packages;
+      by = latest_by.Name;
+      before = None;
+      paths = codes "amd64" ∷ [];
+    })) ∷ []
+unfolding one other
+latest_of_tasks = refl
 
 -- ---- mistakes
 
@@ -223,6 +346,13 @@ texts_of_mistakes : IsUsage unknown_kind (codes "usage: unknown kind")
     × IsUsage no_status (codes "usage: unmet takes no --kind status")
     × IsUsage no_recommends (codes "usage: unmet takes --recommends only for binary packages")
     × IsUsage kind_of_path (codes "usage: unmet takes another --kind only with a second path")
+    × IsUsage all_sources_of_packages
+    (codes "usage: unmet takes --all-sources only for source packages")
+    × IsUsage all_for_of_sources (codes "usage: unmet takes --all-for only for binary packages")
+    × IsUsage other_latest_kind (codes "usage: latest takes --kind packages or sources")
+    × IsUsage other_by (codes "usage: latest takes --by name or name,arch")
+    × IsUsage reads_twice
+    (codes "usage: latest reads its files twice, so it can't read standard input")
     × IsUsage other_kind (codes "usage: installable takes --kind packages, sources or source")
     × IsUsage index_of_packages
     (codes "usage: installable takes --index only for source packages")
@@ -239,6 +369,11 @@ texts_of_mistakes : IsUsage unknown_kind (codes "usage: unknown kind")
     × IsUsage no_budget (codes "usage: --budget takes a number from 1 to 1000000000")
     × IsUsage first_or_whole (codes "usage: --all takes neither --complete nor --least")
 texts_of_mistakes = (
+  refl,
+  refl,
+  refl,
+  refl,
+  refl,
   refl,
   refl,
   refl,

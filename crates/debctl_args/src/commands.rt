@@ -21,9 +21,10 @@ Exit statuses:
   2  a file, a version, a relation, an architecture or a profile is refused:
      standard error has `line N: CODE NAME`. Line 0 means a command-line
      argument. `same`, `diff`, `unmet` and `installable` of sources write
-     `first: ` or `second: ` before the line of a file. `explain`, `audit` and
-     `check --all` report errors on standard output. A file without what
-     `--complete` or `--least` demands is refused with a line `incomplete: `
+     `first: ` or `second: ` before the line of a file, and commands on several
+     indexes `index K: `. `explain`, `audit` and `check --all` report errors on
+     standard output. A file without what `--complete` or `--least` demands is
+     refused with a line `incomplete: `
   3  wrong arguments, out of memory, or a failed read or write
 
 Put `--` before a version or a path that begins with a hyphen:
@@ -124,6 +125,9 @@ fn arg_of<'a>(alloc: Global, argument: &'static Argument, kinds: &'a str) -> Arg
         Form::RequiredValue => option_of(arg, argument)
             .value_name(argument.shown)
             .required(true),
+        Form::Values => option_of(arg, argument)
+            .value_name(argument.shown)
+            .action(ArgAction::Append),
         Form::Word => arg.value_name(argument.shown),
         Form::RequiredWord => arg.value_name(argument.shown).required(true),
         Form::Words => arg.value_name(argument.shown).num_args(1..),

@@ -1,12 +1,17 @@
 //! Reads what `clap` found for a command: the kind, the profiles, the paths and so on.
 
-ghost use Rattle.std.specs.Prelude.{◌≡◌, nat_lt, count_by, map, codes, string_bytes, option_map, IfOk, option_copied};
+ghost use Rattle.std.specs.List.{list_any};
+ghost use Rattle.std.specs.Prelude.{◌≡◌, ◌++◌, ◌∷◌, map, codes, string_bytes, option_map, IfOk, option_copied};
 ghost use Rattle.clap.specs.Words.{all_of, first_of, found_of, rows_of};
-ghost use Rattle.debctl_args.specs.Asked.{budget_asked, comma_pieces, detail_asked, diff_detail_asked, end_asked, extent_asked, flag_asked, has_input_beside, index_asked, is_standard_input, kind_asked, least_asked, members_in, names_file, packages_in, pieces_asked, strength_in, terms_asked, terms_of, texts_asked, versions_asked, word_in};
+ghost use Rattle.debctl_args.specs.Asked.{budget_asked, by_asked, comma_pieces, detail_asked, diff_detail_asked, end_asked, extent_asked, flag_asked, has_input_beside, indexes_beside, indexes_in, is_standard_input, is_standard_input_twice, kind_asked, least_asked, members_in, names_file, packages_in, paths_in, pieces_asked, strength_in, terms_asked, text_list, texts_asked, tried_in, versions_asked, word_in};
 ghost use Rattle.debctl_args.specs.Fitting.{MeansBudget, MeansKind, MeansLeast};
+ghost use Rattle.debctl_args.specs.Requests.{terms_of};
 
 use crate::arguments::{UsageFault, usage};
-use crate::jobs::{Dependents, Detail, DiffDetail, Extent, LineEnd, Members, Strength, Terms};
+use crate::jobs::{
+    Dependents, Detail, DiffDetail, Extent, LatestBy, LineEnd, Members, SourcesTried, Strength,
+    Terms,
+};
 use crate::number_argument::{budget_named, number_named};
 use clap::ArgMatches;
 use deb_base::{Doc, VersionText};
@@ -211,20 +216,128 @@ pub(crate) fn path_in(alloc: Global, found: &ArgMatches<'_>) -> Result<Option<St
         (λ path. option_map string_bytes path
         ≡ first_of (codes "path") (rows_of (found_of found.now))) }
 {
-    match given(found, "path") {
-        Some(path) => Ok(Some(String::from_str(alloc, path)?)),
-        None => Ok(None),
+    text_in(alloc, found, "path")
+}
+
+/// The text that is given for an argument, if there is one.
+pub(crate) fn text_in(
+    alloc: Global,
+    found: &ArgMatches<'_>,
+    id: &str,
+) -> Result<Option<String>, AllocError>
+    ensures { IfOk result
+        (λ text. option_map string_bytes text ≡ first_of id.now (rows_of (found_of found.now))) }
+{
+    owned_text(alloc, given(found, id))
+}
+
+/// The indexes of a query with a relation from a file: all its words, also the one that `clap`
+/// takes for the relation, or standard input if there are none.
+pub(crate) fn indexes_beside<'a>(
+    alloc: Global,
+    found: &ArgMatches<'a>,
+) -> Result<Vec<&'a str>, AllocError>
+    ensures { IfOk result (λ indexes. map (λ index. index.now) indexes.items
+        ≡ indexes_beside (rows_of (found_of found.now))) }
+{
+    let mut indexes = Vec::new(alloc);
+    push_given(&mut indexes, found, "relation")?;
+    push_words(&mut indexes, found, "index")?;
+    if indexes.is_empty() {
+        indexes.push("-")?;
+    }
+    Ok(indexes)
+}
+
+/// The paths of the files of `unmet`, in the order in which it reads them.
+pub(crate) fn paths_in<'a>(
+    alloc: Global,
+    found: &ArgMatches<'a>,
+) -> Result<Vec<&'a str>, AllocError>
+    ensures { IfOk result (λ paths. map (λ path. path.now) paths.items
+        ≡ paths_in (rows_of (found_of found.now))) }
+{
+    let mut paths = Vec::new(alloc);
+    push_given(&mut paths, found, "unless-in")?;
+    push_words(&mut paths, found, "index")?;
+    paths.push(word_in(found, "last"))?;
+    push_given(&mut paths, found, "path")?;
+    Ok(paths)
+}
+
+/// Appends the text that is given for an argument, if there is one.
+fn push_given<'a>(
+    out: &mut Vec<&'a str>,
+    found: &ArgMatches<'a>,
+    id: &str,
+) -> Result<(), AllocError>
+    ensures { IfOk result (λ _. map (λ text. text.now) out.new.items
+        ≡ map (λ text. text.now) out.old.items
+        ++ text_list (first_of id.now (rows_of (found_of found.now)))) }
+{
+    if let Some(text) = given(found, id) {
+        out.push(text)?;
+    }
+    Ok(())
+}
+
+/// Appends the texts that are given for an argument that takes any number.
+fn push_words<'a>(
+    out: &mut Vec<&'a str>,
+    found: &ArgMatches<'a>,
+    id: &str,
+) -> Result<(), AllocError>
+    ensures { IfOk result (λ _. map (λ text. text.now) out.new.items
+        ≡ map (λ text. text.now) out.old.items
+        ++ texts_asked (all_of id.now (rows_of (found_of found.now)))) }
+{
+    match all_given(found, id) {
+        Some(texts) => push_texts(out, texts),
+        None => Ok(()),
     }
 }
 
-/// Returns the path of the index of a query with a relation from a file: the one word that it has,
-/// or standard input without one.
-pub(crate) fn index_in<'a>(found: &ArgMatches<'a>) -> &'a str
-    ensures { result.now ≡ index_asked (rows_of (found_of found.now)) }
+/// Appends these texts.
+fn push_texts<'a>(out: &mut Vec<&'a str>, texts: &[&'a str]) -> Result<(), AllocError>
+    ensures { IfOk result (λ _. map (λ text. text.now) out.new.items
+        ≡ map (λ text. text.now) out.old.items ++ map (λ text. text.now) texts.now) }
 {
-    match given(found, "relation") {
-        Some(path) => path,
-        None => "-",
+    for text in texts {
+        out.push(*text)?;
+    }
+    Ok(())
+}
+
+/// The indexes of `unmet`: those of its option, in their order, and then the one among its words.
+pub(crate) fn indexes_in(alloc: Global, found: &ArgMatches<'_>) -> Result<Vec<String>, AllocError>
+    ensures { IfOk result (λ indexes. map string_bytes indexes.items
+        ≡ indexes_in (rows_of (found_of found.now))) }
+{
+    let mut indexes = texts_in(alloc, found, "index")?;
+    indexes.push(String::from_str(alloc, word_in(found, "last"))?)?;
+    Ok(indexes)
+}
+
+/// Which source packages `unmet` tries: all if `--all-sources` is given.
+pub(crate) fn tried_in(found: &ArgMatches<'_>) -> SourcesTried
+    ensures { result ≡ tried_in (rows_of (found_of found.now)) }
+{
+    if flag_in(found, "all-sources") {
+        SourcesTried::All
+    } else {
+        SourcesTried::OfTarget
+    }
+}
+
+/// Which paragraphs are of one package for `latest`, if `--by` has a known word: those with one
+/// name without it.
+pub(crate) fn by_in(found: &ArgMatches<'_>) -> Option<LatestBy>
+    ensures { result ≡ by_asked (first_of (codes "by") (rows_of (found_of found.now))) }
+{
+    match given(found, "by") {
+        None | Some("name") => Some(LatestBy::Name),
+        Some("name,arch") => Some(LatestBy::NameAndArchitecture),
+        Some(_) => None,
     }
 }
 
@@ -238,14 +351,18 @@ pub(crate) fn has_input_beside(found: &ArgMatches<'_>) -> bool
     }
 }
 
-/// Returns the texts that are given for the versions of a command that takes any number.
-pub(crate) fn versions_in(alloc: Global, found: &ArgMatches<'_>) -> Result<Vec<String>, AllocError>
+/// The texts that are given for an argument that takes any number, each as a value of its own.
+pub(crate) fn texts_in(
+    alloc: Global,
+    found: &ArgMatches<'_>,
+    id: &str,
+) -> Result<Vec<String>, AllocError>
     ensures { IfOk result
-        (λ versions. map string_bytes versions.items
-        ≡ texts_asked (all_of (codes "version") (rows_of (found_of found.now)))) }
+        (λ texts. map string_bytes texts.items
+        ≡ texts_asked (all_of id.now (rows_of (found_of found.now)))) }
 {
-    match all_given(found, "version") {
-        Some(versions) => owned_texts(alloc, versions),
+    match all_given(found, id) {
+        Some(texts) => owned_texts(alloc, texts),
         None => Ok(Vec::new(alloc)),
     }
 }
@@ -258,12 +375,37 @@ pub(crate) fn all_given<'m, 'a>(found: &'m ArgMatches<'a>, id: &str) -> Option<&
     found.get_strs(id)
 }
 
+/// Whether one of the paths is standard input.
+pub(crate) fn has_standard_input(paths: &[&str]) -> bool
+    ensures { result ≡ list_any is_standard_input (map (λ path. path.now) paths.now) }
+{
+    paths.iter().any(|path| *path == "-")
+}
+
 /// Whether two of the paths or more are standard input.
 pub(crate) fn is_standard_input_twice(paths: &[&str]) -> bool
-    ensures { result
-        ≡ nat_lt 1 (count_by is_standard_input (map (λ path. path.now) paths.now)) }
+    ensures { result ≡ is_standard_input_twice (map (λ path. path.now) paths.now) }
 {
     paths.iter().filter(|path| **path == "-").count() > 1
+}
+
+/// The same of a path before these.
+pub(crate) fn is_standard_input_twice_with(first: &str, paths: &[&str]) -> bool
+    ensures { result ≡ is_standard_input_twice (first.now ∷ map (λ path. path.now) paths.now) }
+{
+    let others = paths.iter().filter(|path| **path == "-").count();
+    if first == "-" { others > 0 } else { others > 1 }
+}
+
+/// The same text, if there is one, as a value of its own.
+pub(crate) fn owned_text(alloc: Global, text: Option<&str>) -> Result<Option<String>, AllocError>
+    ensures { IfOk result
+        (λ owned. option_map string_bytes owned ≡ option_copied text.entry) }
+{
+    match text {
+        Some(text) => Ok(Some(String::from_str(alloc, text)?)),
+        None => Ok(None),
+    }
 }
 
 /// The same texts, each as a value of its own.

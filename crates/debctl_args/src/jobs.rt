@@ -1,7 +1,7 @@
 //! The types of a task: what the arguments ask the program to do, and which files a job reads.
 
 ghost use Rattle.std.specs.Prelude.{◌≡◌};
-ghost use Rattle.debctl_args.specs.Asked.{document_of, reads_of};
+ghost use Rattle.debctl_args.specs.Requests.{document_of, reads_of};
 
 use deb_base::{Code, Doc, VersionText};
 
@@ -10,6 +10,12 @@ use deb_base::{Code, Doc, VersionText};
 pub enum Task {
     /// A job over at most two files.
     Run(Call),
+    /// `query` over several indexes.
+    Query(QueryOver),
+    /// `unmet`: find the groups of a whole file that no package of indexes meets.
+    Unmet(Unmet),
+    /// `latest`: write the paragraph with the latest version of each package of some files.
+    Latest(LatestOf),
     /// `explain`: explain the refusal of a file or a text, or an error code.
     Explain(Explain),
     /// `audit`: check each of many files.
@@ -85,15 +91,6 @@ pub enum Job {
         detail: Detail,
         versions: VersionText,
     },
-    /// `unmet`: find the groups of a whole file that no package of an index meets. The index is the
-    /// first file, and the file with the groups is the second, or the index if there is none.
-    Unmet {
-        arch: String,
-        profiles: Vec<String>,
-        members: Members,
-        dependents: Dependents,
-        versions: VersionText,
-    },
     /// `healthy`: find the reasons why a set of packages isn't consistent, for a target
     /// architecture.
     Healthy {
@@ -163,7 +160,7 @@ impl Job {
             Job::CheckWhole { .. } | Job::Sort { .. } | Job::Query { .. } => Reads::OneFile,
             Job::Healthy { .. } | Job::Installable { .. } | Job::Witness { .. } => Reads::OneFile,
             Job::Same(_) | Job::Diff { .. } => Reads::Paths,
-            Job::QueryFrom { .. } | Job::Unmet { .. } | Job::Buildable { .. } => Reads::Paths,
+            Job::QueryFrom { .. } | Job::Buildable { .. } => Reads::Paths,
             Job::Compare(..) | Job::CanonVersion(_) | Job::VersionKey(_) => Reads::Nothing,
         }
     }
@@ -233,19 +230,109 @@ pub enum Detail {
     Reasons,
 }
 
+/// A question to several indexes. There are at least two.
+#[derive(Debug, PartialEq, Eq, Drop)]
+pub struct QueryOver {
+    pub arch: String,
+    pub profiles: Vec<String>,
+    pub relation: RelationArgument,
+    pub members: Members,
+    pub detail: Detail,
+    pub versions: VersionText,
+    /// The paths of the indexes, in the order in which they are read.
+    pub indexes: Vec<String>,
+}
+
+/// The relation of a `query`.
+#[derive(Debug, PartialEq, Eq, Drop)]
+pub enum RelationArgument {
+    /// This text.
+    Text(String),
+    /// `--relation-from`: what the file of this path contains. It is read before the indexes.
+    From(String),
+}
+
+/// What `unmet` tries, over which packages, for a target architecture and the active build
+/// profiles.
+#[derive(Debug, PartialEq, Eq, Drop)]
+pub struct Unmet {
+    pub arch: String,
+    pub profiles: Vec<String>,
+    /// `--all-for A`: the target of a binary package whose architecture can't be one, as `all`; if
+    /// there is none, it is `arch`.
+    pub all_for: Option<String>,
+    /// Which packages of their files the indexes have.
+    pub members: Members,
+    pub dependents: Dependents,
+    pub versions: VersionText,
+    /// `--without NAME,NAME`: binary packages of these names are neither listed nor tried.
+    pub without: Vec<String>,
+    pub files: UnmetFiles,
+}
+
+/// The files of an `unmet`. It reads them in the order of the fields.
+#[derive(Debug, PartialEq, Eq, Drop)]
+pub struct UnmetFiles {
+    /// `--unless-in OLD`: an index; a group that it doesn't meet either has no line.
+    pub unless: Option<String>,
+    /// The indexes: those of `--index`, in their order, and then INDEX. There is at least one.
+    pub indexes: Vec<String>,
+    /// PATH: the file whose groups are tried; if there is none, they are those of INDEX.
+    pub path: Option<String>,
+}
+
 /// The file whose groups `unmet` tries, and which of its fields.
 #[derive(Clone, Copy, Debug, PartialEq, Eq)]
 pub enum Dependents {
-    /// The index itself.
+    /// The last index itself.
     Index(Strength),
     /// Another index of binary packages.
     Packages(Strength),
     /// The control file of a binary package.
     Binary(Strength),
     /// An index of source packages.
-    Sources,
+    Sources(SourcesTried),
     /// The description of a source package.
-    Source,
+    Source(SourcesTried),
+}
+
+/// The source packages whose groups `unmet` tries.
+#[derive(Clone, Copy, Debug, PartialEq, Eq)]
+pub enum SourcesTried {
+    /// Those whose Architecture names the target, or may.
+    OfTarget,
+    /// `--all-sources`: all.
+    All,
+}
+
+/// What `latest` looks for, and in which files.
+#[derive(Debug, PartialEq, Eq, Drop)]
+pub struct LatestOf {
+    pub kind: LatestKind,
+    pub by: LatestBy,
+    /// `--before V`: only versions earlier than this one are considered.
+    pub before: Option<String>,
+    /// The paths of the files, in the order in which they are read. There is at least one, and none
+    /// is `-`.
+    pub paths: Vec<String>,
+}
+
+/// The kind of the files of `latest`.
+#[derive(Clone, Copy, Debug, PartialEq, Eq)]
+pub enum LatestKind {
+    /// Indexes of binary packages.
+    Packages,
+    /// Indexes of source packages.
+    Sources,
+}
+
+/// Which paragraphs are of one package for `latest`.
+#[derive(Clone, Copy, Debug, PartialEq, Eq)]
+pub enum LatestBy {
+    /// `--by name`: those with one name.
+    Name,
+    /// `--by name,arch`: those with one name and one architecture.
+    NameAndArchitecture,
 }
 
 /// The fields of a binary package whose groups `unmet`, `healthy` and `installable` try.
@@ -279,9 +366,8 @@ pub struct Terms {
 /// A command and the paths of the files that it reads.
 ///
 /// If `check`, `normalise`, `sort`, `query`, `healthy` or `installable` of packages has no path,
-/// the file is standard input. `same`, `diff`, `query --relation-from`, `unmet` and `installable`
-/// of source packages have both paths, except for an `unmet` of the index itself, and no other job
-/// has a second one.
+/// the file is standard input. `same`, `diff`, `query --relation-from` and `installable` of source
+/// packages have both paths, and no other job has a second one.
 #[derive(Debug, PartialEq, Eq, Drop)]
 pub struct Call {
     pub job: Job,

@@ -1,8 +1,9 @@
 //! Parses the command-line arguments of `debctl`.
 //!
 //! - [`job_of`] returns the [`Task`] that the arguments ask for, or why there is none. A task is a
-//!   [`Call`], which is a [`Job`] with the paths of the files that it reads; or what to
-//!   [`Explain`]; or an [`Audit`] of any number of files. It opens no path.
+//!   [`Call`], which is a [`Job`] with the paths of the files that it reads; a [`QueryOver`], an
+//!   [`Unmet`] or a [`LatestOf`] over any number of files; what to [`Explain`]; or an [`Audit`] of
+//!   any number of files. It opens no path.
 //! - `clap` checks the commands and their options. Kinds of documents, operators, profiles, numbers
 //!   and error codes are checked here; versions, relations and architectures by the job.
 //!
@@ -15,15 +16,22 @@
 mod arguments;
 mod code_argument;
 mod commands;
+mod file_arguments;
+mod file_help;
 mod found_arguments;
+mod index_arguments;
 mod jobs;
 mod number_argument;
 mod operator_argument;
 mod options;
+mod package_help;
 mod rows;
+mod set_arguments;
+mod version_arguments;
 
 pub use arguments::{UsageFault, job_of};
 pub use jobs::{
     Audit, Call, Cmp, Demands, Dependents, Detail, DiffDetail, DiffKind, Explain, Extent, Files,
-    Job, LineEnd, Members, Reads, SourceKind, Strength, Task, Terms,
+    Job, LatestBy, LatestKind, LatestOf, LineEnd, Members, QueryOver, Reads, RelationArgument,
+    SourceKind, SourcesTried, Strength, Task, Terms, Unmet, UnmetFiles,
 };

@@ -21,6 +21,8 @@ pub(crate) enum Form {
     Value,
     /// An option with a value that has to be there.
     RequiredValue,
+    /// An option with a value, which may be given any number of times.
+    Values,
     /// An argument that may be missing.
     Word,
     /// An argument that has to be there.
@@ -65,6 +67,15 @@ pub(crate) const INSTALLABLE_KIND: Argument = Argument {
     form: Form::Value,
     shown: "K",
     help: Some("The kind of PATH: packages (the default), sources or source"),
+};
+
+/// `--kind K` of `latest`
+pub(crate) const LATEST_KIND: Argument = Argument {
+    id: "kind",
+    short: Some('k'),
+    form: Form::Value,
+    shown: "K",
+    help: Some("The kind of all files: packages (the default) or sources"),
 };
 
 /// `--all` or `-a`
@@ -229,6 +240,60 @@ pub(crate) const WITHOUT: Argument = Argument {
     help: Some("Leave out the packages with one of these names, as if they weren't listed"),
 };
 
+/// `--without NAME,NAME` of `unmet`
+pub(crate) const UNMET_WITHOUT: Argument = Argument {
+    id: "without",
+    short: None,
+    form: Form::Value,
+    shown: "NAME,NAME",
+    help: Some("Leave out the binary packages with one of these names: from the indexes and PATH"),
+};
+
+/// `--unless-in OLD`
+pub(crate) const UNLESS_IN: Argument = Argument {
+    id: "unless-in",
+    short: None,
+    form: Form::Value,
+    shown: "OLD",
+    help: Some("Print only groups that this index meets; `-` is standard input"),
+};
+
+/// `--all-sources`
+pub(crate) const ALL_SOURCES: Argument = Argument {
+    id: "all-sources",
+    short: None,
+    form: Form::Flag,
+    shown: "",
+    help: Some("Try the source packages of every architecture"),
+};
+
+/// `--all-for A`
+pub(crate) const ALL_FOR: Argument = Argument {
+    id: "all-for",
+    short: None,
+    form: Form::Value,
+    shown: "A",
+    help: Some("The target of packages for `all`; that of --arch if the option is missing"),
+};
+
+/// `--by name` or `--by name,arch`
+pub(crate) const BY: Argument = Argument {
+    id: "by",
+    short: None,
+    form: Form::Value,
+    shown: "B",
+    help: Some(BY_HELP),
+};
+
+/// `--before V`
+pub(crate) const BEFORE: Argument = Argument {
+    id: "before",
+    short: None,
+    form: Form::Value,
+    shown: "V",
+    help: Some("Consider only versions earlier than this one"),
+};
+
 /// `--installed`
 pub(crate) const INSTALLED: Argument = Argument {
     id: "installed",
@@ -274,6 +339,15 @@ pub(crate) const INDEX_FILE: Argument = Argument {
     help: Some("The index with which source packages are built; `-` is standard input"),
 };
 
+/// `--index PATH`, any number of times
+pub(crate) const INDEX_FILES: Argument = Argument {
+    id: "index",
+    short: None,
+    form: Form::Values,
+    shown: "PATH",
+    help: Some("A further index, read before INDEX; may be repeated; `-` is standard input"),
+};
+
 /// `--relation-from PATH`
 pub(crate) const RELATION_FILE: Argument = Argument {
     id: "relation-from",
@@ -299,6 +373,15 @@ pub(crate) const PATHS: Argument = Argument {
     form: Form::Words,
     shown: "PATH",
     help: Some("A file; `-` is standard input and may be given once"),
+};
+
+/// `PATH ..` of `latest`
+pub(crate) const WHOLE_FILES: Argument = Argument {
+    id: "path",
+    short: None,
+    form: Form::RequiredWords,
+    shown: "PATH",
+    help: Some("A file, which is read twice: so it can't be standard input"),
 };
 
 /// `PATH`, the first of two
@@ -391,18 +474,18 @@ pub(crate) const RELATION: Argument = Argument {
     help: Some(RELATION_HELP),
 };
 
-/// `[PATH]`, the index of `query`
+/// `[INDEX ..]`
 pub(crate) const QUERIED: Argument = Argument {
-    id: "path",
+    id: "index",
     short: None,
-    form: Form::Word,
-    shown: "PATH",
-    help: Some("The index, of kind `packages`; standard input if it is `-` or missing"),
+    form: Form::Words,
+    shown: "INDEX",
+    help: Some("An index, of kind `packages`; standard input if it is `-` or all are missing"),
 };
 
 /// `INDEX`
 pub(crate) const INDEX: Argument = Argument {
-    id: "index",
+    id: "last",
     short: None,
     form: Form::RequiredWord,
     shown: "INDEX",
@@ -434,7 +517,10 @@ const OPERATORS_HELP: &str =
     ge or >= (later or equal), gt or >> (later)";
 
 const RELATION_HELP: &str =
-    "The relation, such as the value of Depends or Build-Depends; with `--relation-from` the index";
+    "The relation, such as the value of Depends; with `--relation-from` it is the first index";
+
+const BY_HELP: &str =
+    "What one package is: a name (the default), or with name,arch a name and an architecture";
 
 const UNMET_KIND_HELP: &str = "\
 The kind of PATH: packages (the default), binary, sources or source.

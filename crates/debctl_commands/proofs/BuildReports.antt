@@ -4,8 +4,8 @@ use Rattle.deb_control.specs.declared.side.Side.TheVariants.{First, Second}
 use Rattle.debctl_commands.specs.BuildJob.{SourceWords, build_promise}
 use Rattle.debctl_commands.specs.JobDevices.{ReaderOfJob, WriterOfJob}
 use Rattle.debctl_commands.specs.Promises.{Ends}
-use Rattle.debctl_commands.specs.UnmetJob.{ReportsTried}
-use Rattle.debctl_commands.proofs.UnmetReports.{index_is_three, read_is_three, write_is_three}
+use Rattle.debctl_commands.specs.SideAnswers.{ReportsTried}
+use Rattle.debctl_commands.proofs.SideReports.{index_is_three, read_is_three, write_is_three}
 
 module _ {W E : Type 0} (w : SourceWords) (first second : ReaderOfJob) (out : WriterOfJob W) (err : WriterOfJob E) (status : ℕ) where
   pub three_if_first : Ends (build_promise w) first second out err status → first.failures < first.failures_after → status ≡ 3

@@ -1,7 +1,7 @@
 -- From what the functions of the jobs report to what each job promises: their arguments are those of
 -- the job.
 use Rattle.std.proofs.Common.{◌≡◌, ℕ, List, map, Option, String, Vec, Global, refl, subst, sym, string_bytes}
-use Rattle.std.specs.Prelude.{Bool, IsFalse, IsTrue}
+use Rattle.std.specs.Prelude.{Bool, IsFalse}
 use Rattle.deb_base.specs.declared.version_text.VersionText.{VersionText}
 use Rattle.deb_index.specs.Questions.{Question, question}
 use Rattle.debctl_commands.specs.JobDevices.{ReaderOfJob, WriterOfJob}
@@ -12,16 +12,14 @@ use Rattle.debctl_commands.specs.QueryFrom.{AreRefusedFrom, from_promise}
 use Rattle.deb_index.specs.declared.members.Members.{Members as IndexMembers}
 use Rattle.debctl_args.specs.declared.jobs.Members.{Members}
 use Rattle.debctl_commands.specs.QueryJob.{AreRefused, QueriesFile, index_members, query_options}
-use Rattle.debctl_commands.specs.Running.{IfRefusedRelation, IfRefusedWords, IfSecondUnread, Reported, asked, asked_of_file, of_file, words_of_build, words_of_unmet}
-use Rattle.debctl_commands.specs.UnmetJob.{AreRefusedBefore, Words, has_environment, is_index, unmet_promise, words}
+use Rattle.debctl_commands.specs.Running.{IfRefusedRelation, IfRefusedWords, Reported, asked, asked_of_file, of_file, words_of_build}
 use Rattle.debctl_commands.specs.declared.diff_job.DiffOptions.{DiffOptions}
 use Rattle.debctl_commands.specs.declared.query_job.QueryOptions.{QueryOptions}
-use Rattle.debctl_args.specs.declared.jobs.Dependents.{Dependents}
 use Rattle.debctl_args.specs.declared.jobs.Detail.{Detail}
 use Rattle.debctl_args.specs.declared.jobs.DiffDetail.{DiffDetail}
 use Rattle.debctl_args.specs.declared.jobs.DiffKind.{DiffKind}
 use Rattle.debctl_args.specs.declared.jobs.Job.{Job}
-use Rattle.debctl_args.specs.declared.jobs.Job.TheVariants.{Buildable, Diff, Query, QueryFrom, Unmet}
+use Rattle.debctl_args.specs.declared.jobs.Job.TheVariants.{Buildable, Diff, Query, QueryFrom}
 use Rattle.debctl_args.specs.declared.jobs.SourceKind.{SourceKind}
 use Rattle.debctl_args.specs.declared.jobs.Terms.{Terms}
 
@@ -72,37 +70,6 @@ module _ (job : Job) (arch : String Global) (profiles : Vec (String Global) Glob
       (of_words (λ ask. Ends (from_promise (index_members members) (query_options detail versions) ask) first second out err status) arch profiles target items target_is items_is
       (subst (λ d. Ends (from_promise (index_members members) d (λ relation. question target (map string_bytes items) relation)) first second out err status) wanted_is
       (subst (λ m. Ends (from_promise m wanted (λ relation. question target (map string_bytes items) relation)) first second out err status) chosen_is reports)))
-
--- what is said of the words of `unmet` is said of those of the job
-of_unmet : (P : Words → Type 0) (arch : String Global) (profiles : Vec (String Global) Global) (members : Members) (dependents : Dependents) (versions : VersionText) (target : List ℕ) (items : List (String Global)) (packages : IndexMembers) (tried : Dependents) (chosen : VersionText)
-    → target ≡ string_bytes arch → items ≡ profiles.items → packages ≡ index_members members → tried ≡ dependents → chosen ≡ versions
-    → P (words target (map string_bytes items) packages tried chosen) → P (words_of_unmet arch profiles members dependents versions)
-of_unmet P arch profiles members dependents versions target items packages tried chosen target_is items_is packages_are tried_is chosen_is p =
-    subst (λ t. P (words t (map string_bytes profiles.items) (index_members members) dependents versions)) target_is (subst (λ l. P (words target (map string_bytes l) (index_members members) dependents versions)) items_is
-    (subst (λ m. P (words target (map string_bytes items) m dependents versions)) packages_are
-    (subst (λ d. P (words target (map string_bytes items) packages d versions)) tried_is (subst (λ v. P (words target (map string_bytes items) packages tried v)) chosen_is p))))
-
-module _ (job : Job) (arch : String Global) (profiles : Vec (String Global) Global) (members : Members) (dependents : Dependents) (versions : VersionText) (is : job ≡ Unmet arch profiles members dependents versions) (target : List ℕ) (items : List (String Global)) (packages : IndexMembers) (tried : Dependents) (chosen : VersionText)
-    (target_is : target ≡ string_bytes arch) (items_is : items ≡ profiles.items) (packages_are : packages ≡ index_members members) (tried_is : tried ≡ dependents) (chosen_is : chosen ≡ versions) where
-  -- what refused words leave, and what a refused index does
-  pub unmet_unread_index : (P : Type 0) → (IsFalse (has_environment (words target (map string_bytes items) packages tried chosen)) → P) → IfRefusedWords job P
-  unmet_unread_index P then =
-      subst (λ (asked : Job). IfRefusedWords asked P) (sym is) (of_unmet (λ w. IsFalse (has_environment w) → P) arch profiles members dependents versions target items packages tried chosen target_is items_is packages_are tried_is chosen_is then)
-
-  pub unmet_unread_file : (left : Option (List ℕ)) (P : Type 0) → (AreRefusedBefore (words target (map string_bytes items) packages tried chosen) left → P) → IfRefusedRelation job left P
-  unmet_unread_file left P then =
-      subst (λ (asked : Job). IfRefusedRelation asked left P) (sym is) (of_unmet (λ w. AreRefusedBefore w left → P) arch profiles members dependents versions target items packages tried chosen target_is items_is packages_are tried_is chosen_is then)
-
-  -- the index in itself leaves the second file
-  pub unmet_unread_second : (P : Type 0) → (IsTrue (is_index tried) → P) → IfSecondUnread job P
-  unmet_unread_second P then = subst (λ (asked : Job). IfSecondUnread asked P) (sym is) (subst (λ d. IsTrue (is_index d) → P) tried_is then)
-
-  -- the answer, and its report
-  pub unmet_reported : {W E : Type 0} (first second : ReaderOfJob) (out : WriterOfJob W) (err : WriterOfJob E) (status : ℕ)
-      → Ends (unmet_promise (words target (map string_bytes items) packages tried chosen)) first second out err status → Reported job first second out err status
-  unmet_reported first second out err status reports =
-      subst (λ (asked : Job). Reported asked first second out err status) (sym is)
-      (of_unmet (λ w. Ends (unmet_promise w) first second out err status) arch profiles members dependents versions target items packages tried chosen target_is items_is packages_are tried_is chosen_is reports)
 
 module _ (job : Job) (arch : String Global) (profiles : Vec (String Global) Global) (members : Members) (sources : SourceKind) (terms : Terms) (budget : ℕ) (reasons : Bool) (is : job ≡ Buildable arch profiles members sources terms budget reasons) (given : SourceWords) (given_is : given ≡ words_of_build arch profiles members sources terms reasons) where
   -- what refused words of `installable` on source packages leave, and what a refused index does

@@ -31,8 +31,8 @@ use Rattle.debctl_args.specs.declared.jobs.SourceKind.TheVariants as named
 use Rattle.debctl_commands.specs.InstallJob.{terms_named}
 use Rattle.debctl_commands.specs.JobDevices.{ReaderOfJob, WriterOfJob}
 use Rattle.debctl_commands.specs.Promises.{Promise, Saying}
-use Rattle.debctl_commands.specs.UnmetJob.{FailsAtIndex, FailsAtWords, Failure, IsRefusedIndex}
-use Rattle.debctl_commands.specs.UnmetJob.{at_side, fault_of, line_of, unmet_report}
+use Rattle.debctl_commands.specs.SideAnswers.{FailsAtIndex, FailsAtWords, Failure, IsRefusedIndex}
+use Rattle.debctl_commands.specs.SideAnswers.{at_side, fault_of, line_of, unmet_report}
 use Rattle.debctl_commands.specs.declared.build_job.BuildWords.{BuildWords}
 
 -- ---- the arguments

@@ -1,6 +1,6 @@
 -- Worked cases of jobs: what each promises and leaves as it was, and the paths of its files.
 use Rattle.std.specs.Prelude.{◌≡◌, ℕ, true, false, List, [], ◌∷◌, map, Option, Some, None, Result, Err}
-use Rattle.std.specs.Prelude.{IsFalse, IsTrue, String, Vec, codes, refl, ⊤}
+use Rattle.std.specs.Prelude.{IsFalse, String, Vec, codes, refl, ⊤}
 use Rattle.std.specs.Fmt.{digits}
 use Rattle.std.specs.Str.{is_utf8, chars}
 use lib.Utf8.{encode}
@@ -18,8 +18,6 @@ use Rattle.deb_unmet.specs.declared.asked.Strength.{Strength}
 use Rattle.deb_unmet.specs.declared.asked.Strength.TheVariants as fields
 use Rattle.debctl_args.specs.declared.jobs.Call.{Call}
 use Rattle.debctl_args.specs.declared.jobs.Cmp.TheVariants as cmps
-use Rattle.debctl_args.specs.declared.jobs.Dependents.{Dependents}
-use Rattle.debctl_args.specs.declared.jobs.Dependents.TheVariants as dependents
 use Rattle.debctl_args.specs.declared.jobs.Detail.TheVariants.{Reasons, Verdicts}
 use Rattle.debctl_args.specs.declared.jobs.DiffDetail.TheVariants as diff_details
 use Rattle.debctl_args.specs.declared.jobs.DiffKind.TheVariants as diff_kinds
@@ -43,7 +41,7 @@ use Rattle.debctl_commands.specs.Running.{IfUnread, promise_of}
 use Rattle.deb_index.specs.declared.members.Members.TheVariants.{Installed}
 use Rattle.deb_install.specs.declared.source_kind.SourceKind.TheVariants as kinds
 use Rattle.debctl_args.specs.declared.jobs.Members.TheVariants as members
-use Rattle.debctl_commands.specs.UnmetJob.{AreRefusedBefore, of_words, words}
+use Rattle.debctl_commands.specs.SideAnswers.{of_words}
 use Rattle.debctl_commands.specs.Verdicts.{demand, verdict_line}
 use Rattle.debctl_commands.specs.WitnessJob.{witness_promise}
 use Rattle.debctl_commands.specs.declared.verdict.Verdict.TheVariants.{NoNewline, Whole}
@@ -70,9 +68,6 @@ query_from = job.QueryFrom one names members.All Reasons Canonical
 
 abbrev diff : Job
 diff = job.Diff diff_kinds.Source diff_details.Fields Spelled
-
-abbrev unmet : Dependents → Job
-unmet given = job.Unmet one names members.Installed given Spelled
 
 -- a set may contain any packages
 abbrev no_terms : Terms
@@ -110,8 +105,6 @@ reports_of_jobs : ((promise (job.Check Source)).report tt ≡ by_status 0)
     × ((promise (job.Sort true)).report tt ≡ by_status 0)
     × ((promise query).report true ≡ by_status 0)
     × ((promise query_from).report false ≡ by_status 1)
-    × ((promise (unmet dependents.Source)).report (record { paragraphs = 0; is_empty = false })
-    ≡ by_status 1)
     × ((promise (installable 9)).report (record { paragraphs = 3; is_empty = false })
     ≡ by_status 1)
     × ((promise (installable 9)).report (record { paragraphs = 3; is_empty = true })
@@ -121,7 +114,6 @@ reports_of_jobs : ((promise (job.Check Source)).report tt ≡ by_status 0)
     × ((promise (buildable 9)).report (record { paragraphs = 3; is_empty = false })
     ≡ by_status 1)
 reports_of_jobs = (
-  refl,
   refl,
   refl,
   refl,
@@ -170,12 +162,11 @@ lines_of_jobs : ((promise (job.Check Source)).line Read ≡ codes "fault: read\n
     ≡ codes "second: line 4: 6 NoColon\n")
     × ((promise query_from).line (record { side = First; fault = Refused long_relation })
     ≡ codes "line 0: 8 ParagraphTooLong\n")
-    × ((promise (unmet dependents.Source)).line (of_words Memory) ≡ codes "fault: memory\n")
     × ((promise (buildable 9)).line (of_words Read) ≡ codes "fault: read\n")
     × ((promise diff).fault (record { side = First; fault = Write }) ≡ Write)
     × ((promise query_from).fault (record { side = Second; fault = Read }) ≡ Read)
 unfolding digits
-lines_of_jobs = (refl, refl, refl, refl, refl, refl, refl)
+lines_of_jobs = (refl, refl, refl, refl, refl, refl)
 
 abbrev Says : (asked : Job) → Result (promise asked).Answer (promise asked).Failure → Type 0
 Says asked answer =
@@ -197,21 +188,16 @@ unread : (IfUnread (job.Check Source) ℕ ≡ Unit {0}) × (IfUnread (job.Same S
     × (IfUnread (job.VersionKey names) ℕ ≡ ℕ) × (IfCompare compare ℕ ≡ ℕ)
     × (IfCompare (job.Check Source) ℕ ≡ Unit {0}) × (IfSecondUnread (job.Check Source) ℕ ≡ ℕ)
     × (IfSecondUnread (job.Same Source) ℕ ≡ Unit {0}) × (IfSecondUnread compare ℕ ≡ ℕ)
-    × (IfSecondUnread (unmet (dependents.Index Depends)) ℕ ≡ (IsTrue true → ℕ))
-    × (IfSecondUnread (unmet dependents.Sources) ℕ ≡ (IsTrue false → ℕ))
     × (IfSecondUnread (buildable 9) ℕ ≡ Unit {0})
-unread = (refl, refl, refl, refl, refl, refl, refl, refl, refl, refl, refl, refl, refl)
+unread = (refl, refl, refl, refl, refl, refl, refl, refl, refl, refl, refl)
 
--- by the words of a query, of `unmet` and of `installable`, and by the text of the first file
+-- by the words of a query and of `installable`, and by the text of the first file
 unread_by_words : (IfRefusedWords query ℕ
     ≡ (AreRefused (question (codes "amd64") (codes "b-" ∷ codes "amd64" ∷ []) (codes "b-")) → ℕ))
     × (IfRefusedWords query_from ℕ ≡ Unit {0})
     × (IfRefusedRelation query_from None ℕ
     ≡ (AreRefusedFrom (question (codes "amd64") (codes "b-" ∷ codes "amd64" ∷ [])) None → ℕ))
     × (IfRefusedRelation diff None ℕ ≡ (IsRefusedOld diff_kinds.Source None → ℕ))
-    × (IfRefusedRelation (unmet dependents.Source) None ℕ
-    ≡ (AreRefusedBefore (words (codes "amd64") (codes "b-" ∷ codes "amd64" ∷ []) Installed
-    dependents.Source Spelled) None → ℕ))
     × (IfRefusedWords (installable 9) ℕ ≡ (IsFalse (is_architecture (codes "amd64")) → ℕ))
     × (IfRefusedWords (witness 9) ℕ ≡ (IsFalse (is_architecture (codes "amd64")) → ℕ))
     × (IfRefusedWords (buildable 9) ℕ
@@ -221,7 +207,7 @@ unread_by_words : (IfRefusedWords query ℕ
     ≡ (AreRefusedSources (source_words (codes "amd64") (codes "b-" ∷ codes "amd64" ∷ []) Installed
     kinds.Source (without_b fields.Depends) true) None → ℕ))
 unfolding one other
-unread_by_words = (refl, refl, refl, refl, refl, refl, refl, refl, refl)
+unread_by_words = (refl, refl, refl, refl, refl, refl, refl, refl)
 
 -- ---- paths
 
@@ -230,7 +216,7 @@ on_one = job.Check Source ∷ job.CheckAll Source ∷ job.CheckWhole Source (dem
     ∷ job.Normalise Source ∷ job.Sort true ∷ query ∷ installable 9 ∷ witness 9 ∷ []
 
 abbrev on_two : List Job
-on_two = job.Same Source ∷ diff ∷ query_from ∷ unmet dependents.Source ∷ buildable 9 ∷ []
+on_two = job.Same Source ∷ diff ∷ query_from ∷ buildable 9 ∷ []
 
 abbrev on_words : List Job
 on_words = compare ∷ job.CanonVersion one ∷ job.VersionKey names ∷ []

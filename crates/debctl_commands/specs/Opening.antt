@@ -14,7 +14,7 @@ use Rattle.debctl_commands.specs.declared.file_or_nothing.FileOrNothing.TheVaria
 use Rattle.debctl_commands.specs.declared.opening.Both.{Both}
 use Rattle.debctl_commands.specs.declared.unopened.Unopened.{Unopened}
 use Rattle.debctl_commands.specs.declared.unopened.Unopened.TheVariants.{NotFound}
-use Rattle.debctl_args.specs.Asked.{reads_of}
+use Rattle.debctl_args.specs.Requests.{reads_of}
 use Rattle.debctl_args.specs.declared.jobs.Call.{Call}
 use Rattle.debctl_args.specs.declared.jobs.Job.{Job}
 use Rattle.debctl_args.specs.declared.jobs.Reads.{Reads}

@@ -149,7 +149,7 @@ line_of_wildcard = refl
 
 -- for the worked cases: what is written for amd64 of `aa, ww` over one package, whose version the
 -- file spells otherwise than the canonical text does
-abbrev ww : Listed
+abbrev pub ww : Listed
 ww = record {
   name = codes "ww";
   version = version_in (codes "1.0");

@@ -1,10 +1,9 @@
 -- What a whole command answers and writes, by its job. The jobs and their statuses are this
 -- project's own.
 use Rattle.std.specs.Prelude.{◌≡◌, ℕ, ⊤, Bool, List, map, Option}
-use Rattle.std.specs.Prelude.{IsFalse, IsTrue, Result, String, Vec, string_bytes}
+use Rattle.std.specs.Prelude.{IsFalse, Result, String, Vec, string_bytes}
 use Rattle.std.specs.declared.alloc.Global.{Global}
 use Rattle.deb_base.specs.declared.fault.Fault.{Fault}
-use Rattle.deb_base.specs.declared.version_text.VersionText.{VersionText}
 use Rattle.deb_control.specs.declared.summary.Summary.{Summary}
 use Rattle.deb_index.specs.Questions.{Question, question}
 use Rattle.deb_unmet.specs.declared.asked.Strength.TheVariants as fields
@@ -24,18 +23,16 @@ use Rattle.debctl_commands.specs.QueryFrom.{AreRefusedFrom, from_promise}
 use Rattle.debctl_commands.specs.QueryJob.{AreRefused, QueriesFile, index_members, query_options}
 use Rattle.debctl_commands.specs.Reporting.{by_status}
 use Rattle.debctl_commands.specs.SameJob.{ComparesFiles}
-use Rattle.debctl_commands.specs.UnmetJob.{AreRefusedBefore, Words, fields_tried, has_environment}
-use Rattle.debctl_commands.specs.UnmetJob.{is_index, unmet_promise, words}
+use Rattle.debctl_commands.specs.UnmetJob.{fields_tried}
 use Rattle.debctl_commands.specs.VersionJobs.{Canonicalises, Compares}
 use Rattle.debctl_commands.specs.WholeJob.{ChecksWhole, verdict_report}
 use Rattle.debctl_commands.specs.WitnessJob.{witness_promise}
-use Rattle.debctl_args.specs.declared.jobs.Dependents.{Dependents}
 use Rattle.debctl_args.specs.declared.jobs.Members.{Members}
 use Rattle.debctl_args.specs.declared.jobs.Job.{Job}
 use Rattle.debctl_args.specs.declared.jobs.Job.TheVariants.{Check, CheckAll, CheckWhole, Normalise, Same, Diff}
 use Rattle.debctl_args.specs.declared.jobs.Job.TheVariants.{Compare, CanonVersion, Sort, Query, QueryFrom}
 use Rattle.debctl_args.specs.declared.jobs.Job.TheVariants.{Buildable, Healthy, Installable}
-use Rattle.debctl_args.specs.declared.jobs.Job.TheVariants.{Unmet, VersionKey, Witness}
+use Rattle.debctl_args.specs.declared.jobs.Job.TheVariants.{VersionKey, Witness}
 use Rattle.debctl_args.specs.declared.jobs.SourceKind.{SourceKind}
 use Rattle.debctl_args.specs.declared.jobs.Strength.{Strength}
 use Rattle.debctl_args.specs.declared.jobs.Terms.{Terms}
@@ -49,13 +46,6 @@ asked arch profiles relation =
 abbrev pub asked_of_file : String Global → Vec (String Global) Global → List ℕ → Question
 asked_of_file arch profiles relation =
     question (string_bytes arch) (map string_bytes profiles.items) relation
-
--- the words of `unmet`
-abbrev pub words_of_unmet : String Global → Vec (String Global) Global → Members → Dependents
-    → VersionText → Words
-words_of_unmet arch profiles members dependents versions =
-    words (string_bytes arch) (map string_bytes profiles.items) (index_members members) dependents
-    versions
 
 -- the words of `installable` on packages
 abbrev pub words_of_packages : String Global → Members → Strength → Terms
@@ -107,8 +97,6 @@ promise_of (Query arch profiles relation members detail versions) = plain yes_or
 promise_of (QueryFrom arch profiles members detail versions) =
     from_promise (index_members members) (query_options detail versions)
     (asked_of_file arch profiles)
-promise_of (Unmet arch profiles members dependents versions) =
-    unmet_promise (words_of_unmet arch profiles members dependents versions)
 promise_of (Healthy arch members strength) =
     health_promise (string_bytes arch) (index_members members) strength
 promise_of (Installable arch members strength terms names budget reasons) =
@@ -177,24 +165,19 @@ abbrev pub IfCompare : Job → Type 0 → Type 0
 IfCompare (Compare former operator latter) P = P
 IfCompare _ P = Unit {0}
 
--- Every job but `same`, `diff`, `query --relation-from`, `installable` on source packages and an
--- `unmet` of another file than the index leaves the second reader as it was.
+-- Every job but `same`, `diff`, `query --relation-from` and `installable` on source packages leaves
+-- the second reader as it was.
 abbrev pub IfSecondUnread : Job → Type 0 → Type 0
 IfSecondUnread (Same doc) P = Unit {0}
 IfSecondUnread (Diff kind detail versions) P = Unit {0}
 IfSecondUnread (QueryFrom arch profiles members detail versions) P = Unit {0}
 IfSecondUnread (Buildable arch profiles members kind terms budget reasons) P = Unit {0}
-IfSecondUnread (Unmet arch profiles members dependents versions) P =
-    IsTrue (is_index dependents) → P
 IfSecondUnread _ P = P
 
--- A query, `unmet`, `healthy` or `installable` whose words are refused leaves the first reader as
--- it was.
+-- A query, `healthy` or `installable` whose words are refused leaves the first reader as it was.
 abbrev pub IfRefusedWords : Job → Type 0 → Type 0
 IfRefusedWords (Query arch profiles relation members detail versions) P =
     AreRefused (asked arch profiles relation) → P
-IfRefusedWords (Unmet arch profiles members dependents versions) P =
-    IsFalse (has_environment (words_of_unmet arch profiles members dependents versions)) → P
 IfRefusedWords (Healthy arch members strength) P =
     IsFalse (is_architecture (string_bytes arch)) → P
 IfRefusedWords (Installable arch members strength terms names budget reasons) P =
@@ -206,13 +189,11 @@ IfRefusedWords (Buildable arch profiles members kind terms budget reasons) P =
 IfRefusedWords _ P = Unit {0}
 
 -- A query whose relation is that of a file leaves the second reader, which is that of the index, as
--- it was, if the words with that relation are refused; `unmet` and `installable` on source
--- packages, if their words or the index are; and `diff`, if the old file is.
+-- it was, if the words with that relation are refused; `installable` on source packages, if its
+-- words or the index are; and `diff`, if the old file is.
 abbrev pub IfRefusedRelation : Job → Option (List ℕ) → Type 0 → Type 0
 IfRefusedRelation (QueryFrom arch profiles members detail versions) left P =
     AreRefusedFrom (asked_of_file arch profiles) left → P
-IfRefusedRelation (Unmet arch profiles members dependents versions) left P =
-    AreRefusedBefore (words_of_unmet arch profiles members dependents versions) left → P
 IfRefusedRelation (Buildable arch profiles members kind terms budget reasons) left P =
     AreRefusedSources (words_of_build arch profiles members kind terms reasons) left → P
 IfRefusedRelation (Diff kind detail versions) left P = IsRefusedOld kind left → P

@@ -6,7 +6,7 @@ use Rattle.debctl_commands.specs.declared.unopened.Unopened.TheVariants.{NotFoun
 use Rattle.debctl_commands.specs.declared.unopened.Unopened.TheVariants.{NotADirectory, IsADirectory}
 use Rattle.debctl_commands.specs.declared.unopened.Unopened.TheVariants.{FilesystemLoop}
 use Rattle.debctl_commands.specs.declared.unopened.Unopened.TheVariants.{InvalidFilename, NotUtf8, ReadBefore}
-use Rattle.debctl_commands.specs.declared.unopened.Unopened.TheVariants.{System, Other}
+use Rattle.debctl_commands.specs.declared.unopened.Unopened.TheVariants.{NotRegular, System, Other}
 
 abbrev pub unopened_words : Unopened → List ℕ
 unopened_words NotFound = codes "no such file or directory"
@@ -17,6 +17,7 @@ unopened_words FilesystemLoop = codes "too many levels of symbolic links"
 unopened_words InvalidFilename = codes "file name too long"
 unopened_words NotUtf8 = codes "the path isn't UTF-8"
 unopened_words ReadBefore = codes "standard input was read before"
+unopened_words NotRegular = codes "isn't a regular file"
 unopened_words (System number) = codes "os error " ++ decimal number
 unopened_words Other = codes "other error"
 
@@ -31,7 +32,9 @@ words_of_reasons : map unopened_words
     ∷ codes "is a directory" ∷ codes "too many levels of symbolic links" ∷ []
 words_of_reasons = refl
 
-words_of_other_reasons : map unopened_words (InvalidFilename ∷ NotUtf8 ∷ ReadBefore ∷ Other ∷ [])
+words_of_other_reasons : map unopened_words
+    (InvalidFilename ∷ NotUtf8 ∷ ReadBefore ∷ NotRegular ∷ Other ∷ [])
     ≡ codes "file name too long" ∷ codes "the path isn't UTF-8"
-    ∷ codes "standard input was read before" ∷ codes "other error" ∷ []
+    ∷ codes "standard input was read before" ∷ codes "isn't a regular file"
+    ∷ codes "other error" ∷ []
 words_of_other_reasons = refl

@@ -12,17 +12,18 @@ ghost use Rattle.debctl_commands.specs.BuildJob.{kind_tried, source_words_of};
 ghost use Rattle.debctl_commands.specs.JobDevices.{reader_of, writer_of};
 ghost use Rattle.debctl_commands.specs.Promises.{Ends};
 ghost use Rattle.debctl_commands.specs.Taking.{TakesFile};
-ghost use Rattle.debctl_commands.specs.UnmetJob.{Failure, IsRefusedIndex, ReportsTried, at_side};
+ghost use Rattle.debctl_commands.specs.SideAnswers.{Failure, IsRefusedIndex, ReportsTried, at_side};
 
 use crate::query_job::names_of;
 use crate::reporting::{report_fault, report_side};
-use crate::unmet_job::{parse_environment, report_tried};
+use crate::unmet_job::parse_environment;
 use deb_base::{Fault, Sink, Source};
 use deb_control::{Side, SideFault};
 use deb_index::Members;
 use deb_install::{BuildRequest, Packages, SourceKind, buildable};
 use deb_relation::Env;
 use deb_solve::Budget;
+use deb_unmet::Summary;
 use debctl_args::Terms;
 use std::alloc::Global;
 
@@ -201,5 +202,16 @@ pub(crate) fn kind_tried(sources: debctl_args::SourceKind) -> SourceKind
     match sources {
         debctl_args::SourceKind::Sources => SourceKind::Sources,
         debctl_args::SourceKind::Source => SourceKind::Source,
+    }
+}
+
+/// Reports the answer of the file of a side, and returns the status.
+fn report_tried<E: Sink>(side: Side, answer: Result<Summary, Fault>, err: &mut E) -> u8
+    ensures { ReportsTried (writer_of E.held E.failures err.old err.new) (at_side side answer)
+        result }
+{
+    match answer {
+        Ok(summary) => { if summary.is_empty { 0 } else { 1 } }
+        Err(fault) => report_side(SideFault { side, fault }, err),
     }
 }

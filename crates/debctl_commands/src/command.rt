@@ -24,42 +24,38 @@ use crate::query_from::run_query_from;
 use crate::query_job::{QueryOptions, QueryWords, index_members, run_query};
 use crate::same_job::run_same;
 use crate::sort_job::run_sort;
-use crate::unmet_job::{UnmetWords, run_unmet};
 use crate::version_jobs::{run_canon_version, run_compare, run_version_key};
 use crate::whole_job::run_check_whole;
 use crate::witness_job::run_witness;
 use deb_base::{Sink, Source, VersionText};
-use debctl_args::{
-    Dependents, Detail, DiffDetail, DiffKind, Job, Members, SourceKind, Strength, Terms,
-};
+use debctl_args::{Detail, DiffDetail, DiffKind, Job, Members, SourceKind, Strength, Terms};
 use std::alloc::Global;
 
 /// Runs a job over readers and writers, reports on `err` why it failed, and returns the status.
 ///
 /// `check`, `normalise`, `sort` and `query` read `first`, and `same` reads both. `diff` reads the
 /// old file from `first`, and then the new one from `second`. `query` with a relation from a file
-/// reads the relation from `first`, and then the index from `second`. `unmet` and `installable` on
-/// source packages read the index from `first`, and then the file, if it isn't the index, from
-/// `second`. A reader that a job doesn't use is unchanged. So is that of the index if the arguments
-/// of a `query`, or the relation that it has read, are refused; and so are both of an `unmet` or of
-/// `installable` on source packages if its arguments are refused, and the second if the index is,
-/// or the old file of a `diff`. At most 4,295,032,831 bytes are read from a reader: a file of the
-/// most bytes, and one piece.
+/// reads the relation from `first`, and then the index from `second`. `installable` on source
+/// packages reads the index from `first`, and then the file from `second`. A reader that a job
+/// doesn't use is unchanged. So is that of the index if the arguments of a `query`, or the relation
+/// that it has read, are refused; and so are both of `installable` on source packages if its
+/// arguments are refused, and the second if the index is, or the old file of a `diff`. At most
+/// 4,295,032,831 bytes are read from a reader: a file of the most bytes, and one piece.
 ///
 /// - 0: done, or the answer is yes. `out` has `ok N` and a newline, with `--all` `ok N, 0 refused`
 ///   and a newline, the canonical text of the file, `same` and a newline, nothing, the canonical
 ///   version and a newline, the lines of the keys, the sorted lines, the lines of a set, or the
 ///   report, with `--why` the report with reasons. Nothing was written to `err`.
 /// - 1: the answer of `same` or `compare` is no, a group of a `query` is unmet, `installable` with
-///   `--witness` found no set, or `diff`, `unmet`, `healthy` or `installable` has a line. `out` has
+///   `--witness` found no set, or `diff`, `healthy` or `installable` has a line. `out` has
 ///   `different` and a newline for `same`, nothing for `compare`, the report for `query`, and the
 ///   lines for every other job; nothing else was written.
 /// - 2: a file or an argument is refused. `err` has the refusal's line, after `first: ` or
 ///   `second: ` for a file of a job that reads two and isn't a `query`. `out` has nothing, except
-///   for `normalise` and `unmet` of a second file: the canonical text, or the lines, of the
-///   paragraphs before the first that fails. For `check --all` `out` has all lines of the file
-///   instead, and nothing was written to `err`. For `check` with demands also: the file is accepted
-///   and doesn't meet them, and `err` has the line that says so.
+///   for `normalise`: the canonical text of the paragraphs before the first that fails. For
+///   `check --all` `out` has all lines of the file instead, and nothing was written to `err`. For
+///   `check` with demands also: the file is accepted and doesn't meet them, and `err` has the line
+///   that says so.
 /// - 3: out of memory, or a read or a write failed; for `compare` only a write to `err`. `err` has
 ///   `fault: memory`, `fault: read` or `fault: write`; if a write to `err` failed, a prefix of its
 ///   line.
@@ -161,17 +157,6 @@ fn run_job<R: Source, S: Source, W: Sink, E: Sink>(
         Job::CanonVersion(version) => run_canon_version(alloc, version.as_str(), out, err),
         Job::VersionKey(versions) => run_version_key(alloc, versions, out, err),
         Job::Sort { reverse } => run_sort(alloc, *reverse, first, out, err),
-        Job::Unmet {
-            arch,
-            profiles,
-            members,
-            dependents,
-            versions,
-        } => {
-            let members = index_members(*members);
-            let words = unmet_words(arch, profiles, members, *dependents, *versions);
-            run_unmet(alloc, &words, first, second, out, err)
-        }
         Job::Buildable { .. } => run_on_sources(alloc, job, first, second, out, err),
         Job::Healthy { .. } | Job::Installable { .. } | Job::Witness { .. } => {
             run_on_packages(alloc, job, first, out, err)
@@ -438,27 +423,5 @@ fn build_words<'a>(
         kind: kind_tried(sources),
         terms,
         search,
-    }
-}
-
-fn unmet_words<'a>(
-    arch: &'a String,
-    profiles: &'a [String],
-    members: deb_index::Members,
-    dependents: Dependents,
-    versions: VersionText,
-) -> UnmetWords<'a>
-    ensures target { result.target.now ≡ string_bytes arch.entry.now }
-    ensures profiles { result.profiles.now ≡ profiles.entry.now }
-    ensures members { result.members ≡ members }
-    ensures dependents { result.dependents ≡ dependents }
-    ensures versions { result.versions ≡ versions }
-{
-    UnmetWords {
-        target: arch.as_str(),
-        profiles,
-        members,
-        dependents,
-        versions,
     }
 }

@@ -4,10 +4,11 @@
 //! The first line is the report of the job, and is the same with a hint and without.
 
 use crate::reader::SystemFiles;
+use crate::unopened::Unopened;
 use deb_base::{Doc, Fault, Sink, put_all, put_pieces};
 use deb_explain::write_path;
 use deb_version::{BadVersion, Version};
-use debctl_args::{Call, Dependents, DiffKind, Job, Members, SourceKind};
+use debctl_args::{Call, DiffKind, Job, Members, SourceKind};
 use itoa::Buffer;
 use std::env;
 use std::io::IsTerminal;
@@ -34,9 +35,13 @@ pub(crate) enum About {
     Environment,
     /// The refused file of a job that reads one.
     File,
-    /// The refused file of a job that reads two.
+    /// The refused file of a job that reads an index and another file, or two files.
     First,
     Second,
+    /// The refused old index of `unmet`.
+    Old,
+    /// One of several refused indexes or files, by its place: 1 is the first.
+    Numbered(u64),
     /// Anything else.
     Other,
 }
@@ -59,9 +64,27 @@ pub(crate) fn subject_of(line: &[u8]) -> About {
         About::First
     } else if line.starts_with(b"second: ") {
         About::Second
+    } else if line.starts_with(b"old: ") {
+        About::Old
     } else {
-        About::Other
+        match line.strip_prefix(b"index ") {
+            Some(rest) => About::Numbered(number_before(rest)),
+            None => About::Other,
+        }
     }
+}
+
+/// Returns the number with which a text begins.
+fn number_before(text: &[u8]) -> u64 {
+    let mut number = 0u64;
+    for byte in text {
+        if !byte.is_ascii_digit() {
+            return number;
+        }
+        let digit = u64::from(byte.saturating_sub(b'0'));
+        number = number.saturating_mul(10).saturating_add(digit);
+    }
+    number
 }
 
 /// Writes the hint for a call, if there is one: about the file that couldn't be opened, or about
@@ -78,14 +101,22 @@ pub(crate) fn put_hint<E: Sink>(
         } else {
             &call.second
         };
-        put_all(err, b"debctl: ")?;
-        write_path(path_or_input(path).as_bytes(), err)?;
-        return why.write_behind(b": ", err);
+        return put_unopened(path_or_input(path), why, err);
     }
     match refused_file(call, about) {
         Some((path, doc)) => put_explain(path.as_bytes(), doc, err),
-        None => put_argument(&call.job, about, err),
+        None => match about {
+            About::Version => put_refused_version(&call.job, err),
+            _ => put_argument(about, err),
+        },
     }
+}
+
+/// Writes which file couldn't be opened, and why.
+pub(crate) fn put_unopened<E: Sink>(path: &str, why: Unopened, err: &mut E) -> Result<(), Fault> {
+    put_all(err, b"debctl: ")?;
+    write_path(path.as_bytes(), err)?;
+    why.write_behind(b": ", err)
 }
 
 /// Returns the path of a file, or that of standard input.
@@ -123,17 +154,6 @@ fn kind_of_file(job: &Job, about: About) -> Option<Doc> {
         Job::Query { members, .. } | Job::QueryFrom { members, .. } => Some(kind_of_index(
             *members,
         )),
-        Job::Unmet {
-            members,
-            dependents,
-            ..
-        } => Some(match (about, dependents) {
-            (About::Second, Dependents::Binary(_)) => Doc::Binary,
-            (About::Second, Dependents::Sources) => Doc::Sources,
-            (About::Second, Dependents::Source) => Doc::Source,
-            (About::Second, _) => Doc::Packages,
-            _ => kind_of_index(*members),
-        }),
         Job::Buildable {
             members,
             sources,
@@ -148,7 +168,7 @@ fn kind_of_file(job: &Job, about: About) -> Option<Doc> {
 }
 
 /// Returns the kind of the file of an index.
-fn kind_of_index(members: Members) -> Doc {
+pub(crate) fn kind_of_index(members: Members) -> Doc {
     match members {
         Members::All => Doc::Packages,
         Members::Installed => Doc::Status,
@@ -156,7 +176,7 @@ fn kind_of_index(members: Members) -> Doc {
 }
 
 /// Writes which command explains the refusal of a file.
-fn put_explain<E: Sink>(path: &[u8], doc: Doc, err: &mut E) -> Result<(), Fault> {
+pub(crate) fn put_explain<E: Sink>(path: &[u8], doc: Doc, err: &mut E) -> Result<(), Fault> {
     put_all(err, b"debctl: ")?;
     write_path(path, err)?;
     put_pieces(
@@ -171,10 +191,9 @@ fn put_explain<E: Sink>(path: &[u8], doc: Doc, err: &mut E) -> Result<(), Fault>
     put_all(err, b"\n")
 }
 
-/// Writes which argument of a job is refused, if one is.
-fn put_argument<E: Sink>(job: &Job, about: About, err: &mut E) -> Result<(), Fault> {
+/// Writes which argument of a job is refused, if one that isn't a version is.
+pub(crate) fn put_argument<E: Sink>(about: About, err: &mut E) -> Result<(), Fault> {
     match about {
-        About::Version => put_refused_version(job, err),
         About::Relation => put_all(
             err,
             b"debctl: to see why the relation is refused: debctl explain --relation RELATION\n",
@@ -217,7 +236,12 @@ fn put_first_version<E: Sink>(versions: &[String], err: &mut E) -> Result<(), Fa
 }
 
 /// Writes what is wrong in a version, which is one of several arguments.
-fn put_version<E: Sink>(number: u64, count: u64, text: &str, err: &mut E) -> Result<(), Fault> {
+pub(crate) fn put_version<E: Sink>(
+    number: u64,
+    count: u64,
+    text: &str,
+    err: &mut E,
+) -> Result<(), Fault> {
     let Err(fault) = Version::parse(text.as_bytes()) else {
         return Ok(());
     };

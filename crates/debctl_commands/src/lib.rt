@@ -7,6 +7,8 @@
 //!   about, [`run_unopened`] why a file can't be opened, [`run_word`] why a text isn't a relation
 //!   or a version, [`run_rule`] what an error code means, [`run_audit`] whether each of many files
 //!   is accepted, and [`run_audit_all`] every refusal of each.
+//! - [`run_query_over`], [`run_unmet`] and [`run_latest`] do jobs over any number of files, which
+//!   they open by their paths.
 //! - [`run_program`] runs the task that the program's arguments ask for: it opens the paths, passes
 //!   the files and the standard streams to these functions, and flushes the output.
 #![tactic(auto)]
@@ -19,15 +21,20 @@ mod command;
 mod diff_job;
 mod document_jobs;
 mod explain_job;
+mod file_fault;
+mod file_hints;
 mod file_or_nothing;
 mod health_job;
 mod hints;
+mod index_files;
 mod install_job;
+mod latest_job;
 mod listed;
 mod opening;
 mod opens;
 mod query_from;
 mod query_job;
+mod query_over;
 mod reader;
 mod reporting;
 mod same_job;
@@ -47,8 +54,11 @@ pub use audit_all_job::run_audit_all;
 pub use audit_job::{AuditOptions, run_audit};
 pub use command::run;
 pub use explain_job::{run_explain, run_rule, run_unopened, run_word};
+pub use latest_job::run_latest;
 pub use opening::run_call;
 pub use opens::Opens;
+pub use query_over::run_query_over;
 pub use streams::run_program;
+pub use unmet_job::run_unmet;
 pub use unopened::Unopened;
 pub use verdict::Verdict;

@@ -55,7 +55,7 @@ pub(crate) fn run_query_from<R: Source, S: Source, W: Sink, E: Sink>(
 }
 
 /// Reads the relation that a file contains: all its bytes.
-fn read_relation<R: Source>(alloc: Global, first: &mut R) -> Result<Vec<u8>, Fault>
+pub(crate) fn read_relation<R: Source>(alloc: Global, first: &mut R) -> Result<Vec<u8>, Fault>
     ensures ok { IfOk result (λ relation. IsRead (R.left first.old) relation.items) }
     ensures fault { IfErr result
         (λ fault. IsReadersFault fault (RefusesLong (R.left first.old))) }

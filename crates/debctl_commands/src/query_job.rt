@@ -108,7 +108,7 @@ fn write_report<R: Source, W: Sink>(
 }
 
 /// Parses the question that the command-line arguments ask.
-fn parse_question<'a>(
+pub(crate) fn parse_question<'a>(
     alloc: Global,
     words: &QueryWords<'_>,
     relation: &'a [u8],

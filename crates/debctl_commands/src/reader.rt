@@ -5,7 +5,7 @@ ghost use Rattle.std.specs.Prelude.{⊤, None};
 use crate::opens::Opens;
 use crate::unopened::Unopened;
 use deb_base::Input;
-use std::fs::File;
+use std::fs::{self, File};
 use std::io::{self, ErrorKind, Read, Stdin};
 
 /// A file of the system, or standard input.
@@ -35,6 +35,27 @@ pub(crate) fn opened(rt: &HostRuntime, path: &str) -> Result<Reader, Unopened> {
     }
 }
 
+/// The file of a path, which can be read twice.
+fn opened_regular(rt: &HostRuntime, path: &str) -> Result<Reader, Unopened> {
+    match is_regular(rt, path) {
+        Ok(true) => opened(rt, path),
+        Ok(false) => Err(Unopened::NotRegular),
+        Err(error) => Err(unopened(&error)),
+    }
+}
+
+/// Whether the file of a path is a regular file. Its path is asked, since opening a pipe waits.
+fn is_regular(rt: &HostRuntime, path: &str) -> io::Result<bool> {
+    if path == "-" {
+        return Ok(false);
+    }
+    let metadata = fs::metadata(rt, path)?;
+    if metadata.is_dir() {
+        return Err(io::Error::from(ErrorKind::IsADirectory));
+    }
+    Ok(metadata.is_file())
+}
+
 fn open_file(rt: &HostRuntime, path: &str) -> io::Result<File> {
     let file = File::open(rt, path)?;
     if file.metadata()?.is_dir() {
@@ -60,11 +81,13 @@ fn unopened(error: &io::Error) -> Unopened {
 }
 
 /// The files of the system. A path that isn't UTF-8 can't be opened, and standard input can be
-/// opened once.
+/// opened once. If files are to be read twice, only regular files can be opened.
 #[derive(Drop)]
 pub(crate) struct SystemFiles<'a> {
     rt: &'a HostRuntime,
     failures: u64,
+    /// Whether only regular files can be opened.
+    is_regular: bool,
     /// Whether standard input was opened before.
     was_input_opened: bool,
     /// How many openings were tried, up to the last number.
@@ -81,6 +104,19 @@ impl<'a> SystemFiles<'a> {
         SystemFiles {
             rt,
             failures: 0,
+            is_regular: false,
+            was_input_opened: false,
+            tried: 0,
+            unopened: None,
+        }
+    }
+
+    /// Returns the files of the system that can be read twice, with no failed opening.
+    pub(crate) fn regular(rt: &'a HostRuntime) -> SystemFiles<'a> {
+        SystemFiles {
+            rt,
+            failures: 0,
+            is_regular: true,
             was_input_opened: false,
             tried: 0,
             unopened: None,
@@ -92,6 +128,7 @@ impl<'a> SystemFiles<'a> {
         SystemFiles {
             rt,
             failures: 0,
+            is_regular: false,
             was_input_opened: path == "-",
             tried: 0,
             unopened: None,
@@ -115,6 +152,9 @@ impl<'a> SystemFiles<'a> {
         let Ok(path) = str::from_utf8(path) else {
             return Err(Unopened::NotUtf8);
         };
+        if self.is_regular {
+            return opened_regular(self.rt, path);
+        }
         if path == "-" {
             if self.was_input_opened {
                 return Err(Unopened::ReadBefore);

@@ -4,18 +4,25 @@ use crate::all_jobs::run_explain_all;
 use crate::audit_all_job::run_audit_all;
 use crate::audit_job::{AuditOptions, record_end, run_audit, run_without_list};
 use crate::explain_job::{run_explain, run_rule, run_unopened, run_word};
+use crate::file_hints::{put_latest_hint, put_query_hint, put_unmet_hint};
 use crate::hints::{put_hint, subject_of, wants_hints};
+use crate::latest_job::run_latest;
 use crate::listed::listed_paths;
 use crate::opening::run_call;
+use crate::query_over::run_query_over;
 use crate::reader::{SystemFiles, opened};
 use crate::reporting::{report_fault, report_usage};
+use crate::unmet_job::run_unmet;
 use crate::unopened::Unopened;
 use crate::usage_hints::{put_usage_hint, usage_hint};
 use crate::writer::{Records, Streams, write_out};
 use deb_base::{FILE_LIMIT, Fault, Input, Output, Sink, read_text};
 use deb_explain::Word;
 use deb_field::Doc;
-use debctl_args::{Audit, Call, Explain, Extent, Files, LineEnd, Task, UsageFault, job_of};
+use debctl_args::{
+    Audit, Call, Explain, Extent, Files, LatestOf, LineEnd, QueryOver, Task, Unmet, UsageFault,
+    job_of,
+};
 use std::env;
 use std::fs::File;
 use std::io::{self, ErrorKind};
@@ -81,6 +88,9 @@ fn report_no_task(rt: &HostRuntime, fault: &UsageFault) -> u8 {
 fn answer(rt: &HostRuntime, task: &Task) -> u8 {
     let answered = match task {
         Task::Run(call) => run_on_streams(rt, call),
+        Task::Query(query) => query_on_streams(rt, query),
+        Task::Unmet(asked) => unmet_on_streams(rt, asked),
+        Task::Latest(latest) => latest_on_streams(rt, latest),
         Task::Explain(wanted) => explain_on_streams(rt, wanted),
         Task::Audit(audit) => audit_on_streams(rt, audit),
     };
@@ -104,6 +114,61 @@ fn run_on_streams(rt: &HostRuntime, call: &Call) -> Result<u8, Fault> {
     if status > 1 && wants_hints(rt) {
         let about = subject_of(err.buffer());
         let _ = put_hint(call, &files, about, &mut Output::new(&mut err));
+    }
+    write_out(out, err, status)
+}
+
+/// Does the job of `query` over the files of the system, and writes out what it has written.
+fn query_on_streams(rt: &HostRuntime, query: &QueryOver) -> Result<u8, Fault> {
+    let Streams { mut out, mut err } = Streams::new(rt)?;
+    let mut files = SystemFiles::new(rt);
+    let status = run_query_over(
+        rt.alloc(),
+        query,
+        &mut files,
+        &mut Output::new(&mut out),
+        &mut Output::new(&mut err),
+    );
+    if status > 1 && wants_hints(rt) {
+        let about = subject_of(err.buffer());
+        let _ = put_query_hint(query, &files, about, &mut Output::new(&mut err));
+    }
+    write_out(out, err, status)
+}
+
+/// Does the job of `unmet` over the files of the system, and writes out what it has written.
+fn unmet_on_streams(rt: &HostRuntime, asked: &Unmet) -> Result<u8, Fault> {
+    let Streams { mut out, mut err } = Streams::new(rt)?;
+    let mut files = SystemFiles::new(rt);
+    let status = run_unmet(
+        rt.alloc(),
+        asked,
+        &mut files,
+        &mut Output::new(&mut out),
+        &mut Output::new(&mut err),
+    );
+    if status > 1 && wants_hints(rt) {
+        let about = subject_of(err.buffer());
+        let _ = put_unmet_hint(asked, &files, about, &mut Output::new(&mut err));
+    }
+    write_out(out, err, status)
+}
+
+/// Does the job of `latest` over the regular files of the system, and writes out what it has
+/// written.
+fn latest_on_streams(rt: &HostRuntime, latest: &LatestOf) -> Result<u8, Fault> {
+    let Streams { mut out, mut err } = Streams::new(rt)?;
+    let mut files = SystemFiles::regular(rt);
+    let status = run_latest(
+        rt.alloc(),
+        latest,
+        &mut files,
+        &mut Output::new(&mut out),
+        &mut Output::new(&mut err),
+    );
+    if status > 1 && wants_hints(rt) {
+        let about = subject_of(err.buffer());
+        let _ = put_latest_hint(latest, &files, about, &mut Output::new(&mut err));
     }
     write_out(out, err, status)
 }

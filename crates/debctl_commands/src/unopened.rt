@@ -28,6 +28,8 @@ pub enum Unopened {
     NotUtf8,
     /// It is standard input, which was opened before.
     ReadBefore,
+    /// It isn't a regular file, and has to be read twice.
+    NotRegular,
     /// Another error of the system, by its number.
     System(u64),
     /// Another error, which isn't the system's.
@@ -51,6 +53,7 @@ impl Unopened {
             Unopened::InvalidFilename => put_all(out, b"file name too long"),
             Unopened::NotUtf8 => put_all(out, b"the path isn't UTF-8"),
             Unopened::ReadBefore => put_all(out, b"standard input was read before"),
+            Unopened::NotRegular => put_all(out, b"isn't a regular file"),
             Unopened::System(number) => {
                 let mut text = Buffer::new();
                 put_pieces(out, &[b"os error ", text.format(number).as_bytes()])

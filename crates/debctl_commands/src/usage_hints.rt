@@ -12,10 +12,6 @@ const COMMANDS: &[u8] = b"debctl: to see the commands: debctl help\n";
 /// The line for an option that prints nothing, which no command has.
 const QUIET: &[u8] = b"debctl: to see only the exit status, add >/dev/null 2>&1\n";
 
-/// The line for a query of several indexes.
-const INDEXES: &[u8] =
-    b"debctl: query reads one index: for f in A B; do cat \"$f\"; echo; done | debctl query ..\n";
-
 /// Returns the line that helps after wrong arguments, if there is one.
 pub(crate) fn usage_hint(text: &str) -> Option<&'static [u8]> {
     match text {
@@ -37,8 +33,6 @@ fn argument_hint(rest: &str) -> Option<&'static [u8]> {
         None
     } else if rest.contains("Usage: debctl check ") {
         Some(b"debctl: to check several files: debctl audit PATH ..\n")
-    } else if rest.contains("Usage: debctl query ") {
-        Some(INDEXES)
     } else {
         None
     }

@@ -151,7 +151,7 @@ fn key_line(alloc: Global, version: &str) -> Result<String, Fault>
 }
 
 /// Parses a version from the command line.
-fn parse_word(word: &str) -> Result<Version<'_>, Fault>
+pub(crate) fn parse_word(word: &str) -> Result<Version<'_>, Fault>
     ensures { ParsesWord word.now result }
 {
     match Version::parse(word.as_bytes()) {

@@ -30,16 +30,16 @@ below_four number kind is less most = omega arith
 kinds_asked : (asks : Asked) → kind_number (doc_of asks) < 4
 kinds_asked (Binary strength) = omega arith
 kinds_asked (Packages strength) = omega arith
-kinds_asked Source = omega arith
-kinds_asked Sources = omega arith
+kinds_asked (Source which) = omega arith
+kinds_asked (Sources which) = omega arith
 
 -- of sources Recommends isn't asked
 of_sources : (kind : ℕ) (recommends : Bool) (asks : Asked) → kind ≡ kind_number (doc_of asks)
     → recommends ≡ asks_recommends asks → 2 ≤ kind → IsTrue recommends → ⊥
 of_sources kind recommends (Binary strength) is says most set = below_two kind 0 is (omega arith) most
 of_sources kind recommends (Packages strength) is says most set = below_two kind 1 is (omega arith) most
-of_sources kind recommends Source is says most set = cc
-of_sources kind recommends Sources is says most set = cc
+of_sources kind recommends (Source which) is says most set = cc
+of_sources kind recommends (Sources which) is says most set = cc
 
 pub asks_something : (kind : ℕ) (recommends : Bool) (asks : Asked) → IsAsked kind recommends asks
     → AsksNothing kind recommends → ⊥

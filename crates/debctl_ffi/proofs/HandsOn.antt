@@ -166,7 +166,7 @@ module _ {n : ℕ} where
     typing (s ∷ ss) ps a vss are = (ps.0.typed κs a.0 vss.0 are.0, typing ss ps.1 a.1 vss.1 are.1)
 
 -- what is nowhere at null lies in a block
-somewhere : {M : Type 1} (𝓤 : Ura M) (N Q : Ptr → SProp 𝓤) (R : SProp 𝓤) (p : Ptr) → ent 𝓤 (N null_ptr) (never 𝓤) → ((b o : ℕ) → ent 𝓤 (sep 𝓤 (N (block_ptr b o)) R) (Q (block_ptr b o))) → ent 𝓤 (sep 𝓤 (N p) R) (Q p)
+pub somewhere : {M : Type 1} (𝓤 : Ura M) (N Q : Ptr → SProp 𝓤) (R : SProp 𝓤) (p : Ptr) → ent 𝓤 (N null_ptr) (never 𝓤) → ((b o : ℕ) → ent 𝓤 (sep 𝓤 (N (block_ptr b o)) R) (Q (block_ptr b o))) → ent 𝓤 (sep 𝓤 (N p) R) (Q p)
 somewhere 𝓤 N Q R (block_ptr b o) none k = k b o
 somewhere 𝓤 N Q R null_ptr none k = via 𝓤 (N null_ptr) (fst∗ 𝓤 (N null_ptr) R) (via 𝓤 (never 𝓤) none (never_e 𝓤 _))
 

@@ -6,6 +6,8 @@ mod FieldsSoFar
 mod RefusalsSoFar
 mod ShownFields
 mod Loading
+mod OneFile
+mod LatestTexts
 mod Written
 mod VersionParts
 mod ReadTexts
@@ -19,3 +21,4 @@ mod LongTexts
 mod KeptLines
 mod Readings
 pub mod HandsOn
+pub mod LentTwice

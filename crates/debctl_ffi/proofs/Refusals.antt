@@ -1,18 +1,14 @@
 -- Refusals of what lies in memory, by the part of a query that is refused.
 use Rattle.std.proofs.Common.{◌≡◌, ℕ, List, Some, inl, inr}
-use Rattle.std.specs.Prelude.{IsTrue}
 use Rattle.deb_base.specs.Faults.{RefusedOrMemory}
 use Rattle.deb_base.specs.declared.doc.Doc.TheVariants.{Packages}
 use Rattle.deb_base.specs.declared.fault.Fault.{Fault}
 use Rattle.deb_base.specs.declared.fault.Fault.TheVariants.{Refused, Memory, Read, Write}
 use Rattle.deb_control.specs.Documents.{refusal_of}
 use Rattle.deb_index.specs.Asked.{Asks, relation_asked}
-use Rattle.deb_index.specs.Listed.{Listed}
-use Rattle.deb_index.specs.Listing.{ListsAll}
-use Rattle.deb_index.specs.Questions.{IsGood, Question, RefusesQuery, RefusesWords, wildcard}
+use Rattle.deb_index.specs.Questions.{IsGood, Question, RefusesQuery, RefusesWords}
 use Rattle.deb_index.specs.declared.members.Members.TheVariants as members
 use Rattle.deb_index.specs.declared.question.Question.{Question as Asked}
-use Rattle.deb_relation.specs.Tests.{some_wildcard}
 
 -- the words of a question that was parsed
 abbrev pub good_words : (q : Question) (asked : Asked) → Asks q asked → IsGood q
@@ -30,13 +26,3 @@ index_refused q text (Refused refusal) good is = inr (inl (record { good = good;
 index_refused q text Memory good is = tt
 index_refused q text Read good is = absurd is
 index_refused q text Write good is = absurd is
-
--- the words and the index are good, and a wildcard is refused, or out of memory
-pub wildcard_refused : (q : Question) (text : List ℕ) (fault : Fault) (good : IsGood q) (packages : List Listed)
-    → ListsAll text packages → RefusedOrMemory fault (λ refusal. IsTrue (some_wildcard good.relation) × (refusal ≡ wildcard))
-    → RefusedOrMemory fault (RefusesQuery members.All q text)
-wildcard_refused q text (Refused refusal) good packages lists is =
-    inr (inr (record { good = good; packages = packages; lists = lists; holds = is.0; is = is.1 }))
-wildcard_refused q text Memory good packages lists is = tt
-wildcard_refused q text Read good packages lists is = absurd is
-wildcard_refused q text Write good packages lists is = absurd is

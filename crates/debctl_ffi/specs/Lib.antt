@@ -25,10 +25,14 @@ pub mod FieldLaws
 pub mod Loans
 pub mod Loads
 pub mod Details
+pub mod Latest
+pub mod Options
+pub mod Wanting
 pub mod Diffs
 pub mod LongLines
 pub mod Alike
 pub mod Blanks
 pub mod BlankCases
+pub mod KeptCases
 pub mod KeptTexts
 pub mod Feeds

@@ -12,11 +12,13 @@ use Rattle.deb_control.specs.Documents.{Accepted, Meaning, refusal_of}
 use Rattle.deb_index.specs.Listed.{Listed}
 use Rattle.deb_index.specs.Listing.{ListsAll}
 use Rattle.deb_index.specs.Questions.{bad_environment}
-use Rattle.deb_unmet.specs.Asked.{doc_of, request_for}
+use Rattle.deb_unmet.specs.Asked.{doc_of, is_of_target, request_for}
 use Rattle.deb_unmet.specs.Asking.{asks_of}
 use Rattle.deb_unmet.specs.Files.{file_lines, is_nothing}
+use Rattle.deb_unmet.specs.Scopes.{Scope, plain as plain_scope}
 use Rattle.deb_unmet.specs.declared.asked.Asked.{Asked}
 use Rattle.deb_unmet.specs.declared.asked.Asked.TheVariants as asked
+use Rattle.deb_unmet.specs.declared.asked.SourcesAsked.TheVariants.{All, OfTarget}
 use Rattle.deb_unmet.specs.declared.asked.Strength.TheVariants.{Depends, Recommends}
 use Rattle.deb_unmet.specs.declared.asking.Summary.{Summary}
 use Rattle.debctl_ffi.specs.Answers.{counting, plain, refusing}
@@ -31,8 +33,15 @@ asks_recommends (asked.Packages Recommends) = true
 asks_recommends (asked.Packages Depends) = false
 asks_recommends (asked.Binary Recommends) = true
 asks_recommends (asked.Binary Depends) = false
-asks_recommends asked.Sources = false
-asks_recommends asked.Source = false
+asks_recommends (asked.Sources which) = false
+asks_recommends (asked.Source which) = false
+
+-- source packages are asked that aren't built for the target
+abbrev pub asks_all : Asked → Bool
+asks_all (asked.Packages strength) = false
+asks_all (asked.Binary strength) = false
+asks_all (asked.Sources which) = not (is_of_target which)
+asks_all (asked.Source which) = not (is_of_target which)
 
 -- a number of C that says yes unless it is 0
 abbrev pub is_set : ℕ → Bool
@@ -41,10 +50,12 @@ is_set n = not (n == 0)
 numbers_of_c : map is_set (0 ∷ 1 ∷ 255 ∷ []) ≡ false ∷ true ∷ true ∷ []
 numbers_of_c = refl
 
--- The numbers ask this: a kind, and whether Recommends is asked too.
+-- The numbers ask this: a kind, and whether Recommends is asked too. Of source packages those are
+-- asked that are built for the target.
 pub record IsAsked (kind : ℕ) (recommends : Bool) (asks : Asked) : Type 0 where
   pub kind_is : kind ≡ kind_number (doc_of asks)
   pub recommends_is : recommends ≡ asks_recommends asks
+  pub of_target : asks_all asks ≡ false
 
 -- The numbers ask nothing: no kind with relations has this number, or Recommends is asked of
 -- sources.
@@ -53,9 +64,15 @@ AsksNothing kind recommends = (4 ≤ kind) ⊎ ((2 ≤ kind) × IsTrue recommend
 
 all_asked : map asks_recommends
     (asked.Packages Depends ∷ asked.Packages Recommends ∷ asked.Binary Depends
-    ∷ asked.Binary Recommends ∷ asked.Sources ∷ asked.Source ∷ [])
+    ∷ asked.Binary Recommends ∷ asked.Sources OfTarget ∷ asked.Source All ∷ [])
     ≡ false ∷ true ∷ false ∷ true ∷ false ∷ false ∷ []
 all_asked = refl
+
+of_target : map asks_all
+    (asked.Packages Depends ∷ asked.Binary Recommends ∷ asked.Sources OfTarget ∷ asked.Sources All
+    ∷ asked.Source OfTarget ∷ asked.Source All ∷ [])
+    ≡ false ∷ false ∷ false ∷ true ∷ false ∷ true ∷ []
+of_target = refl
 
 -- a target architecture, the profiles that are active, and an index of packages
 pub record Asker : Type 0 where
@@ -111,13 +128,13 @@ pub record IsRefusedFile (asks : Asked) (by : Asker) (text : List ℕ) (answer :
 
 -- The file is accepted, these are its lines, and the summary says how many paragraphs it has and
 -- whether there is no line.
-pub record HasLines (asks : Asked) (environment : Environment) (packages : List Listed)
+pub record HasLines (asks : Asked) (environment : Environment) (scope : Scope)
     (text : List ℕ) (summary : Summary) (bytes : List ℕ) : Type 0 where
   pub meaning : Meaning
   pub accepted : Accepted (doc_of asks) text meaning
   pub count : length meaning ≡ summary.paragraphs
   pub lines : bytes
-      ≡ file_lines (asks_of (request_for asks Canonical) environment packages) text meaning
+      ≡ file_lines (asks_of (request_for asks Canonical) environment scope) text meaning
   pub is_empty : summary.is_empty ≡ is_nothing bytes
 
 -- ---- answers
@@ -135,7 +152,7 @@ pub record IsUnmet (by : Asker) (text : List ℕ) (empty : Bool) (told : Answer)
   pub packages : List Listed
   pub good : IsGoodAsker by packages
   pub summary : Summary
-  pub has : HasLines asks (environment_in by) packages text summary bytes
+  pub has : HasLines asks (environment_in by) (plain_scope packages) text summary bytes
   pub empty_is : summary.is_empty ≡ empty
   pub count : told.count ≡ summary.paragraphs
 

@@ -8,13 +8,14 @@ ghost use Rattle.deb_index.specs.Questions.{MakesEnvironment};
 ghost use Rattle.deb_relation.specs.Environments.{environment_of};
 ghost use Rattle.deb_relation.specs.Views.{names_of};
 ghost use Rattle.deb_unmet.specs.Asked.{doc_of};
+ghost use Rattle.deb_unmet.specs.Scopes.{plain, scope_of};
 ghost use Rattle.debctl_ffi.specs.Unmet.{AsksNothing, HasLines, IsAsked, RefusesAsker, asker};
 
 use crate::report::read_index;
 use deb_base::{Code, Fault, Refusal, SliceSource, VecSink, VersionText};
 use deb_index::Index;
 use deb_relation::{Env, EnvFault};
-use deb_unmet::{Asked, Request, Strength, Summary, unmet};
+use deb_unmet::{Asked, Question, Request, SourcesAsked, Strength, Summary, unmet};
 use std::alloc::Global;
 
 /// The packages of an index, and the environment for which relations are asked.
@@ -54,27 +55,40 @@ impl Asker {
     ) -> Result<(Summary, Vec<u8>), Fault>
         ensures ok { IfOk result
             (λ answer. HasLines asked (environment_of self.now.environment)
-            (packages_of self.now.index) text.now answer.0 answer.1.items) }
+            (plain (packages_of self.now.index)) text.now answer.0 answer.1.items) }
         ensures fault { IfErr result
             (λ fault. RefusedOrMemory fault
             (λ refusal. refusal_of (doc_of asked) text.now ≡ Some refusal)) }
     {
-        lines_in(alloc, &self.index, &self.environment, asked, text)
+        let question = plain_question(&self.index, &self.environment);
+        lines_in(alloc, &question, asked, text)
     }
 }
 
-/// The lines of a file in memory, and its summary, of this index in this environment; or its
-/// refusal, or out of memory.
+/// Asks an index in an environment, without an old index, and leaves out no name.
+pub(crate) fn plain_question<'a>(index: &'a Index, environment: &'a Env) -> Question<'a>
+    ensures scope { scope_of result ≡ plain (packages_of index.now) }
+    ensures environment { environment_of result.environment.now ≡ environment_of environment.now }
+{
+    Question {
+        index,
+        unless: None,
+        without: &[],
+        environment,
+    }
+}
+
+/// The lines of a file in memory, and its summary, of this question; or its refusal, or out of
+/// memory.
 pub(crate) fn lines_in(
     alloc: Global,
-    index: &Index,
-    environment: &Env,
+    question: &Question<'_>,
     asked: Asked,
     text: &[u8],
 ) -> Result<(Summary, Vec<u8>), Fault>
     ensures ok { IfOk result
-        (λ answer. HasLines asked (environment_of environment.now) (packages_of index.now)
-        text.now answer.0 answer.1.items) }
+        (λ answer. HasLines asked (environment_of question.now.environment.now)
+        (scope_of question.now) text.now answer.0 answer.1.items) }
     ensures fault { IfErr result
         (λ fault. RefusedOrMemory fault
         (λ refusal. refusal_of (doc_of asked) text.now ≡ Some refusal)) }
@@ -85,7 +99,7 @@ pub(crate) fn lines_in(
         asked,
         versions: VersionText::Canonical,
     };
-    match unmet(alloc, index, environment, request, &mut source, &mut sink) {
+    match unmet(alloc, question, request, &mut source, &mut sink) {
         Ok(summary) => Ok((summary, sink.into_bytes())),
         Err(Fault::Refused(refusal)) => Err(Fault::Refused(refusal)),
         Err(Fault::Memory | Fault::Write) => Err(Fault::Memory),
@@ -112,7 +126,8 @@ pub(crate) fn make_environment(
     }
 }
 
-/// What the numbers ask: a kind, and whether Recommends is asked too.
+/// What the numbers ask: a kind, and whether Recommends is asked too. Of source packages those are
+/// asked that are built for the target.
 pub(crate) fn asked_of(kind: u8, recommends: bool) -> Option<Asked>
     ensures some { IfSome result (IsAsked kind recommends) }
     ensures none { IfNone result (AsksNothing kind recommends) }
@@ -125,8 +140,8 @@ pub(crate) fn asked_of(kind: u8, recommends: bool) -> Option<Asked>
     match kind {
         0 => Some(Asked::Binary(strength)),
         1 => Some(Asked::Packages(strength)),
-        2 if !recommends => Some(Asked::Source),
-        3 if !recommends => Some(Asked::Sources),
+        2 if !recommends => Some(Asked::Source(SourcesAsked::OfTarget)),
+        3 if !recommends => Some(Asked::Sources(SourcesAsked::OfTarget)),
         _ => None,
     }
 }

@@ -14,7 +14,7 @@ ghost use Rattle.deb_relation.specs.Views.{names_of};
 ghost use Rattle.deb_unmet.specs.declared.asked.Asked.{Asked};
 ghost use Rattle.debctl_ffi.specs.Answers.{HasStatus};
 ghost use Rattle.debctl_ffi.specs.Buffers.{buffer};
-ghost use Rattle.debctl_ffi.specs.Loads.{AsksNumbers, AsksPackage, AsksQuery, AsksUnmet, HoldsNone, IsLoading};
+ghost use Rattle.debctl_ffi.specs.Loads.{AsksFiles, AsksNumbers, AsksPackage, AsksQuery, AsksUnmet, HoldsNone, IsLoading};
 ghost use Rattle.debctl_ffi.specs.Loans.{Loan};
 ghost use Rattle.debctl_ffi.specs.Unmet.{AsksNothing, IsAsked, asker, is_set};
 ghost use Rattle.debctl_ffi.specs.contracts.loaded.Loaded.{the_row};
@@ -63,8 +63,8 @@ pub unsafe extern "C" fn deb_index_free(index: *mut u8)
     discard((index as *mut Loaded).read())
 }
 
-/// Writes the report of [`crate::query::deb_query`] on a loaded index. Its statuses, and 7: nothing
-/// is loaded.
+/// Writes the report of [`crate::query::deb_query`] on a loaded index. If it has several files, the
+/// line of each package says which is the package's. Its statuses, and 7: nothing is loaded.
 #[unsafe(no_mangle)]
 pub unsafe extern "C" fn deb_index_query(
     index: *const u8,
@@ -79,6 +79,9 @@ pub unsafe extern "C" fn deb_index_query(
         ∗ sem 𝓛 (lent_at the_row index loan.value loan.lifetime) }
     ensures* share { sem 𝓛 (flft loan.lifetime loan.share) }
     ensures answers { AsksQuery Verdicts
+        (question target.now (names_of profiles.now) relation.now) loan.value
+        (buffer out.old out.new len.new) result }
+    ensures files { AsksFiles Verdicts
         (question target.now (names_of profiles.now) relation.now) loan.value
         (buffer out.old out.new len.new) result }
     ensures none_held { HoldsNone loan.value → result.status ≡ 7 }

@@ -12,9 +12,9 @@ ghost use Rattle.debctl_ffi.specs.Loads.{package_words};
 ghost use Rattle.debctl_ffi.specs.Unmet.{AsksNothing, IsAsked, asker, is_set};
 
 use crate::answer::{Answer, no, no_index, no_kind, no_memory, refused, second_refused, some, yes};
-use crate::asker::{asked_of, lines_in, make_environment};
+use crate::asker::{asked_of, lines_in, make_environment, plain_question};
 use crate::buffer::reply;
-use crate::report::{Detail, read_index, report_in};
+use crate::report::{Detail, read_index, read_more, report_in, without};
 use deb_base::Fault;
 use deb_index::{Index, Package};
 use std::alloc::{AllocError, Global};
@@ -27,14 +27,45 @@ pub struct Loaded {
 }
 
 impl Loaded {
-    ghost use Rattle.debctl_ffi.specs.Loads.{AsksNumbers, AsksPackage, AsksQuery, AsksUnmet};
-    ghost use Rattle.debctl_ffi.specs.Loads.{HoldsNone, IsLoading};
+    ghost use Rattle.debctl_ffi.specs.Loads.{AsksFile, AsksFiles, AsksNumbers, AsksPackage};
+    ghost use Rattle.debctl_ffi.specs.Loads.{AsksQuery, AsksUnmet, HoldsNone, IsLoading};
+    ghost use Rattle.debctl_ffi.specs.Loads.{IsLoadingMore, IsWithout, Keeps};
 
     /// Reads an index. The answer is 0 with the number of packages, 2 with the refusal, or 5.
     pub(crate) fn read(alloc: Global, text: &[u8], answer: &mut Answer) -> Loaded
         ensures { IsLoading text.now answer.new result }
     {
-        match read_index(alloc, text) {
+        Loaded::keep(alloc, read_index(alloc, text), answer)
+    }
+
+    /// The answer of [`crate::more::deb_index_read_more`], and what is loaded then.
+    pub(crate) fn read_more(self, text: &[u8], answer: &mut Answer) -> Loaded
+        ensures { IsLoadingMore text.now answer.new self result }
+    {
+        let alloc = self.alloc;
+        match self.index {
+            Some(index) => Loaded::keep(alloc, read_more(alloc, index, text), answer),
+            None => Loaded::none(alloc, no_index(), answer),
+        }
+    }
+
+    /// The answer of [`crate::more::deb_index_without`], and what is loaded then.
+    pub(crate) fn without(self, names: &[&[u8]], answer: &mut Answer) -> Loaded
+        ensures { IsWithout (names_of names.now) answer.new self result }
+    {
+        let alloc = self.alloc;
+        match self.index {
+            Some(index) => Loaded::keep(alloc, without(alloc, index, names), answer),
+            None => Loaded::none(alloc, no_index(), answer),
+        }
+    }
+
+    /// Loads an index that was made. The answer is 0 with the number of packages; else 2 with the
+    /// refusal, or 5, and nothing is loaded.
+    fn keep(alloc: Global, made: Result<Index, Fault>, answer: &mut Answer) -> Loaded
+        ensures { Keeps made answer.new result }
+    {
+        match made {
             Ok(index) => {
                 *answer = yes(index.len() as u64);
                 Loaded {
@@ -42,15 +73,35 @@ impl Loaded {
                     index: Some(index),
                 }
             }
-            Err(Fault::Refused(refusal)) => {
-                *answer = refused(&refusal);
-                Loaded { alloc, index: None }
-            }
-            Err(_) => {
-                *answer = no_memory();
-                Loaded { alloc, index: None }
-            }
+            Err(Fault::Refused(refusal)) => Loaded::none(alloc, refused(&refusal), answer),
+            Err(_) => Loaded::none(alloc, no_memory(), answer),
         }
+    }
+
+    /// Loads nothing, with this answer.
+    fn none(alloc: Global, told: Answer, answer: &mut Answer) -> Loaded
+        ensures told { answer.new ≡ told }
+        ensures none { HoldsNone result }
+    {
+        *answer = told;
+        Loaded { alloc, index: None }
+    }
+
+    /// The answer of [`crate::more::deb_index_file`].
+    pub(crate) fn file_of(&self, number: u64, file: &mut usize) -> Answer
+        ensures answers { AsksFile number self.now file.new result }
+        ensures none_held { HoldsNone self.now → result.status ≡ 7 }
+        ensures status { HasStatus result.status (0 ∷ 1 ∷ 7 ∷ []) }
+    {
+        *file = 0;
+        let Some(index) = &self.index else {
+            return no_index();
+        };
+        let Some(place) = index.file_of(number) else {
+            return no();
+        };
+        *file = place;
+        yes(0)
     }
 
     /// The answer of [`crate::index::deb_index_query`].
@@ -63,6 +114,9 @@ impl Loaded {
         len: &mut usize,
     ) -> Answer
         ensures answers { AsksQuery Detail.Verdicts
+            (question target.now (names_of profiles.now) relation.now) self.now
+            (buffer out.old out.new len.new) result }
+        ensures files { AsksFiles Detail.Verdicts
             (question target.now (names_of profiles.now) relation.now) self.now
             (buffer out.old out.new len.new) result }
         ensures none_held { HoldsNone self.now → result.status ≡ 7 }
@@ -83,6 +137,9 @@ impl Loaded {
         ensures answers { AsksQuery Detail.Reasons
             (question target.now (names_of profiles.now) relation.now) self.now
             (buffer out.old out.new len.new) result }
+        ensures files { AsksFiles Detail.Reasons
+            (question target.now (names_of profiles.now) relation.now) self.now
+            (buffer out.old out.new len.new) result }
         ensures none_held { HoldsNone self.now → result.status ≡ 7 }
         ensures status { HasStatus result.status (0 ∷ 1 ∷ 2 ∷ 4 ∷ 5 ∷ 7 ∷ []) }
     {
@@ -100,6 +157,9 @@ impl Loaded {
         len: &mut usize,
     ) -> Answer
         ensures answers { AsksQuery detail
+            (question target.now (names_of profiles.now) relation.now) self.now
+            (buffer out.old out.new len.new) result }
+        ensures files { AsksFiles detail
             (question target.now (names_of profiles.now) relation.now) self.now
             (buffer out.old out.new len.new) result }
         ensures none_held { HoldsNone self.now → result.status ≡ 7 }
@@ -149,7 +209,8 @@ impl Loaded {
             Err(Fault::Refused(refusal)) => return refused(&refusal),
             Err(_) => return no_memory(),
         };
-        match lines_in(self.alloc, index, &environment, asked, file) {
+        let question = plain_question(index, &environment);
+        match lines_in(self.alloc, &question, asked, file) {
             Ok((summary, lines)) => {
                 if summary.is_empty {
                     reply(yes(summary.paragraphs), &lines, out, len)

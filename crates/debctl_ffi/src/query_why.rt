@@ -8,7 +8,7 @@ ghost use Rattle.deb_index.specs.Questions.{question};
 ghost use Rattle.deb_relation.specs.Views.{names_of};
 ghost use Rattle.debctl_ffi.specs.Answers.{HasStatus};
 ghost use Rattle.debctl_ffi.specs.Buffers.{buffer};
-ghost use Rattle.debctl_ffi.specs.Loads.{AsksQuery, HoldsNone};
+ghost use Rattle.debctl_ffi.specs.Loads.{AsksFiles, AsksQuery, HoldsNone};
 ghost use Rattle.debctl_ffi.specs.Loans.{Loan};
 ghost use Rattle.debctl_ffi.specs.Queries.{OfText, QueryFails, Reports};
 ghost use Rattle.debctl_ffi.specs.Replies.{Replies};
@@ -49,8 +49,8 @@ pub extern "C" fn deb_query_why(
     }
 }
 
-/// Writes the report of [`deb_query_why`] on a loaded index. Its statuses, and 7: nothing is
-/// loaded.
+/// Writes the report of [`deb_query_why`] on a loaded index. If it has several files, the line of
+/// each package says which is the package's. Its statuses, and 7: nothing is loaded.
 #[unsafe(no_mangle)]
 pub unsafe extern "C" fn deb_index_query_why(
     index: *const u8,
@@ -65,6 +65,9 @@ pub unsafe extern "C" fn deb_index_query_why(
         ∗ sem 𝓛 (lent_at the_row index loan.value loan.lifetime) }
     ensures* share { sem 𝓛 (flft loan.lifetime loan.share) }
     ensures answers { AsksQuery Detail.Reasons
+        (question target.now (names_of profiles.now) relation.now) loan.value
+        (buffer out.old out.new len.new) result }
+    ensures files { AsksFiles Detail.Reasons
         (question target.now (names_of profiles.now) relation.now) loan.value
         (buffer out.old out.new len.new) result }
     ensures none_held { HoldsNone loan.value → result.status ≡ 7 }

@@ -27,6 +27,12 @@ fn verdict(verdict: Verdict) -> &'static str {
     }
 }
 
+/// The place of the file at the end of a line about a package, if it is of one of several.
+fn file(it: Option<&Package>) -> String {
+    let file = it.and_then(|it| it.file);
+    file.map_or(String::new(), |file| format!(" @{file}"))
+}
+
 fn package(it: &Package) -> String {
     format!(
         "{} {} {} {}",
@@ -40,12 +46,13 @@ impl Printed for Report {
         for group in &self.groups {
             text += &format!("{} {}\n", verdict(group.verdict), group.text);
             for it in &group.packages {
-                text += &format!(" {}\n", package(it));
+                text += &format!(" {}{}\n", package(it), file(Some(it)));
             }
             for it in &group.reasons {
                 let of = it.package.as_ref();
                 let of = of.map_or(String::new(), |it| package(it) + " ");
-                text += &format!(" {}: {of}{}\n", it.alternative, it.reason);
+                let file = file(it.package.as_ref());
+                text += &format!(" {}: {of}{}{file}\n", it.alternative, it.reason);
             }
         }
         text

@@ -179,6 +179,27 @@ pub fn unmet(
     )
 }
 
+/// `asked` is the kind of the files, and which paragraphs are of one package.
+pub fn latest(
+    asked: (u8, u8),
+    (before, texts): (&[u8], &[Text]),
+    out: &mut [u8],
+    length: &mut usize,
+) -> Answer {
+    written!(
+        deb_latest(
+            asked.0,
+            asked.1,
+            before.as_ptr(),
+            before.len(),
+            texts.as_ptr(),
+            texts.len()
+        ),
+        out,
+        length
+    )
+}
+
 /// `asked` is the kind of the file, and whether Recommends is asked.
 pub fn healthy(
     asked: (u8, u8),

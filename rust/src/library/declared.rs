@@ -338,6 +338,18 @@ extern "C" {
         text_length: usize,
         answer: *mut Answer,
     );
+    pub fn deb_index_read_more(
+        index: *mut Room,
+        text: *const u8,
+        text_length: usize,
+        answer: *mut Answer,
+    );
+    pub fn deb_index_without(
+        index: *mut Room,
+        names: *const Text,
+        name_count: usize,
+        answer: *mut Answer,
+    );
     pub fn deb_index_free(index: *mut Room);
     pub fn deb_index_query(
         index: *const Room,
@@ -377,6 +389,25 @@ extern "C" {
         out_size: usize,
         length: *mut usize,
     ) -> Answer;
+    pub fn deb_index_unmet_with(
+        index: *const Room,
+        unless: *const Room,
+        kind: u8,
+        options: u8,
+        target: *const u8,
+        target_length: usize,
+        all_for: *const u8,
+        all_for_length: usize,
+        profiles: *const Text,
+        profile_count: usize,
+        without: *const Text,
+        without_count: usize,
+        text: *const u8,
+        text_length: usize,
+        out: *mut u8,
+        out_size: usize,
+        length: *mut usize,
+    ) -> Answer;
     pub fn deb_index_packages(
         index: *const Room,
         name: *const u8,
@@ -403,6 +434,18 @@ extern "C" {
     pub fn deb_index_details(
         index: *const Room,
         number: u64,
+        out: *mut u8,
+        out_size: usize,
+        length: *mut usize,
+    ) -> Answer;
+    pub fn deb_index_file(index: *const Room, number: u64, file: *mut usize) -> Answer;
+    pub fn deb_latest(
+        kind: u8,
+        by: u8,
+        before: *const u8,
+        before_length: usize,
+        texts: *const Text,
+        text_count: usize,
         out: *mut u8,
         out_size: usize,
         length: *mut usize,

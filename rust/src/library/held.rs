@@ -24,6 +24,23 @@ impl Index {
         (Index(memory), answer)
     }
 
+    pub fn read_more(&mut self, text: &[u8]) -> Answer {
+        let (memory, mut answer) = (self.0.as_mut_ptr(), Answer::default());
+        unsafe { deb_index_read_more(memory, text.as_ptr(), text.len(), &mut answer) };
+        answer
+    }
+
+    pub fn without(&mut self, names: &[Text]) -> Answer {
+        let (memory, mut answer) = (self.0.as_mut_ptr(), Answer::default());
+        unsafe { deb_index_without(memory, names.as_ptr(), names.len(), &mut answer) };
+        answer
+    }
+
+    /// `file` becomes the file of a package.
+    pub fn file(&self, number: u64, file: &mut usize) -> Answer {
+        unsafe { deb_index_file(self.0.as_ptr(), number, file) }
+    }
+
     /// With `why` the reasons are written too.
     pub fn query(
         &self,
@@ -71,6 +88,39 @@ impl Index {
                 target.len(),
                 profiles.as_ptr(),
                 profiles.len(),
+                text.as_ptr(),
+                text.len()
+            ),
+            out,
+            length
+        )
+    }
+
+    /// `asked` is the kind of the file, and the options; the environment is the target, that of
+    /// packages without one, and the profiles.
+    pub fn unmet_with(
+        &self,
+        (unless, without): (&Index, &[Text]),
+        asked: (u8, u8),
+        (target, all_for, profiles): (&[u8], &[u8], &[Text]),
+        text: &[u8],
+        out: &mut [u8],
+        length: &mut usize,
+    ) -> Answer {
+        written!(
+            deb_index_unmet_with(
+                self.0.as_ptr(),
+                unless.0.as_ptr(),
+                asked.0,
+                asked.1,
+                target.as_ptr(),
+                target.len(),
+                all_for.as_ptr(),
+                all_for.len(),
+                profiles.as_ptr(),
+                profiles.len(),
+                without.as_ptr(),
+                without.len(),
                 text.as_ptr(),
                 text.len()
             ),

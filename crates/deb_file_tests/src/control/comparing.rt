@@ -52,17 +52,18 @@ fn at(side: Side, fault: Fault) -> Result<bool, SideFault> {
 /// Each pair, in pieces of other sizes.
 #[test]
 fn pairs_of_files(rt: HostRuntime) {
-    for Pair(file, other, wanted) in &PAIRS {
-        for (size, size_too) in [(1, 65_536), (7, 2), (65_536, 3)] {
-            let mut reader = Pieces::new(file, size, 0);
-            let mut other = Pieces::new(other, size_too, 0);
-            let answer = same_pieces(rt.alloc(), &mut reader, &mut other);
-            assert!(rt;
-                answer == answer_of_pair(*wanted),
-                "in pieces of {size}: {answer:?}"
-            );
+    for pair in &PAIRS {
+        for (size, other) in [(1, 65_536), (7, 2), (65_536, 3)] {
+            assert!(rt; compares(rt.alloc(), pair, size, other), "pieces of {size}");
         }
     }
+}
+
+fn compares(alloc: Global, pair: &Pair, size: usize, other_size: usize) -> bool {
+    let Pair(file, other, wanted) = pair;
+    let mut reader = Pieces::new(file, size, 0);
+    let mut other = Pieces::new(other, other_size, 0);
+    same_pieces(alloc, &mut reader, &mut other) == answer_of_pair(*wanted)
 }
 
 fn same_pieces(
@@ -82,14 +83,11 @@ fn same_pieces(
 /// A paragraph of 16,777,216 bytes, and itself.
 #[test]
 fn a_long_pair(rt: HostRuntime) -> Result<(), Fail> {
-    let mut file = Vec::new(rt.alloc());
-    file.extend_from_slice(b"Package: aa\nVersion: 1\nArchitecture: all\nX: ")?;
-    file.resize(16_777_215, b'x')?;
-    file.push(b'\n')?;
+    let front = b"Package: aa\nVersion: 1\nArchitecture: all\nX: ";
+    let file = long_text(rt.alloc(), front, 16_777_215, b"\n")?;
     let mut reader = Pieces::new(&file, 65_536, 0);
     let mut other = Pieces::new(&file, 65_536, 0);
-    let answer = same_pieces(rt.alloc(), &mut reader, &mut other);
-    assert!(rt; answer == Ok(true), "{answer:?}");
+    assert!(rt; same_pieces(rt.alloc(), &mut reader, &mut other) == Ok(true));
     Ok(())
 }
 

@@ -9,69 +9,70 @@ const TOLD: &str = "@1\n1 A: 1\n@4\n4 B: 2\\n c\n@7\n7 C: 3\n@10\n10 D: 4\n";
 
 /// The reader fails once, at each of its calls, and would then go on.
 #[test]
-fn a_failed_read_is_no_end(rt: HostRuntime) -> Result<(), Fail> {
+fn a_failed_read_is_no_end(rt: HostRuntime) {
     for size in SIZES {
         for begins in [false, true] {
-            let calls = assert_failing(&rt, rt.alloc(), size, begins, 0, 0)?;
-            for failing in 1..40 {
-                assert_failing(&rt, rt.alloc(), size, begins, failing, calls)?;
+            for failing in 0..calls_of(rt.alloc(), size, begins).saturating_add(1) {
+                let is_right = is_told_of(rt.alloc(), size, begins, failing);
+                assert!(rt; is_right, "call {failing} in pieces of {size}, {begins}");
             }
         }
     }
-    Ok(())
 }
 
-/// Reads the file with one call that fails, where there are so many, and returns how many calls
-/// there were.
-fn assert_failing(
-    rt: &impl Abort,
-    alloc: Global,
-    size: usize,
-    begins: bool,
-    failing: u64,
-    calls: u64,
-) -> Result<u64, Fail> {
+/// How many calls there are if none fails.
+fn calls_of(alloc: Global, size: usize, begins: bool) -> u64 {
+    let mut told = String::new(alloc);
+    let mut reader = Pieces::new(FILE, size, 0);
+    let _ = read_all(alloc, &mut reader, begins, &mut told);
+    reader.calls
+}
+
+/// Whether the one call that fails is the last one, and a prefix is reported; all if none does.
+fn is_told_of(alloc: Global, size: usize, begins: bool, failing: u64) -> bool {
     let mut told = String::new(alloc);
     let mut reader = Pieces::new(FILE, size, failing);
-    let end = read_all(rt, alloc, &mut reader, begins, &mut told)?;
-    let is_right = if 1 <= failing && failing <= calls {
-        end == Err(Fault::Read) && reader.calls == failing && TOLD.starts_with(told.as_str())
-    } else {
-        end == Ok(10) && told.as_str() == TOLD
-    };
-    assert!(rt;
-        is_right,
-        "call {failing} in pieces of {size}, {begins}: {end:?}"
-    );
-    Ok(reader.calls)
+    let end = read_all(alloc, &mut reader, begins, &mut told);
+    if failing == 0 {
+        return end == Some(Ok(10)) && told.as_str() == TOLD;
+    }
+    end == Some(Err(Fault::Read)) && reader.calls == failing && TOLD.starts_with(told.as_str())
 }
 
 /// At most one piece is taken after the blank line that ends a paragraph, and after a paragraph's
 /// first line.
 #[test]
 fn one_piece_is_taken_ahead(rt: HostRuntime) -> Result<(), Fail> {
-    let mut file = Vec::new(rt.alloc());
-    file.extend_from_slice(b"A: 1\n\nB: ")?;
-    file.resize(300_009, b'x')?;
-    file.extend_from_slice(b"\n\nC: 3\n")?;
-    // each paragraph's first line, and the most bytes that are taken when it is known, and after
-    // the paragraph
-    let rows = [
-        (1, 5 + 65_536, 6 + 65_536),
-        (3, 300_010 + 65_536, 300_011 + 65_536),
-        (5, 300_016 + 65_536, 300_016 + 65_536),
-    ];
+    let file = long_text(rt.alloc(), b"A: 1\n\nB: ", 300_009, b"\n\nC: 3\n")?;
     for size in SIZES {
-        let mut reader = Pieces::new(file.as_slice(), size, 0);
-        let mut paragraphs = Paragraphs::new(rt.alloc());
-        for (line, at_line, behind) in rows {
-            let first = begins(&mut paragraphs, &mut reader);
-            assert!(rt; first == Ok(Some(line)) && taken(&file, &reader) <= at_line);
-            let found = paragraphs.advance(&mut Input::new(&mut reader));
-            assert!(rt; found == Ok(true) && taken(&file, &reader) <= behind);
-        }
+        assert!(rt;
+            takes_one_piece(rt.alloc(), &file, size),
+            "pieces of {size}"
+        );
     }
     Ok(())
+}
+
+/// The number of a paragraph's first line, and the most bytes that are taken when it is known, and
+/// after the paragraph.
+const TAKEN: [(u64, usize, usize); 3] = [
+    (1, 5 + 65_536, 6 + 65_536),
+    (3, 300_010 + 65_536, 300_011 + 65_536),
+    (5, 300_016 + 65_536, 300_016 + 65_536),
+];
+
+fn takes_one_piece(alloc: Global, file: &[u8], size: usize) -> bool {
+    let mut reader = Pieces::new(file, size, 0);
+    let mut paragraphs = Paragraphs::new(alloc);
+    for (line, at_line, behind) in TAKEN {
+        let first = begins(&mut paragraphs, &mut reader);
+        let is_begun = first == Ok(Some(line)) && taken(file, &reader) <= at_line;
+        let found = paragraphs.advance(&mut Input::new(&mut reader));
+        if !is_begun || found != Ok(true) || taken(file, &reader) > behind {
+            return false;
+        }
+    }
+    true
 }
 
 /// How many bytes are taken of a file.
@@ -90,16 +91,19 @@ const CUTS: [Cut; 3] = [
 
 #[test]
 fn files_without_end_are_refused(rt: HostRuntime) {
-    for Cut(front, byte, line) in &CUTS {
-        let mut reader = Endless::new(front, *byte);
-        let mut paragraphs = Paragraphs::new(rt.alloc());
-        let end = paragraphs.advance(&mut Input::new(&mut reader));
-        assert!(rt; end == Err(too_long(*line)), "{byte} for ever: {end:?}");
-        assert!(rt;
-            reader.given <= 4_294_967_295 + 65_536 && paragraphs.held() <= 16_842_752,
-            "{byte} for ever"
-        );
+    for cut in &CUTS {
+        assert!(rt; is_cut_off(rt.alloc(), cut), "{} for ever", cut.1);
     }
+}
+
+fn is_cut_off(alloc: Global, cut: &Cut) -> bool {
+    let Cut(front, byte, line) = cut;
+    let mut reader = Endless::new(front, *byte);
+    let mut paragraphs = Paragraphs::new(alloc);
+    let end = paragraphs.advance(&mut Input::new(&mut reader));
+    end == Err(too_long(*line))
+        && reader.given <= 4_294_967_295 + 65_536
+        && paragraphs.held() <= 16_842_752
 }
 
 fn too_long(line: u64) -> Fault {

@@ -1,106 +1,44 @@
-//! Tests of what a paragraph returns about its fields, and a caller's loop that is proved from the
-//! clauses of `next`.
+//! Tests of a paragraph with many fields, and of a caller's loop that is proved from the clauses of
+//! `next`.
 
 ghost use Rattle.std.specs.Prelude.{◌≡◌, ℕ, List, Some, length, IfOk};
 ghost use Rattle.deb_syntax.specs.Lines.{paragraphs_of};
 
 use deb_base::{Fault, Input, Source};
-use deb_syntax::{Paragraphs, Raw, RawField};
+use deb_syntax::{Paragraphs, Raw};
 use std::alloc::Global;
 use std::io::Write;
-use std::process::Abort;
 use std::test::Fail;
-
-/// The name of a field, its line and its body.
-type Wanted = (&'static [u8], u64, &'static [u8]);
-
-/// The fields of a paragraph whose first line has number 7.
-const FIELDS: [Wanted; 4] = [
-    (b"pre-DEPENDS", 7, b"aa,\n bb"),
-    (b"X_Y", 9, b""),
-    (
-        b"Long-name-of-a-field-of-more-bytes-than-are-checked-at-a-time-01",
-        10,
-        b"x",
-    ),
-    (b"A", 11, b"\n b"),
-];
-
-const FILE: &[u8] = b"\n\n\n\n\n\npre-DEPENDS: aa,\n bb\nX_Y:\n\
-    Long-name-of-a-field-of-more-bytes-than-are-checked-at-a-time-01: x\nA: \t\n b \n";
-
-/// The names that a paragraph is asked for, and the line of the field that is found.
-const NAMES: [(&[u8], Option<u64>); 7] = [
-    (b"Pre-Depends", Some(7)),
-    (b"x_y", Some(9)),
-    (b"a", Some(11)),
-    (b"x\x7fy", None),
-    (b"Pre-Depend", None),
-    (b"Pre-Depends ", None),
-    (b"", None),
-];
-
-#[test]
-fn fields_of_a_paragraph(rt: HostRuntime) -> Result<(), Fail> {
-    let mut paragraphs = Paragraphs::new(rt.alloc());
-    let paragraph = paragraphs
-        .next(&mut Input::new(FILE))?
-        .ok_or("no paragraph")?;
-    assert!(rt; paragraph.first_line() == 7 && paragraph.len() == 4 && !paragraph.is_empty());
-    assert!(rt; has_fields(&paragraph), "by their places, and in turn");
-    for (name, line) in NAMES {
-        assert!(rt;
-            line_of(&paragraph, name) == line,
-            "{}",
-            name.escape_ascii()
-        );
-    }
-    let again = paragraphs.current().ok_or("no paragraph any more")?;
-    assert!(rt;
-        again.first_line() == 7 && has_fields(&again),
-        "the paragraph given last"
-    );
-    Ok(())
-}
-
-/// Whether the fields are those, by their offsets and in their order, and no others.
-fn has_fields(paragraph: &Raw<'_>) -> bool {
-    let mut fields = paragraph.fields();
-    for (index, wanted) in FIELDS.iter().enumerate() {
-        if !is_field(paragraph.field(index), wanted) || !is_field(fields.next(), wanted) {
-            return false;
-        }
-    }
-    paragraph.field(FIELDS.len()).is_none() && fields.next().is_none()
-}
-
-fn is_field(found: Option<RawField<'_>>, wanted: &Wanted) -> bool {
-    match found {
-        Some(field) => (field.name, field.line, field.body) == *wanted,
-        None => false,
-    }
-}
 
 /// The line of the field that is found by a name.
 fn line_of(paragraph: &Raw<'_>, name: &[u8]) -> Option<u64> {
-    let field = paragraph.get(name)?;
-    Some(field.line)
+    Some(paragraph.get(name)?.line)
 }
 
 #[test]
 fn a_hundred_thousand_fields(rt: HostRuntime) -> Result<(), Fail> {
-    let mut text = Vec::new(rt.alloc());
-    for i in 0..100_000u32 {
-        write!(text, "F{i}: x\n")?;
-    }
-    text.extend_from_slice(b"last:")?;
-    let mut paragraphs = Paragraphs::new(rt.alloc());
-    let paragraph = paragraphs
-        .next(&mut Input::new(text.as_slice()))?
-        .ok_or("no paragraph")?;
-    assert!(rt; paragraph.len() == 100_001);
-    assert!(rt; line_of(&paragraph, b"LAST") == Some(100_001));
+    let text = many_fields(rt.alloc()).ok_or("memory")?;
+    assert!(rt; has_many(rt.alloc(), &text));
     Ok(())
+}
+
+fn many_fields(alloc: Global) -> Option<Vec<u8>> {
+    let mut text = Vec::new(alloc);
+    for i in 0..100_000u32 {
+        write!(text, "F{i}: x\n").ok()?;
+    }
+    text.extend_from_slice(b"last:").ok()?;
+    Some(text)
+}
+
+fn has_many(alloc: Global, text: &[u8]) -> bool {
+    let mut paragraphs = Paragraphs::new(alloc);
+    match paragraphs.next(&mut Input::new(text)) {
+        Ok(Some(paragraph)) => {
+            paragraph.len() == 100_001 && line_of(&paragraph, b"LAST") == Some(100_001)
+        }
+        _ => false,
+    }
 }
 
 /// How many paragraphs a file has: what all the answers of `next` together say of it.

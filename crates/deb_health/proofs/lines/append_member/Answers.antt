@@ -4,6 +4,7 @@ use Rattle.deb_index.specs.Indexes.{packages_of}
 use Rattle.deb_index.proofs.Offered.{on_ok}
 use Rattle.deb_unmet.specs.Fields.{environment_for, heading, paragraph_lines}
 use Rattle.deb_unmet.specs.Paragraphs.{heading_in}
+use Rattle.deb_unmet.specs.Scopes.{plain}
 use Rattle.deb_unmet.specs.declared.asked.Asked.TheVariants.{Packages}
 use Rattle.deb_unmet.specs.declared.paragraph.Paragraph.{Paragraph}
 use Rattle.deb_unmet.proofs.ParagraphLines.{heading-of_texts}
@@ -20,7 +21,7 @@ returns c = λ fields values holds.
     let texts = c.line_texts.ensures.texts fields values strength holds.unmet in
     let p : Paragraph = record { asked = Packages strength; number = number; texts = record { ref_ptr = (0, 0); now = c.line_texts.result } } in
     let v = c.line_texts.result.version.now in
-    let needs : List ℕ → List ℕ = λ version. paragraph_lines (Packages strength) environment packages number version values in
+    let needs : List ℕ → List ℕ = λ version. paragraph_lines (Packages strength) environment (plain packages) number version values in
     let excludes : List ℕ → List ℕ = λ h. exclusion_lines (environment_for (Packages strength) environment values) environment.native packages h values in
     let repeats : List ℕ → List ℕ = λ h. duplicate_lines environment.native packages h number in
     let h = heading_in p in

@@ -5,8 +5,8 @@ use Rattle.deb_control.specs.CheckedStates.{checked_state}
 use Rattle.deb_control.proofs.CheckedSoFar.{cut_off}
 use Rattle.deb_control.proofs.ShownSoFar.{shows-end, shows-front, shows-front_next, shows-next, shows-none, shows-refused, shows-taken}
 use Rattle.deb_relation.specs.Environments.{environment_of}
-use Rattle.deb_index.specs.Indexes.{packages_of}
 use Rattle.deb_unmet.specs.Asking.{asks_of}
+use Rattle.deb_unmet.specs.Scopes.{scope_of}
 use Rattle.deb_unmet.specs.declared.asking.Summary.{Summary}
 use Rattle.deb_unmet.proofs.AskedFiles.{all_asked, asked_read, asked_refused, cut_after, failed_after, none_asked, one_asked, puts_lines}
 use Rattle.deb_unmet.proofs.ParagraphLines.{given_texts}
@@ -49,18 +49,18 @@ returns-in_err-is_met-clause-cut_off g c = λ text told.
     let so_far = c.loop-count.invariant.shown in
     let current = rw c.if-not-branch.false at c.in_ok-advance.ensures.passes.current in
     let visits = rw so_far.reads at c.in_ok-advance.ensures.passes.keeps (ap Ok c.if-not-branch.false) in
-    let given = given_texts c.args.request c.of.result _ _ _ c.in-Some.view _ c.in-Some.ensures.seen current c.of.ensures.texts c.of.ensures.version visits in
+    let given = given_texts c.args.request c.of.result _ _ c.in-Some.view _ c.in-Some.ensures.seen current c.of.ensures.texts c.of.ensures.version visits in
     rw (p.1, p.2) (cut_after _ text _ _ _ _ c.in_err-is_met.field-0.0 (c.in_err-is_met.ensures.puts given.values given.has) (asked_read so_far.holds text (shows-front so_far text told)))
 
 pub returns-in_err-is_met-clause-write : goal.returns-in_err-is_met-clause-write
 returns-in_err-is_met-clause-write g c = λ text told.
     let p = err_from_is_err_and c.from_residual-in_err-is_met.result c.from_residual-in_err-is_met.ensures.1 in
     let so_far = c.loop-count.invariant.shown in
-    let asks = asks_of c.args.request (environment_of c.args.environment.now) (packages_of c.args.index.now) in
+    let asks = asks_of c.args.request (environment_of c.args.question.now.environment.now) (scope_of c.args.question.now) in
     let seen = c.in_ok-advance.ensures.passes.given in
     let current = rw c.if-not-branch.false at c.in_ok-advance.ensures.passes.current in
     let visits = rw so_far.reads at c.in_ok-advance.ensures.passes.keeps (ap Ok c.if-not-branch.false) in
-    let given = given_texts c.args.request c.of.result _ _ _ c.in-Some.view _ c.in-Some.ensures.seen current c.of.ensures.texts c.of.ensures.version visits in
+    let given = given_texts c.args.request c.of.result _ _ c.in-Some.view _ c.in-Some.ensures.seen current c.of.ensures.texts c.of.ensures.version visits in
     rw (p.1, p.2) (failed_after so_far.holds seen given.values given.are c.loop-count.count so_far.numbered text _ c.in_err-is_met.field-0.0 (puts_lines asks (c.loop-count.count + 1) seen.fields given.values _ (Err c.in_err-is_met.field-0.0) (g.W.Sink.held c.loop-count.writer) (g.W.Sink.held c.write_paragraph.new.writer) given.version (c.in_err-is_met.ensures.puts given.values given.has)) (shows-front_next so_far (passing_seen _ seen) (rw c.if-not-branch.false at c.in_ok-advance.ensures.passes.checks) text told))
 
 pub returns-in_err-is_met-clause-reads_at_most : goal.returns-in_err-is_met-clause-reads_at_most
@@ -69,11 +69,11 @@ returns-in_err-is_met-clause-reads_at_most g c = shows-taken c.loop-count.invari
 pub loop-count-preserved : goal.loop-count-preserved
 loop-count-preserved g c =
     let so_far = c.loop-count.invariant.shown in
-    let asks = asks_of c.args.request (environment_of c.args.environment.now) (packages_of c.args.index.now) in
+    let asks = asks_of c.args.request (environment_of c.args.question.now.environment.now) (scope_of c.args.question.now) in
     let seen = c.in_ok-advance.ensures.passes.given in
     let current = rw c.if-not-branch.false at c.in_ok-advance.ensures.passes.current in
     let visits = rw so_far.reads at c.in_ok-advance.ensures.passes.keeps (ap Ok c.if-not-branch.false) in
-    let given = given_texts c.args.request c.of.result _ _ _ c.in-Some.view _ c.in-Some.ensures.seen current c.of.ensures.texts c.of.ensures.version visits in
+    let given = given_texts c.args.request c.of.result _ _ c.in-Some.view _ c.in-Some.ensures.seen current c.of.ensures.texts c.of.ensures.version visits in
     let puts = puts_lines asks (c.loop-count.count + 1) seen.fields given.values _ (Ok c.in_ok-is_met.is_met) (g.W.Sink.held c.loop-count.writer) (g.W.Sink.held c.write_paragraph.new.writer) given.version (c.in_ok-is_met.ensures.puts given.values given.has) in
     let all_is : c.if-is_empty.is_empty ≡ (c.loop-count.is_empty && c.in_ok-is_met.is_met) =
     elim c.if-is_empty.branch [

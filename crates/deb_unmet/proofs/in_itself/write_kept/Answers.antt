@@ -7,7 +7,7 @@ use Rattle.deb_unmet.proofs.in_itself.write_kept.Goals.{then-is_empty, else-is_e
 
 pub loop-count-init : goal.loop-count-init
 loop-count-init g c = record {
-  lines = λ text lists keeps. none_own _ _ _ _ _ text _ lists _;
+  lines = λ before text reads. none_own _ _ _ _ _ text _ reads;
   below = omega arith;
   writes = refl;
 }
@@ -20,22 +20,22 @@ loop-count-preserved g c =
       | else-is_empty w ↦ w.is_empty-is ∙ w.if-is_empty.false ∙ ap (λ b. b && c.in_ok-has_none.has_none) (sym w.if-is_empty.false)
     ] in
     record {
-      lines = λ text lists keeps.
-          let next = next_own _ _ _ _ _ text _ lists _ (c.loop-count.invariant.lines text lists keeps) c.index-parts-count.result c.loop-count-test.true c.index-parts-count.is in
-          one_own _ _ _ _ _ text _ lists _ (c.loop-count.invariant.lines text lists keeps) next (g.W.Sink.held c.write_part.new.writer) c.in_ok-has_none.has_none c.if-is_empty.is_empty c.counted-members.result
+      lines = λ before text reads.
+          let next = next_own _ _ _ _ _ text _ reads (c.loop-count.invariant.lines before text reads) c.index-parts-count.result c.loop-count-test.true c.index-parts-count.is in
+          one_own _ _ _ _ _ text _ reads (c.loop-count.invariant.lines before text reads) next (g.W.Sink.held c.write_part.new.writer) c.in_ok-has_none.has_none c.if-is_empty.is_empty c.counted-members.result
           (c.in_ok-has_none.ensures.puts next.seen.fields next.is.values next.is.holds) all_is c.counted-members.ensures;
       below = count-within (is_of_member c.index-parts-count.result) c.loop-count.members c.loop-count.count c.counted-members.result c.counted-members.ensures c.loop-count.invariant.below;
       writes = c.in_ok-has_none.ensures.counts_failure ∙ c.loop-count.invariant.writes;
     }
 
 pub returns-in_err-has_none-clause-stopped : goal.returns-in_err-has_none-clause-stopped
-returns-in_err-has_none-clause-stopped g c = λ text lists keeps.
+returns-in_err-has_none-clause-stopped g c = λ before text reads.
     let p = err_from_is_err_and c.from_residual.result c.from_residual.ensures.1 in
-    let next = next_own _ _ _ _ _ text _ lists _ (c.loop-count.invariant.lines text lists keeps) c.index-parts-count.result c.loop-count-test.true c.index-parts-count.is in
+    let next = next_own _ _ _ _ _ text _ reads (c.loop-count.invariant.lines before text reads) c.index-parts-count.result c.loop-count-test.true c.index-parts-count.is in
     rw (p.1, p.2)
-    (stopped_own _ _ _ _ _ text _ lists _ (c.loop-count.invariant.lines text lists keeps) next (g.W.Sink.held c.write_part.new.writer) c.in_err-has_none.field-0.0
+    (stopped_own _ _ _ _ _ text _ reads (c.loop-count.invariant.lines before text reads) next (g.W.Sink.held c.write_part.new.writer) c.in_err-has_none.field-0.0
     (c.in_err-has_none.ensures.puts next.seen.fields next.is.values next.is.holds))
 
 pub returns-clause-ok : goal.returns-clause-ok
-returns-clause-ok g c = λ text lists keeps.
-    end_own _ _ _ _ _ text _ lists _ (c.loop-count.invariant.lines text lists keeps) c.loop-count-test.false
+returns-clause-ok g c = λ before text reads.
+    end_own _ _ _ _ _ text _ reads (c.loop-count.invariant.lines before text reads) c.loop-count-test.false

@@ -1,7 +1,6 @@
-use Rattle.std.proofs.Common.{rules, ◌≡◌, ◌++◌, OnOk, subst}
+use Rattle.std.proofs.Common.{◌≡◌, ◌++◌, OnOk, subst}
 use Rattle.deb_relation.specs.Environments.{environment_of}
-use Rattle.deb_index.specs.Indexes.{packages_of}
-use Rattle.deb_unmet.specs.Fields.{own_environment, own_or}
+use Rattle.deb_unmet.specs.Scopes.{scope_of}
 use Rattle.deb_unmet.proofs.ParagraphLines.{lines-of_texts}
 use Rattle.deb_unmet.proofs.lines.append_lines.Goals as goal
 
@@ -9,7 +8,5 @@ pub returns : goal.returns
 returns c = λ values has.
     let paragraph = c.args.paragraph.now in
     let environment = environment_of c.args.question.now.environment.now in
-    let packages = packages_of c.args.question.now.index.now in
-    let own : environment_of c.own_or.result.now ≡ own_or (own_environment paragraph.asked environment paragraph.texts.now.architecture.now) environment = search rules in
-    subst (λ lines. OnOk c.append_fields.result (c.append_fields.new.out.items ≡ c.args.out.now.items ++ lines))
-    (lines-of_texts paragraph values environment _ packages has own) (c.append_fields.ensures values has)
+    subst (λ lines. OnOk c.append_tried.result (c.append_tried.new.out.items ≡ c.args.out.now.items ++ lines))
+    (lines-of_texts paragraph values environment (scope_of c.args.question.now) c.is_tried.result has (c.is_tried.ensures values has)) (c.append_tried.ensures values has)

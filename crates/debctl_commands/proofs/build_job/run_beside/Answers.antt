@@ -1,8 +1,8 @@
 use Rattle.std.proofs.Common.{Err, inl, inr, refl}
 use Rattle.deb_control.specs.declared.side.Side.TheVariants.{First, Second}
 use Rattle.deb_index.specs.Indexes.{packages_of}
-use Rattle.debctl_commands.specs.UnmetJob.{at_side}
-use Rattle.debctl_commands.proofs.UnmetReports.{no_index}
+use Rattle.debctl_commands.specs.SideAnswers.{at_side}
+use Rattle.debctl_commands.proofs.SideReports.{no_index}
 use Rattle.debctl_commands.proofs.build_job.run_beside.Goals as goal
 
 pub returns-in-Ok-clause-ends : goal.returns-in-Ok-clause-ends

@@ -1,7 +1,7 @@
 use Rattle.std.proofs.Common.{Err, inl, inr, refl, rules}
 use Rattle.deb_base.specs.declared.fault.Fault.TheVariants.{Memory}
 use Rattle.debctl_commands.specs.BuildJob.{source_words_of}
-use Rattle.debctl_commands.specs.UnmetJob.{of_words}
+use Rattle.debctl_commands.specs.SideAnswers.{of_words}
 use Rattle.debctl_commands.proofs.BuildReports.{three_if_first, three_if_out, three_if_second}
 use Rattle.debctl_commands.proofs.build_job.run_buildable.Goals as goal
 

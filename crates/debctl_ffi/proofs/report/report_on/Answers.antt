@@ -1,7 +1,7 @@
 use Rattle.std.proofs.lemmas.Result.{err_from_is_err_and}
-use Rattle.deb_index.specs.Indexes.{packages_of}
 use Rattle.deb_index.specs.Questions.{question}
 use Rattle.deb_relation.specs.Views.{names_of}
+use Rattle.debctl_ffi.specs.Queries.{kept_by}
 use Rattle.debctl_ffi.proofs.Refusals.{good_words, index_refused, words_refused}
 use Rattle.debctl_ffi.proofs.Reports.{answers_on, faults_on}
 use Rattle.debctl_ffi.proofs.report.report_on.Goals as goal
@@ -21,10 +21,10 @@ returns-in_err-index-clause-fault c =
 
 pub returns-clause-ok : goal.returns-clause-ok
 returns-clause-ok c =
-    answers_on c.args.detail (question c.args.target.now (names_of c.args.profiles.now) c.args.relation.now) c.args.index.now c.in_ok-question.question (packages_of c.in_ok-index.index) _
-    c.in_ok-question.ensures.ok c.in_ok-index.ensures.ok c.report_over.ensures.ok
+    answers_on c.args.detail (question c.args.target.now (names_of c.args.profiles.now) c.args.relation.now) c.args.index.now c.in_ok-question.question (kept_by c.in_ok-index.index) _
+    c.in_ok-question.ensures.ok c.in_ok-index.ensures.ok c.in_ok-index.ensures.counts c.report_over.ensures.ok
 
 pub returns-clause-fault : goal.returns-clause-fault
 returns-clause-fault c =
-    faults_on (question c.args.target.now (names_of c.args.profiles.now) c.args.relation.now) c.args.index.now c.in_ok-question.question (packages_of c.in_ok-index.index) _
+    faults_on (question c.args.target.now (names_of c.args.profiles.now) c.args.relation.now) c.args.index.now c.in_ok-question.question (kept_by c.in_ok-index.index) _
     c.in_ok-question.ensures.ok c.in_ok-index.ensures.ok c.report_over.ensures.fault

@@ -1,15 +1,7 @@
-use Rattle.std.proofs.Common.{refl, rules}
+use Rattle.debctl_ffi.proofs.Loading.{loads}
 use Rattle.debctl_ffi.proofs.loaded.Loaded.read.Goals as goal
 
-pub returns-in-Ok : goal.returns-in-Ok
-returns-in-Ok c =
-    rw (c.yes.ensures, c.len.ensures) (record {
-      accepted = λ e. record {
-        holds = record { index = c.in-Ok.index; is = refl; lists = c.in-Ok.ensures.ok };
-        is = refl;
-        lines = c.in-Ok.ensures.lines;
-      };
-      refused = search rules;
-      no_memory = search rules;
-      status = refl;
-    })
+pub returns : goal.returns
+returns c =
+    loads c.args.text.now c.read_index.result _ _ c.read_index.ensures.ok c.read_index.ensures.lines c.read_index.ensures.counts c.read_index.ensures.fault
+    c.keep.ensures

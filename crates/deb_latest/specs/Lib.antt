@@ -1,0 +1,14 @@
+pub mod Winning
+pub mod Entries
+pub mod Requests
+pub mod Members
+pub mod Words
+pub mod BestOf
+pub mod Bests
+pub mod Reads
+pub mod Written
+pub mod Writes
+pub mod Files
+pub mod FileLaws
+pub mod Laws
+pub mod LatestCases
