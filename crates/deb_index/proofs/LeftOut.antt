@@ -177,8 +177,8 @@ counted_next names bytes entries files i d so_far new all rest own others within
     let view = listed_by bytes entries in
     let count = get_or files i d in
     let listed : length (left_in names bytes own) ≡ length (without names (take count (map view rest))) =
-        sym (length-map (left_in names bytes own) view) ∙ ap length (left_listed names bytes entries own)
-        ∙ ap (λ rs. length (without names (map view rs))) own_is ∙ ap (λ ps. length (without names ps)) (sym (take-map view count rest)) in
+    sym (length-map (left_in names bytes own) view) ∙ ap length (left_listed names bytes entries own)
+    ∙ ap (λ rs. length (without names (map view rs))) own_is ∙ ap (λ ps. length (without names ps)) (sym (take-map view count rest)) in
     let later : map view others ≡ drop count (map view rest) = ap (map view) others_is ∙ sym (drop-map view count rest) in
     ap (λ l. l ++ counts_left names (drop (i + 1) files) (map view others)) new_is
     ∙ append_assoc so_far (length (left_in names bytes own) ∷ []) (counts_left names (drop (i + 1) files) (map view others))

@@ -107,19 +107,17 @@ worked-words = (refl, refl)
 
 -- no file, and two files of which the second lists two packages
 worked-none : ListsFiles All [] [] × CountsFiles All [] []
-worked-none =
-    (
-      record { lists = []; each = tt; joined = refl },
-      record { lists = []; each = tt; counted = refl },
-    )
+worked-none = (
+  record { lists = []; each = tt; joined = refl },
+  record { lists = []; each = tt; counted = refl },
+)
 
 worked-two : (text more : List ℕ) (p q r : Listed) → ListsMembers All text (p ∷ [])
     → ListsMembers All more (q ∷ r ∷ [])
     → ListsFiles All (text ∷ more ∷ []) (p ∷ q ∷ r ∷ [])
     × CountsFiles All (text ∷ more ∷ []) (1 ∷ 2 ∷ [])
 worked-two text more p q r first second =
-    let lists = (p ∷ []) ∷ (q ∷ r ∷ []) ∷ [] in
-    (
+    let lists = (p ∷ []) ∷ (q ∷ r ∷ []) ∷ [] in (
       record { lists = lists; each = (first, (second, tt)); joined = refl },
       record { lists = lists; each = (first, (second, tt)); counted = refl },
     )

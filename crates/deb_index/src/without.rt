@@ -146,11 +146,7 @@ fn append_package(
 }
 
 /// Appends entries with the number of their package.
-fn append_numbered(
-    own: &[Entry],
-    number: u32,
-    entries: &mut Vec<Entry>,
-) -> Result<(), AllocError>
+fn append_numbered(own: &[Entry], number: u32, entries: &mut Vec<Entry>) -> Result<(), AllocError>
     ensures { OnOk result (entries.new.items
         ≡ entries.old.items ++ map (with_number number) own.now) }
 {

@@ -69,11 +69,7 @@ impl Winners {
     /// - `Fault::Memory`: a growth of memory was refused, or there are 2^64 paragraphs.
     ///   `Fault::Read`: a read failed in this call. Those of the first paragraphs were written.
     /// - `Fault::Write`: a write failed in this call. A prefix of the output was written.
-    pub fn write<R: Source, W: Sink>(
-        &mut self,
-        reader: &mut R,
-        writer: &mut W,
-    ) -> Result<(), Fault>
+    pub fn write<R: Source, W: Sink>(&mut self, reader: &mut R, writer: &mut W) -> Result<(), Fault>
         ensures ok { (numbers : List ℕ) (count : ℕ) (before : List Paragraph) (text : List ℕ)
             → HasWritten numbers count before self.old → R.left reader.old ≡ Some text
             → OnOk result (WritesFile numbers count before text self.new (W.held writer.old)

@@ -89,13 +89,17 @@ files_read : (read_row Report (codes " 1 b 2 all @12\n") 0
     ≡ Some (found PackageOfFile
     (span 1 1 ∷ span 3 1 ∷ span 5 1 ∷ span 7 3 ∷ span 12 2 ∷ replicate 5 (span 0 0), 15)))
     × (read_row Report (codes " a: 1 b 2 all is later @3\n") 0
-    ≡ Some (found PackageReasonOfFile
-    (span 1 1 ∷ span 4 1 ∷ span 6 1 ∷ span 8 1 ∷ span 10 3 ∷ span 14 8 ∷ span 24 1
-    ∷ replicate 3 (span 0 0), 26)))
+    ≡ Some (found PackageReasonOfFile (
+      span 1 1 ∷ span 4 1 ∷ span 6 1 ∷ span 8 1 ∷ span 10 3 ∷ span 14 8 ∷ span 24 1
+          ∷ replicate 3 (span 0 0),
+      26,
+    )))
     × (read_row Report (codes " a: 1 b 2 all is later\n") 0
-    ≡ Some (found PackageReason
-    (span 1 1 ∷ span 4 1 ∷ span 6 1 ∷ span 8 1 ∷ span 10 3 ∷ span 14 8
-    ∷ replicate 4 (span 0 0), 23)))
+    ≡ Some (found PackageReason (
+      span 1 1 ∷ span 4 1 ∷ span 6 1 ∷ span 8 1 ∷ span 10 3 ∷ span 14 8
+          ∷ replicate 4 (span 0 0),
+      23,
+    )))
     × (read_row Report (codes " 1 b 2 all @0\n") 0 ≡ None)
 unfolding read_cell
 files_read = (refl, refl, refl, refl)

@@ -79,7 +79,9 @@ fn named_applies(text: &[u8], target: &[u8]) -> Applies
 fn some_names_target(text: &[u8], target: &[u8]) -> bool
     ensures { result ≡ list_any (names_target target.now) (words_of text.now) }
 {
-    Folded::new(text).words().any(|name| names_target(target, name))
+    Folded::new(text)
+        .words()
+        .any(|name| names_target(target, name))
 }
 
 fn some_is_open(text: &[u8]) -> bool

@@ -15,8 +15,8 @@ use crate::found_arguments::{
     tried_in, version_text_in, word_in,
 };
 use crate::jobs::{
-    Call, Dependents, Job, LatestBy, LatestKind, LatestOf, QueryOver, RelationArgument, Task, Unmet,
-    UnmetFiles,
+    Call, Dependents, Job, LatestBy, LatestKind, LatestOf, QueryOver, RelationArgument, Task,
+    Unmet, UnmetFiles,
 };
 use clap::ArgMatches;
 use deb_base::Doc;

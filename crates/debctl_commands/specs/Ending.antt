@@ -49,6 +49,10 @@ refusals_of_status : (err : WriterOfJob (List ℕ))
     → Appends (err.held err.old) (err.held err.new) (codes "old: line 4: 15 BadNumber\n")
     → RefusesWith says_refused err
 unfolding digits
-refusals_of_status err appends =
-    (fault_at Old (Refused (record { code = BadNumber; line = 4 })),
-    record { code = BadNumber; line = 4 }, refl, appends, refl)
+refusals_of_status err appends = (
+  fault_at Old (Refused (record { code = BadNumber; line = 4 })),
+  record { code = BadNumber; line = 4 },
+  refl,
+  appends,
+  refl,
+)

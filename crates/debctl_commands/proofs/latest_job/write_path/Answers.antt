@@ -18,12 +18,15 @@ returns-in-Ok g c =
         known = opened.text;
         unchanged = opened.unchanged;
         counts_unopened = opened.counts_failure;
-        reads = ((wrote.reads_at_most, wrote.counts_read_failure), record {
-          ok = wrote.ok;
-          front = λ numbers count before text has known. front_written numbers before text (g.W.Sink.held c.args.out.now) (g.W.Sink.held c.write.new.writer) c.write.result
-              (wrote.refused numbers count before text has known) (wrote.cut_off numbers count before text has known) (wrote.write numbers count before text has known);
-          counted = wrote.counts_write_failure;
-        });
+        reads = (
+          (wrote.reads_at_most, wrote.counts_read_failure),
+          record {
+            ok = wrote.ok;
+            front = λ numbers count before text has known. front_written numbers before text (g.W.Sink.held c.args.out.now) (g.W.Sink.held c.write.new.writer) c.write.result
+                (wrote.refused numbers count before text has known) (wrote.cut_off numbers count before text has known) (wrote.write numbers count before text has known);
+            counted = wrote.counts_write_failure;
+          },
+        );
       };
     }
 

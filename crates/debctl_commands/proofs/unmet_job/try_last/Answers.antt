@@ -12,13 +12,16 @@ returns-in-Ok g c =
       known = opened.text;
       unchanged = opened.unchanged;
       counts_unopened = opened.counts_failure;
-      reads = (e.reads_at_most, record {
-        ok = e.ok;
-        refused = e.refused;
-        stopped = e.stopped;
-        unwritten = e.unwritten;
-        refusal = e.refusal;
-        reads = e.counts_read_failure;
-        writes = e.counts_write_failure;
-      });
+      reads = (
+        e.reads_at_most,
+        record {
+          ok = e.ok;
+          refused = e.refused;
+          stopped = e.stopped;
+          unwritten = e.unwritten;
+          refusal = e.refusal;
+          reads = e.counts_read_failure;
+          writes = e.counts_write_failure;
+        },
+      );
     }

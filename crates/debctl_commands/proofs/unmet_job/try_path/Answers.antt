@@ -12,13 +12,16 @@ returns-in-Ok g c =
       known = opened.text;
       unchanged = opened.unchanged;
       counts_unopened = opened.counts_failure;
-      reads = (e.reads_at_most, record {
-        ok = e.ok;
-        refused = e.refused;
-        cut_off = e.cut_off;
-        write = e.write;
-        refusal = e.refusal;
-        reads = e.counts_read_failure;
-        writes = e.counts_write_failure;
-      });
+      reads = (
+        e.reads_at_most,
+        record {
+          ok = e.ok;
+          refused = e.refused;
+          cut_off = e.cut_off;
+          write = e.write;
+          refusal = e.refusal;
+          reads = e.counts_read_failure;
+          writes = e.counts_write_failure;
+        },
+      );
     }
