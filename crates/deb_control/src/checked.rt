@@ -1,6 +1,7 @@
 //! Reads the paragraphs of a document, and checks them one after another.
 
 ghost use Rattle.std.specs.Prelude.{◌≡◌, ◌==◌, ℕ, List, [], Option, Some, None, Ok, true, IfNone, IfErr, IfOk, IfSome, IsFalse, IsSome, IsTrue};
+ghost use Rattle.deb_base.specs.Bodies.{pieces_of};
 ghost use Rattle.deb_base.specs.Codes.{number_of};
 ghost use Rattle.deb_syntax.specs.Paragraphs.{judged_last, seen_of, state_of};
 ghost use Rattle.deb_syntax.specs.Reading.{Fits};
@@ -241,6 +242,16 @@ impl Checked {
             Some(Fault::Refused(_)) => self.paragraphs.current(),
             _ => None,
         }
+    }
+
+    /// Returns the lines of the paragraph that the last `advance` found, or at which it refused the
+    /// file, as they are in the file, with the newlines between them. `None` if there is no such
+    /// paragraph.
+    pub fn text(&self) -> Option<&[u8]>
+        ensures { option_map (λ text. pieces_of text.now) result
+            ≡ option_map (λ p. p.lines) (lines_checked self.now) }
+    {
+        self.paragraphs.text()
     }
 
     /// Returns the line of a number, counted from 1, without its newline, of the paragraph that the

@@ -102,7 +102,7 @@ impl Winners {
     {
         let mut paragraphs = Paragraphs::new(self.alloc);
         for _ in 0..u64::MAX {
-            paragraphs.advance(reader)?;
+            paragraphs.pass(reader)?;
             let Some(text) = paragraphs.text() else {
                 return Ok(());
             };
