@@ -34,8 +34,8 @@ pub(crate) fn put(
         (Some (later_kept (best_under bests.old key.now) (version.now, number)))
         (best_under bests.old other)) }
 {
-    if let Some(best) = bests.get_mut(key) {
-        return replace(best, version, number);
+    if !is_later(bests.get(key), version) {
+        return Ok(());
     }
     let best = Best {
         version: Vec::from_slice(alloc, version)?,
@@ -45,15 +45,14 @@ pub(crate) fn put(
     Ok(())
 }
 
-/// Puts the paragraph with a number in the place of the best one, if its version is later.
-fn replace(best: &mut Best, version: &[u8], number: u64) -> Result<(), AllocError>
+/// Returns whether a version is later than that of the best paragraph, or there is none.
+fn is_later(best: Option<&Best>, version: &[u8]) -> bool
+    ensures { result ≡ is_later_kept (option_map best_kept (option_copied best.entry)) version.now }
 {
-    if version.cmp(best.version.as_slice()).is_gt() {
-        best.version.clear();
-        best.version.extend_from_slice(version)?;
-        best.number = number;
+    match best {
+        None => true,
+        Some(best) => version.cmp(best.version.as_slice()).is_gt(),
     }
-    Ok(())
 }
 
 /// Returns the numbers of the best paragraphs in ascending order.

@@ -63,12 +63,10 @@ impl FieldVisitor for Words {
 
     #[inline(always)]
     fn visit(&mut self, field: &RawField<'_>, value: &Value<'_>) -> Result<(), AllocError> {
-        match field.id.row() {
-            PACKAGE => keep_name(field, value, &mut self.name),
-            ARCHITECTURE => keep_architecture(field, value, &mut self.architecture),
-            VERSION => keep_version(field, value, &mut self.version),
-            _ => Ok(()),
-        }
+        keep_name(field, value, &mut self.name)?;
+        keep_architecture(field, value, &mut self.architecture)?;
+        keep_version(field, value, &mut self.version)?;
+        Ok(())
     }
 }
 

@@ -2,7 +2,7 @@ use Rattle.std.proofs.Common.{subst}
 use Rattle.std.proofs.lemmas.Result.{err_from_is_err_and}
 use Rattle.deb_base.specs.Devices.{AppendsFront}
 use Rattle.deb_latest.proofs.PassedParagraphs.{own_text, put, skipped}
-use Rattle.deb_latest.proofs.winners.Winners.pass.Goals as goal
+use Rattle.deb_latest.proofs.winners.Winners.write_next.Goals as goal
 
 pub returns-then-not-is_among-clause-puts : goal.returns-then-not-is_among-clause-puts
 returns-then-not-is_among-clause-puts g c = λ numbers count before p has lines.
