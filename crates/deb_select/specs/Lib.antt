@@ -1,0 +1,5 @@
+pub mod Conditions
+pub mod Grammar
+pub mod Kept
+pub mod Reads
+pub mod Selections

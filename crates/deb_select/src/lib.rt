@@ -1,0 +1,15 @@
+//! Selects paragraphs of control data by what they mean (Debian Policy 5.1 and 5.6).
+#![tactic(auto)]
+
+mod comparison;
+mod condition;
+mod parts;
+mod reason;
+mod selection;
+mod shown_value;
+mod test;
+
+pub use comparison::Comparison;
+pub use condition::Condition;
+pub use reason::{ConditionFault, Reason};
+pub use selection::Selection;
