@@ -109,7 +109,7 @@ operator_among [] text = None
 operator_among (row ∷ rows) text =
     cond (bytes_eq row.0 text) (Some row.1) (operator_among rows text)
 
-abbrev pub operator_in : List ℕ → Option OperatorMeaning
+unfoldable pub operator_in : List ℕ → Option OperatorMeaning
 operator_in text = operator_among operators text
 
 -- ---- what may be asked of a kind of values
@@ -157,8 +157,7 @@ has_names (Relation sort) = true
 has_names Text = false
 
 abbrev pub is_empty : List ℕ → Bool
-is_empty [] = true
-is_empty (b ∷ bs) = false
+is_empty text = length text == 0
 
 -- a word of a folded field: one byte or more, none of them white space
 abbrev pub is_word : List ℕ → Bool
@@ -230,7 +229,8 @@ SpellsTest kind parts (ContainsText part) =
     × (part ≡ parts.value)
 SpellsTest kind parts (NamesOne name) =
     (operator_in parts.operator ≡ Some NameOne) × (has_names kind ≡ true)
-    × (is_name_in kind parts.value ≡ true) × (name ≡ parts.value)
+    × (is_empty parts.value ≡ false) × (is_name_in kind parts.value ≡ true)
+    × (name ≡ parts.value)
 
 -- The text spells the condition, in a document of a kind.
 pub record SpellsCondition (doc : Doc) (text : List ℕ) (condition : ConditionMeaning) : Type 0
@@ -282,6 +282,7 @@ worked-operators : (map operator_in (codes "=" ∷ codes "!=" ∷ codes "<<" ∷
     ≡ Some (CompareBy LaterEqual) ∷ Some (CompareBy Later) ∷ Some Contain ∷ Some NameOne ∷ [])
     × (map operator_in (codes "<" ∷ codes "==" ∷ codes "name" ∷ codes "Names" ∷ codes "" ∷ [])
     ≡ None ∷ None ∷ None ∷ None ∷ None ∷ [])
+unfolding operator_in
 worked-operators = (refl, refl, refl)
 
 worked-refused : (condition_refusal Packages (codes "  ") ≡ Some (NameExpected, 2))
@@ -299,7 +300,7 @@ worked-refused : (condition_refusal Packages (codes "  ") ≡ Some (NameExpected
     × (condition_refusal Packages (codes "Size = 1k") ≡ Some (ValueBad BadNumber, 7))
     × (condition_refusal Packages (codes "Depends names libc6 dev") ≡ Some (NoName, 14))
     × (condition_refusal Packages (codes "Binary names a\n b") ≡ Some (NoName, 13))
-unfolding kind_of kind_at known_row first_fault
+unfolding operator_in kind_of kind_at known_row first_fault
 worked-refused = (refl, refl, refl, refl, refl, refl, refl, refl, refl, refl, refl, refl, refl, refl, refl)
 
 worked-unrefused : (condition_refusal Packages (codes "\tx-anything ") ≡ None)
@@ -310,5 +311,5 @@ worked-unrefused : (condition_refusal Packages (codes "\tx-anything ") ≡ None)
     × (condition_refusal Sources (codes "Architecture names linux-any") ≡ None)
     × (condition_refusal Packages (codes "Binary names hello") ≡ None)
     × (condition_refusal Packages (codes "X-Y != z") ≡ None)
-unfolding kind_of kind_at known_row first_fault
+unfolding operator_in kind_of kind_at known_row first_fault
 worked-unrefused = (refl, refl, refl, refl, refl, refl, refl, refl)

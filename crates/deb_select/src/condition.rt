@@ -100,6 +100,7 @@ fn read_test(alloc: Global, kind: Kind, parts: &Parts<'_>) -> Result<Test, Condi
 }
 
 /// Returns the operator with this text.
+#[tactic(auto, unfolding(crate::specs::Grammar::operator_in))]
 fn operator_of(text: &[u8]) -> Option<Operator>
     ensures { option_map operator_shown result ≡ operator_in text.now }
 {

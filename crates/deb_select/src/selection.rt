@@ -130,8 +130,8 @@ impl Selection {
 /// Puts one more test of a field.
 fn put(alloc: Global, tests: &mut Tests, name: Vec<u8>, test: Test) -> Result<(), AllocError>
     ensures { OnOk result ((other : List ℕ) → tests_under tests.new other
-        ≡ cond (bytes_eq name.items other) (tests_under tests.old other ++ test_shown test ∷ [])
-        (tests_under tests.old other)) }
+        ≡ cond (bytes_eq name.items other)
+        (tests_under tests.old name.items ++ test_shown test ∷ []) (tests_under tests.old other)) }
 {
     if let Some(found) = tests.get_mut(name.as_slice()) {
         found.push(test)?;
