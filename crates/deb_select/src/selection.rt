@@ -12,7 +12,7 @@ ghost use Rattle.deb_control.specs.CheckedStates.{doc_judged, passing_judged};
 ghost use Rattle.deb_control.specs.Paragraphs.{AreValuesOf};
 ghost use Rattle.deb_control.specs.ValueFiles.{ValueEntries};
 ghost use Rattle.deb_select.specs.Conditions.{ConditionMeaning, SelectionMeaning, selects};
-ghost use Rattle.deb_select.specs.Kept.{IsCondition, passes_kept, test_shown, value_kept};
+ghost use Rattle.deb_select.specs.Kept.{IsCondition, passes_kept, test_shown, value_kept, value_shown};
 ghost use Rattle.deb_select.specs.Selections.{may_ask_for, tests_lent, tests_under};
 
 use crate::condition::Condition;
@@ -98,16 +98,17 @@ impl Selection {
             → AreValuesOf (doc_judged paragraph.now) (passing_judged paragraph.now).seen values
             → IfOk result (λ selected. selected ≡ selects meaning values) }
     {
-        let mut present: u64 = 0;
+        // How many conditions ask for a field that hasn't come.
+        let mut left = self.count;
         for field in paragraph.fields() {
             if let Some(tests) = self.tests_of(&field)? {
                 if !all_pass(self.alloc, self.doc, tests, &field)? {
                     return Ok(self.negated);
                 }
-                present = present.saturating_add(tests.len() as u64);
+                left = left.saturating_sub(tests.len() as u64);
             }
         }
-        Ok(self.negated != (present == self.count))
+        Ok(self.negated != (left == 0))
     }
 
     /// Returns the tests of a field, if a condition asks for it.
@@ -176,5 +177,13 @@ fn all_pass(
         return Err(AllocError);
     };
     let shown = ShownValue::of(alloc, &value)?;
-    Ok(tests.iter().all(|test| test.passes(&shown)))
+    Ok(value_passes(&shown, tests))
+}
+
+/// Whether a value passes all tests.
+fn value_passes(value: &ShownValue<'_>, tests: &[Test]) -> bool
+    ensures { result
+        ≡ list_all (λ test. passes_kept (test_shown test) (value_shown value.now)) tests.now }
+{
+    tests.iter().all(|test| test.passes(value))
 }
