@@ -7,3 +7,6 @@ pub mod KeptTests
 pub mod FieldValues
 pub mod Judging
 pub mod Selected
+pub mod WrittenTexts
+pub mod Selecting
+pub mod Putting

@@ -3,3 +3,5 @@ pub mod Grammar
 pub mod Kept
 pub mod Reads
 pub mod Selections
+pub mod Written
+pub mod Selecting

@@ -8,6 +8,7 @@ mod reason;
 mod selection;
 mod shown_value;
 mod test;
+mod writing;
 
 pub use comparison::Comparison;
 pub use condition::Condition;

@@ -1,0 +1,107 @@
+-- What a call that writes the selected paragraphs of a file does: this project's own.
+use Rattle.std.specs.Prelude.{◌≡◌, ℕ, ◌+◌, ◌==◌, ◌||◌, Bool, true, false, not, refl, List, ◌++◌, length, Option, Some, Result, Ok, Err}
+use Rattle.std.specs.Io.KnownBytes.{Appends}
+use Rattle.deb_base.specs.Devices.{AppendsFront}
+use Rattle.deb_base.specs.declared.doc.Doc.{Doc}
+use Rattle.deb_base.specs.declared.fault.Fault.{Fault}
+use Rattle.deb_base.specs.declared.fault.Fault.TheVariants.{Refused, Memory, Read, Write}
+use Rattle.deb_base.specs.declared.refusal.Refusal.{Refusal}
+use Rattle.deb_syntax.specs.Answers.{paragraphs_within}
+use Rattle.deb_syntax.specs.Lines.{Paragraph, paragraphs_of}
+use Rattle.deb_syntax.specs.Meaning.{Entries}
+use Rattle.deb_field.specs.Values.{SpellsValue, ValueMeaning}
+use Rattle.deb_control.specs.Documents.{Accepted, Meaning, refusal_of, rules_of}
+use Rattle.deb_control.specs.Refusals.{outcome}
+use Rattle.deb_control.specs.ValueFiles.{SpellsEntries, ValueEntries}
+use Rattle.deb_select.specs.Conditions.{SelectionMeaning, selected, selects}
+use Rattle.deb_select.specs.Written.{chosen_text, one_if, written_after}
+
+-- what is asked: the kind of the file, the conditions, and whether a paragraph was written before
+pub record Request : Type 0 where
+  pub kind : Doc
+  pub selection : SelectionMeaning
+  pub begun : Bool
+
+-- The file is accepted, so many of its paragraphs are selected, and exactly these were written.
+pub record WritesSelected (asked : Request) (text : List ℕ) (count : ℕ) (old new : Option (List ℕ))
+    : Type 0 where
+  pub meaning : Meaning
+  pub accepted : Accepted asked.kind text meaning
+  pub counted : count ≡ length (selected asked.selection meaning)
+  pub written : Appends old new
+      (chosen_text asked.begun asked.selection meaning (paragraphs_of text))
+
+-- The first paragraphs of the file pass, and mean this.
+pub record AreFirst (kind : Doc) (text : List ℕ) (first : Meaning) : Type 0 where
+  pub bodies : List Entries
+  pub more : List Entries
+  pub passed : (outcome (rules_of kind) text).passed ≡ bodies ++ more
+  pub spelled : SpellsEntries (SpellsValue kind) bodies first
+
+-- Of first paragraphs that pass exactly the selected ones were written, or a prefix of those.
+pub record WritesFirst (asked : Request) (text : List ℕ) (old new : Option (List ℕ)) : Type 0 where
+  pub first : Meaning
+  pub are : AreFirst asked.kind text first
+  pub written : Appends old new
+      (chosen_text asked.begun asked.selection first (paragraphs_within text))
+
+pub record WritesPart (asked : Request) (text : List ℕ) (old new : Option (List ℕ)) : Type 0 where
+  pub first : Meaning
+  pub are : AreFirst asked.kind text first
+  pub written : AppendsFront old new
+      (chosen_text asked.begun asked.selection first (paragraphs_within text))
+
+-- The file is refused so, and of all paragraphs before the first that is refused exactly the
+-- selected ones were written.
+pub record WritesRefused (asked : Request) (text : List ℕ) (refusal : Refusal)
+    (old new : Option (List ℕ)) : Type 0 where
+  pub refused : refusal_of asked.kind text ≡ Some refusal
+  pub first : Meaning
+  pub spelled : SpellsEntries (SpellsValue asked.kind) (outcome (rules_of asked.kind) text).passed
+      first
+  pub written : Appends old new
+      (chosen_text asked.begun asked.selection first (paragraphs_within text))
+
+-- whether a paragraph was written, before the file or of it
+abbrev pub is_begun : Bool → ℕ → Bool
+is_begun begun count = begun || not (count == 0)
+
+-- how many were written after one more paragraph, if it was
+abbrev pub count_after : ℕ → Bool → ℕ
+count_after count true = count + 1
+count_after count false = count
+
+-- Ok: a paragraph of this meaning was written exactly if it is selected. Out of memory: nothing was
+-- written. A failed write: a prefix was.
+abbrev pub PutsSelected : Bool → SelectionMeaning → ValueEntries ValueMeaning → Paragraph
+    → Result Bool Fault → Option (List ℕ) → Option (List ℕ) → Type 0
+PutsSelected begun selection values p (Ok put) old new =
+    (put ≡ selects selection values) × Appends old new (written_after begun (one_if put p))
+PutsSelected begun selection values p (Err (Refused refusal)) old new = ⊥
+PutsSelected begun selection values p (Err Memory) old new = old ≡ new
+PutsSelected begun selection values p (Err Read) old new = ⊥
+PutsSelected begun selection values p (Err Write) old new =
+    AppendsFront old new (written_after begun (one_if (selects selection values) p))
+
+-- out of memory or a failed write
+abbrev pub IsWritersFault : Result Bool Fault → Type 0
+IsWritersFault (Ok put) = Unit {0}
+IsWritersFault (Err (Refused refusal)) = ⊥
+IsWritersFault (Err Memory) = Unit {0}
+IsWritersFault (Err Read) = ⊥
+IsWritersFault (Err Write) = Unit {0}
+
+-- A fact for an answer says something of that answer.
+worked-answers : (begun : Bool) (selection : SelectionMeaning) (values : ValueEntries ValueMeaning)
+    (p : Paragraph) (old new : Option (List ℕ))
+    → (PutsSelected begun selection values p (Err Memory) old new → old ≡ new)
+    × (PutsSelected begun selection values p (Err Write) old new
+    → AppendsFront old new (written_after begun (one_if (selects selection values) p)))
+    × (PutsSelected begun selection values p (Err Read) old new → ⊥)
+    × IsWritersFault (Err Write) × (IsWritersFault (Err Read) → ⊥)
+worked-answers begun selection values p old new =
+    (λ put. put, λ put. put, λ put. put, tt, λ fault. fault)
+
+worked-counts : (count_after 3 true ≡ 4) × (count_after 3 false ≡ 3) × (is_begun false 0 ≡ false)
+    × (is_begun false 2 ≡ true) × (is_begun true 0 ≡ true)
+worked-counts = (refl, refl, refl, refl, refl)

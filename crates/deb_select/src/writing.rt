@@ -1,0 +1,156 @@
+//! Writes the selected paragraphs of a file.
+
+ghost use Rattle.std.specs.Prelude.{◌≡◌, ◌<◌, ◌-◌, ◌^◌, ◌∷◌, ◌++◌, ℕ, List, [], Some, IfOk, IfErr};
+ghost use Rattle.deb_base.specs.Bodies.{file_limit, newline};
+ghost use Rattle.deb_base.specs.Devices.{read_failures_after, write_failures_after, Puts, ReadFaultIffFailed, WriteFaultIffFailed};
+ghost use Rattle.deb_base.specs.Reading.{TakesNoMore};
+ghost use Rattle.deb_field.specs.Values.{ValueMeaning};
+ghost use Rattle.deb_syntax.specs.Answers.{Seen};
+ghost use Rattle.deb_syntax.specs.Lines.{Paragraph};
+ghost use Rattle.deb_control.specs.Calls.{IfCutOff, IfRefused, IfWriteFailed};
+ghost use Rattle.deb_control.specs.CheckedStates.{checked_state, doc_read, lines_checked};
+ghost use Rattle.deb_control.specs.Checking.{IsRefusalOfDocument};
+ghost use Rattle.deb_control.specs.Paragraphs.{AreValuesOf};
+ghost use Rattle.deb_control.specs.ValueFiles.{ValueEntries};
+ghost use Rattle.deb_select.specs.Conditions.{SelectionMeaning};
+ghost use Rattle.deb_select.specs.Selecting.{count_after, is_begun, IsWritersFault, PutsSelected, Request, WritesFirst, WritesPart, WritesRefused, WritesSelected};
+ghost use Rattle.deb_select.specs.Selections.{HasConditions};
+ghost use Rattle.deb_select.specs.Written.{gap};
+
+use crate::selection::Selection;
+use deb_base::{Fault, Sink, Source, put_all};
+use deb_control::{Checked, NoVisitor};
+
+impl Selection {
+    /// Reads a file, writes each paragraph that is selected as soon as it is known, and returns
+    /// their number. A paragraph's lines are written as they are in the file, each ended by a
+    /// newline, after an empty line if a paragraph was written before: by this call, or before it
+    /// if `begun` says so.
+    ///
+    /// One paragraph at a time is held in memory. At most 4,295,032,831 bytes are read: a file of
+    /// the most bytes, and one piece. Promises about the text of the file hold for a reader whose
+    /// bytes are known.
+    ///
+    /// # Errors
+    ///
+    /// - `Fault::Refused`: the file isn't accepted. This is its first refusal, with a code from 1
+    ///   to 21 and a line of the file, counted from 1. The selected ones of the paragraphs before
+    ///   it were written.
+    /// - `Fault::Memory`: a growth of memory was refused. `Fault::Read`: a read failed in this
+    ///   call. The selected ones of the first paragraphs were written.
+    /// - `Fault::Write`: a write failed in this call. A prefix of the output was written.
+    pub fn write<R: Source, W: Sink>(
+        &self,
+        begun: bool,
+        reader: &mut R,
+        writer: &mut W,
+    ) -> Result<u64, Fault>
+        ensures ok { (asked : Request) (text : List ℕ) → asked.begun ≡ begun
+            → HasConditions asked.kind asked.selection self.now → R.left reader.old ≡ Some text
+            → IfOk result (λ count. WritesSelected asked text count (W.held writer.old)
+            (W.held writer.new)) }
+        ensures refused { (asked : Request) (text : List ℕ) → asked.begun ≡ begun
+            → HasConditions asked.kind asked.selection self.now → R.left reader.old ≡ Some text
+            → IfRefused result (λ refusal. WritesRefused asked text refusal (W.held writer.old)
+            (W.held writer.new)) }
+        ensures cut_off { (asked : Request) (text : List ℕ) → asked.begun ≡ begun
+            → HasConditions asked.kind asked.selection self.now → R.left reader.old ≡ Some text
+            → IfCutOff result (WritesFirst asked text (W.held writer.old) (W.held writer.new)) }
+        ensures write { (asked : Request) (text : List ℕ) → asked.begun ≡ begun
+            → HasConditions asked.kind asked.selection self.now → R.left reader.old ≡ Some text
+            → IfWriteFailed result (WritesPart asked text (W.held writer.old)
+            (W.held writer.new)) }
+        ensures reads_at_most { (text : List ℕ) → R.left reader.old ≡ Some text
+            → TakesNoMore text file_limit (R.left reader.new) }
+
+        // Whether or not the reader's bytes are known.
+        ensures refusal { IfRefused result IsRefusalOfDocument }
+        ensures counts_read_failure { R.failures reader.new ≡ read_failures_after
+            (R.failures reader.old) result }
+        ensures counts_write_failure { W.failures writer.new ≡ write_failures_after
+            (W.failures writer.old) result }
+        ensures fault_iff_read_failed { ReadFaultIffFailed (R.failures reader.old)
+            (R.failures reader.new) result }
+        ensures fault_iff_write_failed { WriteFaultIffFailed (W.failures writer.old)
+            (W.failures writer.new) result }
+    {
+        let mut checked = Checked::new(self.alloc, self.doc);
+        let mut visitor = NoVisitor;
+        let mut count: u64 = 0;
+        for _passed in 0..u64::MAX {
+            if !checked.advance(&mut visitor, reader)? {
+                return Ok(count);
+            }
+            let put = self.put(is_begun(begun, count), &checked, writer)?;
+            count = counted(count, put);
+        }
+        // No file has so many paragraphs.
+        unreachable!()
+    }
+
+    /// Writes the paragraph that was found last, if it is selected, and returns whether it is.
+    ///
+    /// # Errors
+    ///
+    /// Out of memory: nothing was written; or `Fault::Write`: a prefix was.
+    fn put<W: Sink>(&self, begun: bool, checked: &Checked, writer: &mut W) -> Result<bool, Fault>
+        ensures puts { (selection : SelectionMeaning) (seen : Seen)
+            (values : ValueEntries ValueMeaning) (p : Paragraph)
+            → HasConditions (doc_read checked.now) selection self.now
+            → (checked_state checked.now).current ≡ Some seen
+            → AreValuesOf (doc_read checked.now) seen values
+            → lines_checked checked.now ≡ Some p
+            → PutsSelected begun selection values p result (W.held writer.old)
+            (W.held writer.new) }
+        ensures counts_failure { W.failures writer.new ≡ write_failures_after
+            (W.failures writer.old) result }
+        ensures fault { IsWritersFault result }
+    {
+        let Some(paragraph) = checked.current() else {
+            return Ok(false);
+        };
+        let Some(text) = checked.text() else {
+            return Ok(false);
+        };
+        if !self.selects(&paragraph)? {
+            return Ok(false);
+        }
+        put_paragraph(begun, text, writer)?;
+        Ok(true)
+    }
+}
+
+/// Returns whether a paragraph was written, before this file or of it.
+fn is_begun(begun: bool, count: u64) -> bool
+    ensures { result ≡ is_begun begun count }
+{
+    begun || count != 0
+}
+
+/// Returns a count after one more paragraph, which counts if it was put.
+fn counted(count: u64, put: bool) -> u64
+    requires { count < 2 ^ 64 - 1 }
+    ensures { result ≡ count_after count put }
+{
+    if put { count + 1 } else { count }
+}
+
+/// Writes the lines of a paragraph, after an empty line if one was written before it.
+fn put_paragraph<W: Sink>(begun: bool, text: &[u8], writer: &mut W) -> Result<(), Fault>
+    ensures written { Puts (W.held writer.old) (W.held writer.new) result
+        (gap begun ++ (text.now ++ newline ∷ [])) }
+    ensures fault { IfErr result (λ fault. fault ≡ Fault.Write) }
+    ensures counts_failure { W.failures writer.new ≡ write_failures_after
+        (W.failures writer.old) result }
+{
+    put_all(writer, separator(begun))?;
+    put_all(writer, text)?;
+    put_all(writer, b"\n")
+}
+
+/// Returns what separates a paragraph from those before it: a newline, if one was written.
+fn separator(begun: bool) -> &'static [u8]
+    ensures { result.now ≡ gap begun }
+{
+    if begun { b"\n" } else { b"" }
+}
