@@ -1,5 +1,5 @@
 -- Where a search finds some bytes in a text, the text contains them, and else it doesn't.
-use Rattle.std.proofs.Common.{◌≡◌, ℕ, zero, suc, ◌+◌, ◌<◌, ◌≤◌, ◌==◌, ◌&&◌, ◌||◌, Bool, true, false, is_some, List, [], ◌∷◌, length, slice_index, Option, None, Some, inl, inr, refl, sym, ap, ◌∙◌, subst, arith, eq-eqb}
+use Rattle.std.proofs.Common.{◌≡◌, ℕ, zero, suc, ◌+◌, ◌<◌, ◌≤◌, ◌==◌, ◌||◌, Bool, true, false, is_some, List, [], ◌∷◌, length, slice_index, Option, None, Some, inl, inr, refl, sym, ap, ◌∙◌, arith, eq-eqb}
 use Rattle.std.proofs.lemmas.Bool.{and_from, and_parts, cases_Bool, eqb-true, false≢true}
 use Rattle.memchr.specs.Find.{FindsNeedle, OccursAt}
 use Rattle.deb_select.specs.Conditions.{begins_with, contains_text}

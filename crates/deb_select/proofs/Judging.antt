@@ -1,7 +1,7 @@
 -- Which conditions hold of a paragraph, as its fields come one after another.
-use Rattle.std.proofs.Common.{◌≡◌, ℕ, suc, ◌+◌, ◌-◌, ◌≤◌, ◌==◌, ◌&&◌, ◌||◌, Bool, true, false, not, cond, List, [], ◌∷◌, ◌++◌, length, map, Option, None, Some, refl, sym, ap, ◌∙◌, subst, inl, inr, arith, eq-eqb}
+use Rattle.std.proofs.Common.{◌≡◌, ℕ, suc, ◌+◌, ◌-◌, ◌≤◌, ◌==◌, ◌&&◌, ◌||◌, Bool, true, false, cond, List, [], ◌∷◌, ◌++◌, length, map, None, Some, refl, sym, ap, ◌∙◌, subst, inl, inr, arith, eq-eqb}
 use Rattle.std.proofs.lemmas.Bool.{and_from, and_parts, cases_Bool, eqb-true, false≢true}
-use Rattle.std.proofs.lemmas.List.Folds.{list_all-map, list_any-append}
+use Rattle.std.proofs.lemmas.List.Folds.{list_any-append}
 use Rattle.std.proofs.lemmas.Slice.Eq.{bytes_eq-Decides}
 use Rattle.std.specs.FinMap.{find}
 use Rattle.deb_syntax.specs.Meaning.{byte_order}
@@ -9,11 +9,11 @@ use Rattle.std.specs.List.{AllByRecursion, filter, list_all, list_any}
 use Rattle.std.specs.Str.{bytes_eq}
 use Rattle.deb_base.specs.Kinds.{kind_of}
 use Rattle.deb_base.specs.Names.{canonical_name, folded}
-use Rattle.deb_base.proofs.CanonicalNames.{canonical_name-canonical_name, canonical_name-from_folded, folded-from_canonical_name, folded-canonical_name}
+use Rattle.deb_base.proofs.CanonicalNames.{canonical_name-from_folded, folded-canonical_name}
 use Rattle.deb_base.specs.declared.doc.Doc.{Doc}
 use Rattle.deb_syntax.specs.Fields.{Field, has_name}
 use Rattle.deb_field.specs.ValueLaws.{kind_goes_by_name}
-use Rattle.deb_field.specs.Values.{SpellsKind, ValueMeaning}
+use Rattle.deb_field.specs.Values.{ValueMeaning}
 use Rattle.deb_control.specs.FieldWords.{value_under}
 use Rattle.deb_control.specs.ValueFiles.{ValueEntries}
 use Rattle.deb_select.specs.Conditions.{ConditionMeaning, holds, passes, passes_if_any}

@@ -1,10 +1,9 @@
 -- What is kept of a value passes what is kept of a test exactly if the value passes the test.
-use Rattle.std.proofs.Common.{◌≡◌, ℕ, Bool, true, false, List, [], ◌∷◌, length, refl, sym, ap, ◌∙◌, subst}
-use Rattle.std.specs.Ordering.{nat_cmp, ordering_then}
+use Rattle.std.proofs.Common.{◌≡◌, ℕ, true, List, refl, ap, ◌∙◌}
+use Rattle.std.specs.Ordering.{nat_cmp}
 use Rattle.deb_base.specs.declared.kind.Kind.{Kind}
 use Rattle.deb_base.specs.declared.kind.Kind.TheVariants.{Name, Source, Version, Architecture, ArchitectureWords, Flag, MultiArch, Number, Line, Folded, Relation, Text}
 use Rattle.deb_version.specs.Canonical.{digits_of}
-use Rattle.deb_version.specs.Keys.{byte_order}
 use Rattle.deb_version.specs.Parts.{value_of}
 use Rattle.deb_version.proofs.ByteLemmas.{all_pass-test}
 use Rattle.deb_version.proofs.CanonicalDigits.{IsDigits-digits_of, value_of-digits_of}

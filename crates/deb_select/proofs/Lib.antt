@@ -10,3 +10,9 @@ pub mod Selected
 pub mod WrittenTexts
 pub mod Selecting
 pub mod Putting
+pub mod ReadTexts
+pub mod SameValues
+pub mod SelectedLists
+pub mod WrittenFiles
+pub mod MovedParagraphs
+pub mod FittingParagraphs

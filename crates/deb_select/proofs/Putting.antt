@@ -1,5 +1,5 @@
 -- What is put of a paragraph that is selected.
-use Rattle.std.proofs.Common.{◌≡◌, ℕ, Bool, List, [], ◌∷◌, ◌++◌, Option, Some, option_map, refl, sym, ap, ◌∙◌, subst, append-nil}
+use Rattle.std.proofs.Common.{◌≡◌, ℕ, Bool, List, [], ◌∷◌, ◌++◌, Option, Some, option_map, sym, ap, ◌∙◌, subst, append-nil}
 use Rattle.deb_base.specs.Bodies.{newline, pieces_of}
 use Rattle.deb_base.specs.declared.doc.Doc.{Doc}
 use Rattle.deb_syntax.specs.Answers.{Seen}

@@ -1,5 +1,5 @@
 -- Whether a paragraph is selected, as its fields come one after another.
-use Rattle.std.proofs.Common.{◌≡◌, ℕ, ◌-◌, ◌==◌, Bool, true, false, not, List, [], ◌∷◌, ◌++◌, length, map, Option, None, Some, refl, sym, ap, ◌∙◌, subst, arith, append_assoc, append-nil}
+use Rattle.std.proofs.Common.{◌≡◌, ℕ, ◌-◌, ◌==◌, Bool, true, false, not, List, [], ◌∷◌, ◌++◌, length, map, refl, sym, ap, ◌∙◌, subst, arith, append_assoc, append-nil}
 use Rattle.std.proofs.lemmas.List.{map-append}
 use mathlib.Core.Bool.{beq}
 use Rattle.std.specs.List.{list_all}
@@ -13,12 +13,12 @@ use Rattle.deb_field.specs.Values.{SpellsKind, SpellsValue, ValueMeaning}
 use Rattle.deb_control.specs.Paragraphs.{AreValuesOf}
 use Rattle.deb_control.specs.ValueFiles.{ValueEntries}
 use Rattle.deb_control.proofs.Building.{distinct-from}
-use Rattle.deb_select.specs.Conditions.{ConditionMeaning, SelectionMeaning, holds, selects, turned}
+use Rattle.deb_select.specs.Conditions.{SelectionMeaning, holds, selects, turned}
 use Rattle.deb_select.specs.Kept.{passes_kept, test_shown, value_kept}
 use Rattle.deb_select.specs.Selections.{HasConditions, asks_for, conditions_on, tests_on, tests_under}
 use Rattle.deb_select.specs.declared.selection.Selection.{Selection}
 use Rattle.deb_select.specs.declared.test.Test.{Test}
-use Rattle.deb_select.proofs.FieldValues.{HasFieldValue, apart-before, field-value, no-value}
+use Rattle.deb_select.proofs.FieldValues.{apart-before, field-value, no-value}
 use Rattle.deb_select.proofs.Judging.{JudgedSo, all-judged, as-many, none-on, one-fails, one-judged, tests-hold}
 
 turned-false : (negated : Bool) → turned negated false ≡ negated

@@ -1,8 +1,7 @@
 -- What was written of a file while its paragraphs came one after another.
-use Rattle.std.proofs.Common.{◌≡◌, ℕ, zero, suc, ◌+◌, ◌-◌, ◌≤◌, ◌==◌, ◌&&◌, ◌||◌, Bool, true, false, not, cond, List, [], ◌∷◌, ◌++◌, drop, take, length, length-append, map, slice_get, Option, None, Some, IfNone, IfOk, Result, Ok, Err, IsTrue, nat_le, refl, sym, ap, ◌∙◌, subst, append-nil, arith}
-use Rattle.std.proofs.lemmas.Bool.{le-leb, ne_eqb}
+use Rattle.std.proofs.Common.{◌≡◌, ℕ, zero, suc, ◌+◌, ◌≤◌, ◌==◌, ◌&&◌, ◌||◌, Bool, true, false, not, cond, List, [], ◌∷◌, ◌++◌, drop, take, length, length-append, map, slice_get, Option, None, Some, IfNone, Result, Ok, Err, refl, sym, ap, ◌∙◌, subst, arith}
+use Rattle.std.proofs.lemmas.Bool.{le-leb}
 use Rattle.std.specs.Io.KnownBytes.{Appends}
-use Rattle.std.specs.List.{filter}
 use Rattle.std.proofs.KnownBytes.{Appends-nil, Appends-trans}
 use Rattle.deb_base.specs.Bodies.{file_limit}
 use Rattle.deb_base.specs.Devices.{AppendsFront}
@@ -12,35 +11,34 @@ use Rattle.deb_base.specs.declared.fault.Fault.{Fault}
 use Rattle.deb_base.specs.declared.fault.Fault.TheVariants.{Refused, Memory, Read, Write}
 use Rattle.deb_base.specs.declared.refusal.Refusal.{Refusal}
 use Rattle.deb_base.proofs.Writes.{AppendsFront-then}
-use Rattle.deb_syntax.specs.Answers.{Seen, line_beyond, next_answer, paragraphs_within, part_within, whole_lines}
+use Rattle.deb_syntax.specs.Answers.{Seen, line_beyond, next_answer, paragraphs_within, whole_lines}
 use Rattle.deb_syntax.specs.Judged.{judged_behind, judged_by}
 use Rattle.deb_syntax.specs.Lines.{Paragraph, paragraphs_of}
 use Rattle.deb_syntax.specs.Meaning.{Entries}
 use Rattle.deb_field.specs.Values.{SpellsValue, ValueMeaning}
-use Rattle.deb_control.specs.Calls.{IfCutOff, IfRefused, IfWriteFailed}
+use Rattle.deb_control.specs.Calls.{IfCutOff, IfWriteFailed}
 use Rattle.deb_control.specs.CheckedStates.{checked_moment, checked_state, doc_read}
 use Rattle.deb_control.specs.Checking.{CheckedMoment, ChecksOn, FitsChecked, passing_seen}
 use Rattle.deb_control.specs.declared.checked.Checked.{Checked}
 use Rattle.deb_base.specs.Devices.{Shown}
 use Rattle.deb_control.proofs.RefusedLines.{without_error}
-use Rattle.deb_control.specs.Documents.{Accepted, Meaning, refusal_of, rules_of}
+use Rattle.deb_control.specs.Documents.{Meaning, rules_of}
 use Rattle.deb_control.specs.GivenParagraphs.{answered_seen, bodies_seen}
 use Rattle.deb_control.specs.Pairs.{Pairwise}
 use Rattle.deb_control.specs.Paragraphs.{AreValuesOf}
 use Rattle.deb_control.specs.Refusals.{Answered, answer_behind, has_some, line_behind, next_given, passed_in}
 use Rattle.deb_control.specs.Refused.{lines_given}
-use Rattle.deb_control.specs.Rules.{Rules}
 use Rattle.deb_control.specs.ValueFiles.{SpellsEntries, ValueEntries}
 use Rattle.deb_control.proofs.FollowedParagraphs.{never_behind_all}
 use Rattle.deb_control.proofs.GivenValues.{accepted-given, pairwise-length, pairwise-push, spelled-given}
 use Rattle.deb_control.proofs.ShownSoFar.{ShownAll, ShownFront, ShownRefused, ShownSoFar, answered-length, goes}
 use Rattle.deb_select.specs.Conditions.{SelectionMeaning, selected, selects}
-use Rattle.deb_select.specs.Selecting.{AreFirst, PutsSelected, Request, WritesFirst, WritesPart, WritesRefused, WritesSelected, count_after, is_begun}
+use Rattle.deb_select.specs.Selecting.{PutsSelected, Request, WritesFirst, WritesPart, WritesRefused, WritesSelected, count_after, is_begun}
 use Rattle.deb_select.specs.Selections.{HasConditions}
 use Rattle.deb_select.specs.Written.{chosen, chosen_text, one_if, written_after}
+use Rattle.deb_select.specs.Written.{has_some as some_paragraph}
 use Rattle.deb_select.specs.declared.selection.Selection.{Selection}
 use Rattle.deb_select.proofs.WrittenTexts.{chosen-count, chosen-push, has_some-count, written_after-append, within}
-use Rattle.deb_select.proofs.WrittenTexts.{has_some as some_paragraph}
 
 -- ---- the next paragraph of a file
 

@@ -1,5 +1,5 @@
 -- A text spells one condition at most, and none where it is refused.
-use Rattle.std.proofs.Common.{◌≡◌, ℕ, ◌==◌, Bool, true, false, not, cond, List, [], ◌∷◌, length, Option, None, Some, option_map, Result, Ok, Err, suc, refl, sym, ap, ◌∙◌, subst, arith}
+use Rattle.std.proofs.Common.{◌≡◌, ℕ, Bool, true, false, not, cond, List, [], ◌∷◌, length, None, Some, option_map, Err, suc, refl, sym, ap, ◌∙◌, subst, arith}
 use Rattle.std.proofs.lemmas.Bool.{eqb-true}
 use Rattle.deb_base.specs.Names.{canonical_name, folded}
 use Rattle.deb_base.proofs.CanonicalNames.{folded-canonical_name}
@@ -8,17 +8,16 @@ use Rattle.deb_base.specs.Kinds.{kind_of}
 use Rattle.deb_base.specs.declared.doc.Doc.{Doc}
 use Rattle.deb_base.specs.declared.kind.Kind.{Kind}
 use Rattle.deb_field.specs.ValueLaws.{kind_law, kind_refusals}
-use Rattle.deb_field.specs.Values.{ValueMeaning, SpellsKind, kind_refusal}
 use Rattle.deb_select.specs.Conditions.{Compares, ConditionMeaning, ContainsText, IsPresent, NamesOne, TestMeaning}
-use Rattle.deb_select.specs.Grammar.{CompareBy, Contain, NameOne, OperatorMeaning, Parts, Refused, SpellsCondition, SpellsTest, condition_refusal, has_names, is_empty, is_name_in, may_compare, operator_in, operator_refused, parts_of, parts_refused, unless, value_refused}
-use Rattle.deb_select.specs.Kept.{IsCondition, KeptCondition, condition_shown, condition_kept, test_shown}
+use Rattle.deb_select.specs.Grammar.{CompareBy, OperatorMeaning, Parts, Refused, SpellsCondition, SpellsTest, has_names, is_empty, is_name_in, may_compare, operator_in, operator_refused, parts_of, unless, value_refused}
+use Rattle.deb_select.specs.Kept.{IsCondition, test_shown}
 use Rattle.deb_select.specs.Reads.{IsRead, ReadsCondition, ReadsTest, Tells, test_refused}
 use Rattle.deb_select.specs.declared.comparison.Comparison.{Comparison}
 use Rattle.deb_select.specs.declared.condition.Condition.{Condition}
 use Rattle.deb_select.specs.declared.reason.ConditionFault.{ConditionFault}
 use Rattle.deb_select.specs.declared.reason.ConditionFault.TheVariants.{Bad, Memory}
 use Rattle.deb_select.specs.declared.reason.Reason.{Reason}
-use Rattle.deb_select.specs.declared.reason.Reason.TheVariants.{NameExpected, NameBad, NoOrder, NoNames, NoName, ValueExpected, ValueBad}
+use Rattle.deb_select.specs.declared.reason.Reason.TheVariants.{NoOrder, NoNames, NoName, ValueExpected, ValueBad}
 
 -- ---- what spells isn't refused
 

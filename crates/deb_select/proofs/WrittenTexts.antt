@@ -1,8 +1,7 @@
 -- The text of chosen paragraphs, part by part.
-use Rattle.std.proofs.Common.{◌≡◌, ℕ, zero, suc, ◌+◌, ◌≤◌, ◌==◌, ◌||◌, Bool, true, false, not, cond, is_some, List, [], ◌∷◌, ◌++◌, length, length-append, Option, None, Some, slice_get, Result, Ok, Err, refl, sym, ap, ◌∙◌, append_assoc, append-nil, arith}
+use Rattle.std.proofs.Common.{◌≡◌, ℕ, zero, suc, ◌+◌, ◌≤◌, ◌==◌, ◌||◌, Bool, true, false, not, cond, List, [], ◌∷◌, ◌++◌, length, length-append, Option, Some, slice_get, Result, Ok, Err, refl, sym, ap, ◌∙◌, append_assoc, append-nil, arith}
 use Rattle.std.proofs.lemmas.Bool.{eqb-true, ne_eqb}
 use Rattle.std.specs.Io.KnownBytes.{Appends}
-use Rattle.std.specs.List.{filter}
 use Rattle.std.proofs.KnownBytes.{Appends-trans}
 use Rattle.deb_base.specs.Bodies.{newline, pieces_of, with_byte}
 use Rattle.deb_base.specs.Devices.{AppendsFront, Puts}
@@ -13,11 +12,7 @@ use Rattle.deb_field.specs.Values.{ValueMeaning}
 use Rattle.deb_control.specs.Documents.{Meaning}
 use Rattle.deb_control.specs.ValueFiles.{ValueEntries}
 use Rattle.deb_select.specs.Conditions.{SelectionMeaning, selected, selects}
-use Rattle.deb_select.specs.Written.{chosen, chosen_text, gap, one_if, written_after}
-
-abbrev pub has_some : List Paragraph → Bool
-has_some [] = false
-has_some (p ∷ ps) = true
+use Rattle.deb_select.specs.Written.{chosen, gap, has_some, one_if, written_after}
 
 or-false : (b : Bool) → b ≡ (b || false)
 or-false true = refl

@@ -4,7 +4,7 @@
 -- `FIELD`, `FIELD OPERATOR VALUE` with an operator of `=`, `!=`, `<<`, `<=`, `>=`, `>>` and `~`, or
 -- `FIELD names NAME`. Spaces and tabs may be at both ends of the text and around an operator; around
 -- `names` they must be.
-use Rattle.std.specs.Prelude.{◌≡◌, ℕ, ◌+◌, ◌-◌, ◌==◌, ◌&&◌, ◌||◌, Bool, true, false, not, cond, drop, take, length, List, [], ◌∷◌, map, Option, None, Some, codes, eqb, refl}
+use Rattle.std.specs.Prelude.{◌≡◌, ℕ, ◌-◌, ◌==◌, ◌&&◌, ◌||◌, Bool, true, false, not, cond, drop, take, length, List, [], ◌∷◌, map, Option, None, Some, codes, refl}
 use Rattle.std.specs.List.{list_any, prefix_len}
 use Rattle.std.specs.Option.{option_map}
 use Rattle.std.specs.Str.{bytes_eq}
@@ -20,7 +20,7 @@ use Rattle.deb_base.specs.declared.doc.Doc.TheVariants.{Any, Packages, Sources}
 use Rattle.deb_base.specs.declared.kind.Kind.{Kind}
 use Rattle.deb_base.specs.declared.kind.Kind.TheVariants.{Name, Source, Version, Architecture, ArchitectureWords, Flag, MultiArch, Number, Line, Folded, Relation, Text}
 use Rattle.deb_version.specs.Faults.{first_fault}
-use Rattle.deb_field.specs.Values.{ValueMeaning, SpellsKind, kind_refusal}
+use Rattle.deb_field.specs.Values.{SpellsKind, kind_refusal}
 use Rattle.deb_field.specs.Words.{is_white}
 use Rattle.deb_select.specs.Conditions.{Compares, ConditionMeaning, ContainsText, IsPresent, NamesOne, TestMeaning}
 use Rattle.deb_select.specs.declared.comparison.Comparison.{Comparison}

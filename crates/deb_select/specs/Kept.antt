@@ -1,7 +1,7 @@
 -- What the code keeps of conditions and of values. The key of a version is that of deb_version; all
 -- else is this project's own.
 use Rattle.std.specs.Prelude.{◌≡◌, ℕ, ◌==◌, Bool, true, false, List, [], ◌∷◌, length, map, codes, refl}
-use Rattle.std.specs.List.{filter, list_all, list_any}
+use Rattle.std.specs.List.{list_any}
 use Rattle.std.specs.Ordering.{nat_cmp, ordering_then}
 use Rattle.std.specs.Str.{bytes_eq}
 use Rattle.std.specs.declared.cmp.Ordering.{Ordering}

@@ -5,3 +5,4 @@ pub mod Reads
 pub mod Selections
 pub mod Written
 pub mod Selecting
+pub mod Laws

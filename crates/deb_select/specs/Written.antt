@@ -1,6 +1,6 @@
 -- What is written of the paragraphs that are selected: this project's own. The lines of a paragraph
 -- are those of Debian Policy 5.1.
-use Rattle.std.specs.Prelude.{◌≡◌, ℕ, Bool, true, false, cond, List, [], ◌∷◌, ◌++◌, codes, refl}
+use Rattle.std.specs.Prelude.{◌≡◌, ℕ, Bool, true, false, List, [], ◌∷◌, ◌++◌, codes, refl}
 use Rattle.deb_base.specs.Bodies.{newline, paragraph_limit}
 use Rattle.deb_version.specs.Places.{version_in}
 use Rattle.deb_syntax.specs.Lines.{Paragraph, paragraphs_of, with_newlines}
@@ -20,6 +20,11 @@ gap false = []
 abbrev pub written_after : Bool → List Paragraph → List ℕ
 written_after begun [] = []
 written_after begun (p ∷ ps) = gap begun ++ (with_newlines p.lines ++ written_after true ps)
+
+-- whether there is a paragraph
+abbrev pub has_some : List Paragraph → Bool
+has_some [] = false
+has_some (p ∷ ps) = true
 
 -- a paragraph, if it is selected
 abbrev pub one_if : Bool → Paragraph → List Paragraph

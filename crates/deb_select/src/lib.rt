@@ -3,6 +3,7 @@
 
 mod comparison;
 mod condition;
+pub mod laws;
 mod parts;
 mod reason;
 mod selection;

@@ -1,4 +1,4 @@
-use Rattle.std.proofs.Common.{◌≡◌, ◌∙◌, refl, sym, ap}
+use Rattle.std.proofs.Common.{◌∙◌, sym, ap}
 use Rattle.deb_field.specs.ValueMeanings.{value_meaning}
 use Rattle.deb_select.specs.Conditions.{Compares}
 use Rattle.deb_select.specs.Kept.{ComparesKey}

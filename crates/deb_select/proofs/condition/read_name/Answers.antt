@@ -1,4 +1,4 @@
-use Rattle.std.proofs.Common.{◌≡◌, ◌∙◌, refl, sym, ap}
+use Rattle.std.proofs.Common.{◌∙◌, refl, sym, ap}
 use Rattle.deb_select.specs.Conditions.{NamesOne}
 use Rattle.deb_select.specs.Kept.{NamesBytes}
 use Rattle.deb_select.proofs.condition.read_name.Goals as goal

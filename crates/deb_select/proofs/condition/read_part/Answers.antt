@@ -1,4 +1,4 @@
-use Rattle.std.proofs.Common.{◌≡◌, ◌∙◌, refl, sym, ap}
+use Rattle.std.proofs.Common.{◌∙◌, refl, sym, ap}
 use Rattle.deb_select.specs.Conditions.{ContainsText}
 use Rattle.deb_select.specs.Kept.{ContainsBytes}
 use Rattle.deb_select.proofs.condition.read_part.Goals as goal

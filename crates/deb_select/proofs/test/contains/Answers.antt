@@ -1,4 +1,4 @@
-use Rattle.std.proofs.Common.{◌≡◌, ◌∙◌}
+use Rattle.std.proofs.Common.{◌∙◌}
 use Rattle.deb_select.proofs.Contained.{found-contains}
 use Rattle.deb_select.proofs.test.contains.Goals as goal
 

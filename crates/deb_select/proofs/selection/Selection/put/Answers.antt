@@ -1,8 +1,8 @@
-use Rattle.std.proofs.Common.{◌≡◌, ◌∙◌, ◌∷◌, [], ◌++◌, Some, true, false, option_map, refl, sym, ap, subst}
+use Rattle.std.proofs.Common.{◌≡◌, ◌∙◌, true, sym, subst}
 use Rattle.std.proofs.lemmas.Result.{err_from_is_err_and}
 use Rattle.std.specs.Io.KnownBytes.{Appends}
 use Rattle.deb_base.specs.Devices.{AppendsFront}
-use Rattle.deb_control.specs.CheckedStates.{checked_state, doc_judged, doc_read, lines_checked, passing_judged}
+use Rattle.deb_control.specs.CheckedStates.{doc_judged, doc_read, lines_checked, passing_judged}
 use Rattle.deb_select.specs.Conditions.{selects}
 use Rattle.deb_select.specs.Written.{one_if, written_after}
 use Rattle.deb_select.proofs.Putting.{answered_view, own_text}

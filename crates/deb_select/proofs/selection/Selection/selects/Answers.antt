@@ -1,10 +1,8 @@
-use Rattle.std.proofs.Common.{◌≡◌, ◌++◌, ◌∷◌, [], List, map, rules, sym, ap, ◌∙◌, subst}
+use Rattle.std.proofs.Common.{◌≡◌, ◌++◌, ◌∷◌, [], map, rules, sym, ap, ◌∙◌, subst}
 use Rattle.std.proofs.lemmas.List.{map-append}
-use Rattle.deb_base.specs.Names.{folded}
-use Rattle.deb_syntax.specs.Fields.{Field}
 use Rattle.deb_syntax.specs.Raw.{field_of, fields_left}
 use Rattle.deb_control.specs.CheckedStates.{doc_judged, passing_judged}
-use Rattle.deb_select.specs.Selections.{tests_lent, tests_under}
+use Rattle.deb_select.specs.Selections.{tests_lent}
 use Rattle.deb_select.proofs.Judging.{JudgedSo, none-judged}
 use Rattle.deb_select.proofs.Selected.{asked-fails, asked-next, fields-all, fields-next, judged-all, unasked-next}
 use Rattle.deb_select.proofs.selection.Selection.selects.Goals as goal

@@ -1,4 +1,4 @@
-use Rattle.std.proofs.Common.{◌≡◌, sym, ◌∙◌}
+use Rattle.std.proofs.Common.{sym, ◌∙◌}
 use Rattle.deb_base.specs.Names.{folded}
 use Rattle.deb_select.proofs.Asked.{none_asked}
 use Rattle.deb_select.proofs.selection.Selection.tests_of.Goals as goal

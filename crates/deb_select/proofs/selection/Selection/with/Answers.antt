@@ -1,4 +1,4 @@
-use Rattle.std.proofs.Common.{◌≡◌, ◌+◌, ◌∷◌, [], length, length-append, sym, ap, ◌∙◌}
+use Rattle.std.proofs.Common.{◌≡◌, ◌+◌, ◌∷◌, [], length-append, sym, ap, ◌∙◌}
 use Rattle.deb_base.specs.Names.{folded}
 use Rattle.deb_base.specs.Kinds.{known_row}
 use Rattle.deb_base.proofs.CanonicalNames.{canonical_name-folded, folded-from_canonical_name}

@@ -1,4 +1,4 @@
-use Rattle.std.proofs.Common.{◌≡◌, ◌∙◌, ◌∷◌, ◌++◌, [], ℕ, List, Bool, true, cond, Ok, Some, None, refl, sym, ap, subst}
+use Rattle.std.proofs.Common.{◌≡◌, ◌∙◌, ◌∷◌, ◌++◌, [], ℕ, cond, Ok, Some, None, refl, sym, ap, subst}
 use Rattle.std.proofs.lemmas.Result.{err_from_is_err_and}
 use Rattle.deb_control.specs.Calls.{IfCutOff, IfRefused, IfWriteFailed}
 use Rattle.deb_control.specs.CheckedStates.{checked_state, doc_read, lines_checked}
@@ -9,7 +9,7 @@ use Rattle.deb_control.proofs.PassingParagraphs.{values-passing}
 use Rattle.deb_control.proofs.ShownSoFar.{ShownRefused, shows-end, shows-front, shows-front_next, shows-next, shows-none, shows-refused, shows-taken}
 use Rattle.deb_select.specs.Selecting.{PutsSelected, WritesFirst, WritesPart, WritesRefused, WritesSelected}
 use Rattle.deb_select.specs.Selections.{HasConditions}
-use Rattle.deb_select.specs.Conditions.{SelectionMeaning, selects}
+use Rattle.deb_select.specs.Conditions.{selects}
 use Rattle.deb_select.specs.Written.{one_if, written_after}
 use Rattle.deb_base.specs.Devices.{AppendsFront}
 use Rattle.deb_select.proofs.Selecting.{SelectedSo, all_selected, cut_after, failed_after, first_selected, next_found, next_selected, none_selected, part_selected, refused_selected, same_conditions, same_request}

@@ -1,0 +1,136 @@
+-- What holds of conditions, and of what they select.
+use Rattle.std.specs.Prelude.{◌≡◌, ◌≤◌, ◌↔◌, ◌&&◌, ◌||◌, ℕ, ◌+◌, Bool, true, false, not, cond, IsTrue, List, [], ◌∷◌, ◌++◌, length, None, refl}
+use Rattle.std.specs.declared.cmp.Ordering.TheVariants.{Equal}
+use Rattle.deb_base.specs.Bodies.{file_limit}
+use Rattle.deb_base.specs.Docs.{is_single}
+use Rattle.deb_base.specs.declared.doc.Doc.{Doc}
+use Rattle.deb_base.specs.declared.kind.Kind.{Kind}
+use Rattle.deb_syntax.specs.Lines.{Paragraph, paragraphs_of}
+use Rattle.deb_field.specs.Values.{SpellsKind, ValueMeaning}
+use Rattle.deb_control.specs.Documents.{Accepted, Meaning, canonical_text}
+use Rattle.deb_control.specs.ValueFiles.{ValueEntries}
+use Rattle.deb_select.specs.Conditions.{ConditionMeaning, SelectionMeaning, compare_values, selected, selects}
+use Rattle.deb_select.specs.Grammar.{SpellsCondition, condition_refusal}
+use Rattle.deb_select.specs.Written.{chosen, chosen_text, has_some}
+
+-- ---- conditions
+
+-- A text that isn't refused spells a condition, one that is refused spells none, and none spells
+-- two.
+pub record ReadsExactly (doc : Doc) (text : List ℕ) : Type 0 where
+  pub spelled : condition_refusal doc text ≡ None
+      → (condition : ConditionMeaning) × SpellsCondition doc text condition
+  pub unrefused : (condition : ConditionMeaning) → SpellsCondition doc text condition
+      → condition_refusal doc text ≡ None
+  pub one : (first second : ConditionMeaning) → SpellsCondition doc text first
+      → SpellsCondition doc text second → first ≡ second
+
+abbrev pub TextsAreRead : Type 0
+TextsAreRead = (doc : Doc) (text : List ℕ) → ReadsExactly doc text
+
+-- Two values of a kind compare as equal exactly if they mean the same.
+abbrev pub EqualityIsOfMeanings : Type 0
+EqualityIsOfMeanings =
+    (kind : Kind) (body other : List ℕ) (first second : ValueMeaning)
+    → SpellsKind kind body first → SpellsKind kind other second
+    → (compare_values first second ≡ Equal) ↔ (first ≡ second)
+
+-- ---- what is selected
+
+-- the numbers of the paragraphs that are selected, where so many came before; and of a whole file,
+-- counted from 1
+abbrev pub numbers_from : SelectionMeaning → ℕ → Meaning → List ℕ
+numbers_from selection n [] = []
+numbers_from selection n (values ∷ meaning) =
+    cond (selects selection values) ((n + 1) ∷ numbers_from selection (n + 1) meaning)
+    (numbers_from selection (n + 1) meaning)
+
+abbrev pub selected_numbers : SelectionMeaning → Meaning → List ℕ
+selected_numbers selection meaning = numbers_from selection 0 meaning
+
+-- Of files that mean the same the same paragraphs are selected.
+abbrev pub SameFilesSelectTheSame : Type 0
+SameFilesSelectTheSame =
+    (kind : Doc) (selection : SelectionMeaning) (first second : List ℕ) (meaning other : Meaning)
+    → Accepted kind first meaning → Accepted kind second other
+    → canonical_text meaning ≡ canonical_text other
+    → selected_numbers selection meaning ≡ selected_numbers selection other
+
+-- So of a file and of its canonical text.
+abbrev pub CanonicalTextSelectsTheSame : Type 0
+CanonicalTextSelectsTheSame =
+    (kind : Doc) (selection : SelectionMeaning) (text : List ℕ) (meaning other : Meaning)
+    → Accepted kind text meaning → Accepted kind (canonical_text meaning) other
+    → selected_numbers selection other ≡ selected_numbers selection meaning
+
+-- conditions, and the same negated
+abbrev pub plain : List ConditionMeaning → SelectionMeaning
+plain conditions = record { conditions = conditions; negated = false }
+
+abbrev pub negated : List ConditionMeaning → SelectionMeaning
+negated conditions = record { conditions = conditions; negated = true }
+
+-- Each paragraph is selected either by conditions or by the same negated.
+pub record Partitions (conditions : List ConditionMeaning) : Type 0 where
+  pub each : (values : ValueEntries ValueMeaning)
+      → selects (negated conditions) values ≡ not (selects (plain conditions) values)
+  pub counted : (meaning : Meaning)
+      → length (selected (plain conditions) meaning)
+      + length (selected (negated conditions) meaning)
+      ≡ length meaning
+
+abbrev pub NegationPartitions : Type 0
+NegationPartitions = (conditions : List ConditionMeaning) → Partitions conditions
+
+-- Conditions that are joined select what both select.
+pub record Intersects (first second : List ConditionMeaning) : Type 0 where
+  pub each : (values : ValueEntries ValueMeaning)
+      → selects (plain (first ++ second)) values
+      ≡ (selects (plain first) values && selects (plain second) values)
+  pub all : (meaning : Meaning)
+      → selected (plain (first ++ second)) meaning
+      ≡ selected (plain second) (selected (plain first) meaning)
+
+abbrev pub JoinedConditionsIntersect : Type 0
+JoinedConditionsIntersect = (first second : List ConditionMeaning) → Intersects first second
+
+-- Selecting again changes nothing.
+abbrev pub SelectedAreSelected : Type 0
+SelectedAreSelected =
+    (selection : SelectionMeaning) (meaning : Meaning)
+    → selected selection (selected selection meaning) ≡ selected selection meaning
+
+-- ---- what is written
+
+-- What is written of an accepted file is accepted, unless it is too long, and means what is
+-- selected. A kind of document that has one paragraph needs that one.
+abbrev pub SelectedTextIsAccepted : Type 0
+SelectedTextIsAccepted =
+    (kind : Doc) (selection : SelectionMeaning) (text : List ℕ) (meaning : Meaning)
+    → Accepted kind text meaning
+    → (IsTrue (is_single kind) → length (selected selection meaning) ≡ 1)
+    → length (chosen_text false selection meaning (paragraphs_of text)) ≤ file_limit
+    → Accepted kind (chosen_text false selection meaning (paragraphs_of text))
+    (selected selection meaning)
+
+-- Selecting from it again changes no byte.
+abbrev pub SelectedTextIsItsOwn : Type 0
+SelectedTextIsItsOwn =
+    (kind : Doc) (selection : SelectionMeaning) (text : List ℕ) (meaning : Meaning)
+    → Accepted kind text meaning
+    → chosen_text false selection (selected selection meaning)
+    (paragraphs_of (chosen_text false selection meaning (paragraphs_of text)))
+    ≡ chosen_text false selection meaning (paragraphs_of text)
+
+-- The text of two files is that of the first, and that of the second after it.
+abbrev pub FilesFollow : Type 0
+FilesFollow =
+    (selection : SelectionMeaning) (begun : Bool) (first second : Meaning)
+    (paragraphs others : List Paragraph) → length first ≡ length paragraphs
+    → chosen_text begun selection (first ++ second) (paragraphs ++ others)
+    ≡ chosen_text begun selection first paragraphs
+    ++ chosen_text (begun || has_some (chosen selection first paragraphs)) selection second others
+
+worked-numbers : (values others : ValueEntries ValueMeaning)
+    → selected_numbers (plain []) (values ∷ others ∷ []) ≡ 1 ∷ 2 ∷ []
+worked-numbers values others = refl

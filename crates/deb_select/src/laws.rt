@@ -1,0 +1,54 @@
+//! Laws of conditions and of what they select. Each function does nothing; its contract is the law.
+
+ghost use Rattle.deb_select.specs.Laws.{CanonicalTextSelectsTheSame, EqualityIsOfMeanings, FilesFollow, JoinedConditionsIntersect, NegationPartitions, SameFilesSelectTheSame, SelectedAreSelected, SelectedTextIsAccepted, SelectedTextIsItsOwn, TextsAreRead};
+
+/// A text that isn't refused spells one condition, and one that is refused spells none.
+pub fn texts_are_read()
+    ensures { TextsAreRead }
+{}
+
+/// Two values of a kind compare as equal exactly if they mean the same.
+pub fn equality_is_of_meanings()
+    ensures { EqualityIsOfMeanings }
+{}
+
+/// Of files that mean the same the same paragraphs are selected.
+pub fn same_files_select_the_same()
+    ensures { SameFilesSelectTheSame }
+{}
+
+/// Of a file and of its canonical text the same paragraphs are selected.
+pub fn canonical_text_selects_the_same()
+    ensures { CanonicalTextSelectsTheSame }
+{}
+
+/// Each paragraph is selected either by conditions or by the same negated.
+pub fn negation_partitions()
+    ensures { NegationPartitions }
+{}
+
+/// Conditions that are joined select what both select.
+pub fn joined_conditions_intersect()
+    ensures { JoinedConditionsIntersect }
+{}
+
+/// Selecting again changes nothing.
+pub fn selected_are_selected()
+    ensures { SelectedAreSelected }
+{}
+
+/// What is written of an accepted file is accepted, unless it is too long, and means what is
+/// selected.
+pub fn selected_text_is_accepted()
+    ensures { SelectedTextIsAccepted }
+{}
+
+/// Selecting from what was written changes no byte.
+pub fn selected_text_is_its_own()
+    ensures { SelectedTextIsItsOwn }
+{}
+
+/// What is written of two files is what is written of the first, and what of the second after it.
+pub fn files_follow()
+    ensures { FilesFollow }
+{}
