@@ -72,7 +72,7 @@ found_lines doc text answered entries seen last next answer is =
       found.p,
       found.at,
       is ∙ ap (λ t. cond t None (judged_behind text (length answered))) found.may
-      ∙ ap (λ a. judged_by a (slice_get (paragraphs_within text) (length answered))) answer ∙ found.at,
+          ∙ ap (λ a. judged_by a (slice_get (paragraphs_within text) (length answered))) answer ∙ found.at,
     )
 
 -- the same of the next paragraph that a reader gives

@@ -6,3 +6,6 @@ pub mod Selections
 pub mod Written
 pub mod Selecting
 pub mod Laws
+pub mod Fields
+pub mod Tables
+pub mod JsonLines

@@ -227,12 +227,8 @@ fn is_name_in(kind: Kind, text: &[u8]) -> bool
         Kind::Name | Kind::Source | Kind::Relation(_) => is_package_name(text),
         Kind::Architecture | Kind::ArchitectureWords => is_arch_name(text),
         Kind::Folded => is_word(text),
-        Kind::Version
-        | Kind::Flag
-        | Kind::MultiArch
-        | Kind::Number
-        | Kind::Line
-        | Kind::Text => false,
+        Kind::Version | Kind::Flag | Kind::MultiArch | Kind::Number | Kind::Line | Kind::Text =>
+            false,
     }
 }
 

@@ -58,9 +58,7 @@ fn name_len(text: &[u8]) -> usize
     ensures value { result ≡ prefix_len is_name_byte text.now }
     ensures bound { result ≤ length text.now }
 {
-    text.iter()
-        .take_while(|byte| is_name_byte(**byte))
-        .count()
+    text.iter().take_while(|byte| is_name_byte(**byte)).count()
 }
 
 /// How many bytes of an operator the text begins with: bytes of operators, or a word.

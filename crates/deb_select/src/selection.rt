@@ -72,8 +72,10 @@ impl Selection {
     pub fn with(self, condition: Condition) -> Result<Selection, AllocError>
         ensures { (doc : DocKind) (meaning : SelectionMeaning) (added : ConditionMeaning)
             → HasConditions doc meaning self → IsCondition doc added condition
-            → IfOk result (HasConditions doc (record meaning { conditions
-            = meaning.conditions ++ added ∷ [] })) }
+            → IfOk result (HasConditions doc (record meaning {
+              conditions
+                  = meaning.conditions ++ added ∷ [];
+            })) }
     {
         let mut selection = self;
         let Condition { name, test } = condition;
