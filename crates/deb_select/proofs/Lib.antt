@@ -3,6 +3,7 @@ pub mod Spelled
 pub mod TestMaps
 pub mod Asked
 pub mod Collected
+pub mod FieldLines
 pub mod KeptTests
 pub mod FieldValues
 pub mod Judging

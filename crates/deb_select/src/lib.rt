@@ -3,6 +3,7 @@
 
 mod comparison;
 mod condition;
+mod fields;
 pub mod laws;
 mod parts;
 mod reason;
