@@ -4,6 +4,7 @@ pub mod TestMaps
 pub mod Asked
 pub mod Collected
 pub mod FieldLines
+pub mod TableCells
 pub mod KeptTests
 pub mod FieldValues
 pub mod Judging

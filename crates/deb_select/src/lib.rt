@@ -1,6 +1,7 @@
 //! Selects paragraphs of control data by what they mean (Debian Policy 5.1 and 5.6).
 #![tactic(auto)]
 
+mod cells;
 mod comparison;
 mod condition;
 mod fields;

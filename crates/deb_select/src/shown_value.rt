@@ -84,7 +84,7 @@ fn leading_zeros(digits: &[u8]) -> usize
 }
 
 /// Returns the canonical text of a value.
-fn text_of(alloc: Global, value: &Value<'_>) -> Result<Vec<u8>, AllocError>
+pub(crate) fn text_of(alloc: Global, value: &Value<'_>) -> Result<Vec<u8>, AllocError>
     ensures { IfOk result (λ text. text.items ≡ value_text (value_meaning value.now)) }
 {
     let mut text = Vec::new(alloc);

@@ -1,0 +1,113 @@
+//! The lines of a table.
+
+ghost use Rattle.std.specs.Prelude.{◌≡◌, ◌<◌, ◌++◌, ◌∷◌, [], IfOk, OnOk, Option, Some, map};
+ghost use Rattle.std.specs.List.{flat_map};
+ghost use Rattle.deb_base.specs.Bodies.{newline};
+ghost use Rattle.deb_control.specs.CheckedStates.{doc_judged, passing_judged};
+ghost use Rattle.deb_control.specs.FieldWords.{value_under};
+ghost use Rattle.deb_control.specs.Paragraphs.{AreValuesOf};
+ghost use Rattle.deb_control.specs.ValueFiles.{ValueEntries};
+ghost use Rattle.deb_field.specs.Values.{ValueMeaning};
+ghost use Rattle.deb_select.specs.Tables.{cell, cell_byte, hex_digit, more_cells, row};
+
+use crate::shown_value::text_of;
+use deb_control::CheckedView;
+use std::alloc::{AllocError, Global};
+
+/// Appends the line of a table with these fields of a paragraph.
+///
+/// # Errors
+///
+/// Out of memory.
+pub(crate) fn push_row(
+    alloc: Global,
+    out: &mut Vec<u8>,
+    names: &[Vec<u8>],
+    paragraph: &CheckedView<'_>,
+) -> Result<(), AllocError>
+    ensures { (values : ValueEntries ValueMeaning)
+        → AreValuesOf (doc_judged paragraph.now) (passing_judged paragraph.now).seen values
+        → OnOk result (out.new.items ≡ out.old.items
+        ++ (row (map (λ name. name.items) names.now) values ++ newline ∷ [])) }
+{
+    if let [first, more @ ..] = names {
+        push_cell(alloc, out, first.as_slice(), paragraph)?;
+        push_more(alloc, out, more, paragraph)?;
+    }
+    out.push(b'\n')?;
+    Ok(())
+}
+
+/// Appends the cells behind the first, each after a tab.
+fn push_more(
+    alloc: Global,
+    out: &mut Vec<u8>,
+    names: &[Vec<u8>],
+    paragraph: &CheckedView<'_>,
+) -> Result<(), AllocError>
+    ensures { (values : ValueEntries ValueMeaning)
+        → AreValuesOf (doc_judged paragraph.now) (passing_judged paragraph.now).seen values
+        → OnOk result (out.new.items ≡ out.old.items
+        ++ more_cells (map (λ name. name.items) names.now) values) }
+{
+    for name in names {
+        out.push(b'\t')?;
+        push_cell(alloc, out, name.as_slice(), paragraph)?;
+    }
+    Ok(())
+}
+
+/// Appends the cell of the field with a name: nothing if it is absent.
+fn push_cell(
+    alloc: Global,
+    out: &mut Vec<u8>,
+    name: &[u8],
+    paragraph: &CheckedView<'_>,
+) -> Result<(), AllocError>
+    ensures { (values : ValueEntries ValueMeaning)
+        → AreValuesOf (doc_judged paragraph.now) (passing_judged paragraph.now).seen values
+        → OnOk result (out.new.items ≡ out.old.items ++ cell (value_under name.now values)) }
+{
+    let Some(value) = paragraph.value(alloc, name)? else {
+        return Ok(());
+    };
+    let text = text_of(alloc, &value)?;
+    push_text(out, text.as_slice())
+}
+
+/// Appends a text of which no byte ends a cell.
+fn push_text(out: &mut Vec<u8>, text: &[u8]) -> Result<(), AllocError>
+    ensures { OnOk result (out.new.items ≡ out.old.items ++ flat_map cell_byte text.now) }
+{
+    for byte in text {
+        push_byte(out, *byte)?;
+    }
+    Ok(())
+}
+
+/// Appends a byte as it is in a cell.
+fn push_byte(out: &mut Vec<u8>, byte: u8) -> Result<(), AllocError>
+    ensures { OnOk result (out.new.items ≡ out.old.items ++ cell_byte byte) }
+{
+    match byte {
+        b'\t' => out.extend_from_slice(b"\\t")?,
+        b'\n' => out.extend_from_slice(b"\\n")?,
+        b'\\' => out.extend_from_slice(b"\\\\")?,
+        0..=31 | 127 => out.extend_from_slice(&[
+            b'\\',
+            b'x',
+            hex_digit(byte / 16),
+            hex_digit(byte % 16),
+        ])?,
+        _ => out.push(byte)?,
+    }
+    Ok(())
+}
+
+/// The hexadecimal digit of a number.
+fn hex_digit(n: u8) -> u8
+    requires { n < 16 }
+    ensures { result ≡ hex_digit n }
+{
+    if n < 10 { b'0' + n } else { b'a' + (n - 10) }
+}
