@@ -10,6 +10,7 @@ pub mod FieldValues
 pub mod Judging
 pub mod Selected
 pub mod WrittenTexts
+pub mod Outputs
 pub mod Selecting
 pub mod Putting
 pub mod ReadTexts

@@ -1,5 +1,5 @@
 -- What was written of a file while its paragraphs came one after another.
-use Rattle.std.proofs.Common.{◌≡◌, ℕ, zero, suc, ◌+◌, ◌≤◌, ◌==◌, ◌&&◌, ◌||◌, Bool, true, false, not, cond, List, [], ◌∷◌, ◌++◌, drop, take, length, length-append, map, slice_get, Option, None, Some, IfNone, Result, Ok, Err, refl, sym, ap, ◌∙◌, subst, arith}
+use Rattle.std.proofs.Common.{◌≡◌, ℕ, zero, suc, ◌+◌, ◌≤◌, ◌&&◌, Bool, true, false, cond, List, [], ◌∷◌, ◌++◌, drop, take, length, length-append, map, slice_get, Option, None, Some, IfNone, Result, Ok, Err, refl, sym, ap, ◌∙◌, subst, arith}
 use Rattle.std.proofs.lemmas.Bool.{le-leb}
 use Rattle.std.specs.Io.KnownBytes.{Appends}
 use Rattle.std.proofs.KnownBytes.{Appends-nil, Appends-trans}
@@ -33,12 +33,12 @@ use Rattle.deb_control.proofs.FollowedParagraphs.{never_behind_all}
 use Rattle.deb_control.proofs.GivenValues.{accepted-given, pairwise-length, pairwise-push, spelled-given}
 use Rattle.deb_control.proofs.ShownSoFar.{ShownAll, ShownFront, ShownRefused, ShownSoFar, answered-length, goes}
 use Rattle.deb_select.specs.Conditions.{SelectionMeaning, selected, selects}
-use Rattle.deb_select.specs.Selecting.{PutsSelected, Request, WritesFirst, WritesPart, WritesRefused, WritesSelected, count_after, is_begun}
+use Rattle.deb_select.specs.Selecting.{PutsSelected, Request, WritesFirst, WritesPart, WritesRefused, WritesSelected, count_after}
 use Rattle.deb_select.specs.Selections.{HasConditions}
-use Rattle.deb_select.specs.Written.{chosen, chosen_text, one_if, written_after}
-use Rattle.deb_select.specs.Written.{has_some as some_paragraph}
+use Rattle.deb_select.specs.Forms.{FormMeaning, begins_if, begun_after, output, piece_if}
 use Rattle.deb_select.specs.declared.selection.Selection.{Selection}
-use Rattle.deb_select.proofs.WrittenTexts.{chosen-count, chosen-push, has_some-count, written_after-append, within}
+use Rattle.deb_select.proofs.Outputs.{begun-push, output-push}
+use Rattle.deb_select.proofs.WrittenTexts.{within}
 
 -- ---- the next paragraph of a file
 
@@ -95,21 +95,23 @@ short_within text short = ap (λ t. paragraphs_of (cond t text (whole_lines (tak
 
 -- ---- what was written so far
 
-pub record SelectedSo (selection : Selection) (begun : Bool) (source : Option (List ℕ)) (old now : Option (List ℕ)) (count : ℕ) (given : List Seen) : Type 0 where
+pub record SelectedSo (selection : Selection) (form : FormMeaning) (begun : Bool) (source : Option (List ℕ)) (old now : Option (List ℕ)) (count : ℕ) (next : Bool) (given : List Seen) : Type 0 where
   pub meaning : Meaning
   pub are : Pairwise (AreValuesOf selection.doc) given meaning
   pub few : count ≤ length given
   pub enough : (text : List ℕ) → source ≡ Some text → length meaning ≤ length (paragraphs_within text)
   pub counted : (asked : SelectionMeaning) (text : List ℕ) → HasConditions selection.doc asked selection → source ≡ Some text → count ≡ length (selected asked meaning)
-  pub written : (asked : SelectionMeaning) (text : List ℕ) → HasConditions selection.doc asked selection → source ≡ Some text → Appends old now (chosen_text begun asked meaning (paragraphs_within text))
+  pub started : (asked : SelectionMeaning) (text : List ℕ) → HasConditions selection.doc asked selection → source ≡ Some text → next ≡ begun_after form begun asked meaning (paragraphs_within text)
+  pub written : (asked : SelectionMeaning) (text : List ℕ) → HasConditions selection.doc asked selection → source ≡ Some text → Appends old now (output form begun asked meaning (paragraphs_within text))
 
-pub none_selected : (selection : Selection) (begun : Bool) (source old : Option (List ℕ)) → SelectedSo selection begun source old old 0 []
-none_selected selection begun source old = record {
+pub none_selected : (selection : Selection) (form : FormMeaning) (begun : Bool) (source old : Option (List ℕ)) → SelectedSo selection form begun source old old 0 begun []
+none_selected selection form begun source old = record {
   meaning = [];
   are = tt;
   few = omega arith;
   enough = λ text told. omega arith;
   counted = λ asked text has told. refl;
+  started = λ asked text has told. refl;
   written = λ asked text has told. Appends-nil old;
 }
 
@@ -133,27 +135,23 @@ more-few : (count n : ℕ) (put : Bool) → count ≤ n → count_after count pu
 more-few count n true few = omega arith
 more-few count n false few = omega arith
 
-module _ {selection : Selection} {begun : Bool} {source old now : Option (List ℕ)} {count : ℕ} {given : List Seen} (so_far : SelectedSo selection begun source old now count given) where
-  begun-is : (asked : SelectionMeaning) (text : List ℕ) → HasConditions selection.doc asked selection → source ≡ Some text → (begun || some_paragraph (chosen asked so_far.meaning (paragraphs_within text))) ≡ is_begun begun count
-  begun-is asked text has told =
-      ap (λ t. begun || t)
-      (has_some-count (chosen asked so_far.meaning (paragraphs_within text))
-      ∙ ap (λ n. not (n == 0)) (chosen-count asked so_far.meaning (paragraphs_within text) (so_far.enough text told) ∙ sym (so_far.counted asked text has told)))
+module _ {selection : Selection} {form : FormMeaning} {begun : Bool} {source old now : Option (List ℕ)} {count : ℕ} {next : Bool} {given : List Seen} (so_far : SelectedSo selection form begun source old now count next given) where
+  at-next : (text : List ℕ) (p : Paragraph) → slice_get (paragraphs_within text) (length given) ≡ Some p → slice_get (paragraphs_within text) (length so_far.meaning) ≡ Some p
+  at-next text p at = ap (slice_get (paragraphs_within text)) (pairwise-length (AreValuesOf selection.doc) given so_far.meaning so_far.are) ∙ at
 
   -- the text after one more paragraph
   text-next : (asked : SelectionMeaning) (text : List ℕ) (values : ValueEntries ValueMeaning) (p : Paragraph) → HasConditions selection.doc asked selection → source ≡ Some text → slice_get (paragraphs_within text) (length given) ≡ Some p
-      → chosen_text begun asked (so_far.meaning ++ values ∷ []) (paragraphs_within text) ≡ chosen_text begun asked so_far.meaning (paragraphs_within text) ++ written_after (is_begun begun count) (one_if (selects asked values) p)
+      → output form begun asked (so_far.meaning ++ values ∷ []) (paragraphs_within text) ≡ output form begun asked so_far.meaning (paragraphs_within text) ++ piece_if form next asked values p
   text-next asked text values p has told at =
-      ap (written_after begun) (chosen-push asked so_far.meaning values (paragraphs_within text) p (ap (slice_get (paragraphs_within text)) (pairwise-length (AreValuesOf selection.doc) given so_far.meaning so_far.are) ∙ at))
-      ∙ written_after-append begun (chosen asked so_far.meaning (paragraphs_within text)) (one_if (selects asked values) p)
-      ∙ ap (λ t. chosen_text begun asked so_far.meaning (paragraphs_within text) ++ written_after t (one_if (selects asked values) p)) (begun-is asked text has told)
+      output-push form begun asked so_far.meaning values (paragraphs_within text) p (at-next text p at)
+      ∙ ap (λ t. output form begun asked so_far.meaning (paragraphs_within text) ++ piece_if form t asked values p) (sym (so_far.started asked text has told))
 
   module _ (seen : Seen) (values : ValueEntries ValueMeaning) (is : AreValuesOf selection.doc seen values) where
     -- a paragraph that is put, or isn't
-    pub next_selected : (put : Bool) (new : Option (List ℕ))
-        → ((text : List ℕ) → source ≡ Some text → (p : Paragraph) × (slice_get (paragraphs_within text) (length given) ≡ Some p) × ((asked : SelectionMeaning) → HasConditions selection.doc asked selection → PutsSelected (is_begun begun count) asked values p (Ok put) now new))
-        → SelectedSo selection begun source old new (count_after count put) (given ++ seen ∷ [])
-    next_selected put new puts = record {
+    pub next_selected : (put later : Bool) (new : Option (List ℕ))
+        → ((text : List ℕ) → source ≡ Some text → (p : Paragraph) × (slice_get (paragraphs_within text) (length given) ≡ Some p) × ((asked : SelectionMeaning) → HasConditions selection.doc asked selection → PutsSelected form next asked values p (Ok (put, later)) now new))
+        → SelectedSo selection form begun source old new (count_after count put) later (given ++ seen ∷ [])
+    next_selected put later new puts = record {
       meaning = so_far.meaning ++ values ∷ [];
       are = pairwise-push (AreValuesOf selection.doc) given so_far.meaning seen values so_far.are is;
       few = subst (λ n. count_after count put ≤ n) (sym (length-append given (seen ∷ []))) (more-few count (length given) put so_far.few);
@@ -163,17 +161,21 @@ module _ {selection : Selection} {begun : Bool} {source old now : Option (List �
       counted = λ asked text has told.
           let found = puts text told in
           ap (λ n. count_after n put) (so_far.counted asked text has told) ∙ sym (selected-push asked so_far.meaning values put (found.2 asked has).0);
+      started = λ asked text has told.
+          let found = puts text told in
+          (found.2 asked has).1
+          ∙ ap (λ t. begins_if form t asked values found.0) (so_far.started asked text has told)
+          ∙ sym (begun-push form begun asked so_far.meaning values (paragraphs_within text) found.0 (at-next text found.0 found.1));
       written = λ asked text has told.
           let found = puts text told in
-          let put_so = found.2 asked has in
-          subst (Appends old new) (ap (λ t. chosen_text begun asked so_far.meaning (paragraphs_within text) ++ written_after (is_begun begun count) (one_if t found.0)) put_so.0 ∙ sym (text-next asked text values found.0 has told found.1))
-          (Appends-trans old now new _ _ (so_far.written asked text has told) put_so.1);
+          subst (Appends old new) (sym (text-next asked text values found.0 has told found.1))
+          (Appends-trans old now new _ _ (so_far.written asked text has told) (found.2 asked has).2);
     }
 
     -- a write that failed
     pub part_selected : (asked : SelectionMeaning) (text : List ℕ) (new : Option (List ℕ)) (p : Paragraph) → HasConditions selection.doc asked selection → source ≡ Some text → slice_get (paragraphs_within text) (length given) ≡ Some p
-        → ShownFront selection.doc text (given ++ seen ∷ []) → AppendsFront now new (written_after (is_begun begun count) (one_if (selects asked values) p))
-        → WritesPart (record { kind = selection.doc; selection = asked; begun = begun }) text old new
+        → ShownFront selection.doc text (given ++ seen ∷ []) → AppendsFront now new (piece_if form next asked values p)
+        → WritesPart (record { kind = selection.doc; selection = asked; form = form; begun = begun }) text old new
     part_selected asked text new p has told at front appends = record {
       first = so_far.meaning ++ values ∷ [];
       are =
@@ -188,7 +190,7 @@ module _ {selection : Selection} {begun : Bool} {source old now : Option (List �
 
   module _ (asked : SelectionMeaning) (text : List ℕ) (has : HasConditions selection.doc asked selection) (told : source ≡ Some text) where
     abbrev asks : Request
-    asks = record { kind = selection.doc; selection = asked; begun = begun }
+    asks = record { kind = selection.doc; selection = asked; form = form; begun = begun }
 
     -- all of them
     pub all_selected : ShownAll selection.doc text given → WritesSelected asks text count old now
@@ -198,7 +200,7 @@ module _ {selection : Selection} {begun : Bool} {source old now : Option (List �
           meaning = so_far.meaning;
           accepted = accepted;
           counted = so_far.counted asked text has told;
-          written = subst (λ ps. Appends old now (chosen_text begun asked so_far.meaning ps)) (short_within text accepted.short) (so_far.written asked text has told);
+          written = subst (λ ps. Appends old now (output form begun asked so_far.meaning ps)) (short_within text accepted.short) (so_far.written asked text has told);
         }
 
     -- the first ones
@@ -225,25 +227,26 @@ module _ {selection : Selection} {begun : Bool} {source old now : Option (List �
     }
 
 -- a fault while the next paragraph is put
-pub cut_after : (T : Type 0) (fault : Fault) (begun : Bool) (selection : SelectionMeaning) (values : ValueEntries ValueMeaning) (p : Paragraph) (asked : Request) (text : List ℕ) (old now new : Option (List ℕ)) → PutsSelected begun selection values p (Err fault) now new → WritesFirst asked text old now
+pub cut_after : (T : Type 0) (fault : Fault) (form : FormMeaning) (begun : Bool) (selection : SelectionMeaning) (values : ValueEntries ValueMeaning) (p : Paragraph) (asked : Request) (text : List ℕ) (old now new : Option (List ℕ)) → PutsSelected form begun selection values p (Err fault) now new → WritesFirst asked text old now
     → IfCutOff {T = T} (Err fault) (WritesFirst asked text old new)
-cut_after T (Refused refusal) begun selection values p asked text old now new puts first = tt
-cut_after T Memory begun selection values p asked text old now new puts first = subst (WritesFirst asked text old) puts first
-cut_after T Read begun selection values p asked text old now new puts first = absurd puts
-cut_after T Write begun selection values p asked text old now new puts first = tt
+cut_after T (Refused refusal) form begun selection values p asked text old now new puts first = tt
+cut_after T Memory form begun selection values p asked text old now new puts first = subst (WritesFirst asked text old) puts first
+cut_after T Read form begun selection values p asked text old now new puts first = absurd puts
+cut_after T Write form begun selection values p asked text old now new puts first = tt
 
-pub failed_after : (T : Type 0) (fault : Fault) (begun : Bool) (selection : SelectionMeaning) (values : ValueEntries ValueMeaning) (p : Paragraph) (now new : Option (List ℕ)) (P : Type 0) → PutsSelected begun selection values p (Err fault) now new → (AppendsFront now new (written_after begun (one_if (selects selection values) p)) → P)
+pub failed_after : (T : Type 0) (fault : Fault) (form : FormMeaning) (begun : Bool) (selection : SelectionMeaning) (values : ValueEntries ValueMeaning) (p : Paragraph) (now new : Option (List ℕ)) (P : Type 0) → PutsSelected form begun selection values p (Err fault) now new → (AppendsFront now new (piece_if form begun selection values p) → P)
     → IfWriteFailed {T = T} (Err fault) P
-failed_after T (Refused refusal) begun selection values p now new P puts then = tt
-failed_after T Memory begun selection values p now new P puts then = tt
-failed_after T Read begun selection values p now new P puts then = tt
-failed_after T Write begun selection values p now new P puts then = then puts
+failed_after T (Refused refusal) form begun selection values p now new P puts then = tt
+failed_after T Memory form begun selection values p now new P puts then = tt
+failed_after T Read form begun selection values p now new P puts then = tt
+failed_after T Write form begun selection values p now new P puts then = then puts
 
--- what holds for the kind and the start that a selection was asked with holds for a request that is the same
-pub same_request : (P : Request → Type 0) (asked : Request) (doc : Doc) (begun : Bool) → doc ≡ asked.kind → asked.begun ≡ begun → P (record { kind = doc; selection = asked.selection; begun = begun }) → P asked
-same_request P asked doc begun kind start holds =
-    subst (λ k. P (record { kind = k; selection = asked.selection; begun = asked.begun })) kind
-    (subst (λ b. P (record { kind = doc; selection = asked.selection; begun = b })) (sym start) holds)
+-- what holds for the kind, the form and the start that a selection was asked with holds for a request that is the same
+pub same_request : (P : Request → Type 0) (asked : Request) (doc : Doc) (form : FormMeaning) (begun : Bool) → doc ≡ asked.kind → asked.form ≡ form → asked.begun ≡ begun → P (record { kind = doc; selection = asked.selection; form = form; begun = begun }) → P asked
+same_request P asked doc form begun kind shape start holds =
+    subst (λ k. P (record { kind = k; selection = asked.selection; form = asked.form; begun = asked.begun })) kind
+    (subst (λ f. P (record { kind = doc; selection = asked.selection; form = f; begun = asked.begun })) (sym shape)
+    (subst (λ b. P (record { kind = doc; selection = asked.selection; form = form; begun = b })) (sym start) holds))
 
 pub same_conditions : (asked : SelectionMeaning) (selection : Selection) (kind : Doc) → HasConditions kind asked selection → HasConditions selection.doc asked selection
 same_conditions asked selection kind has = subst (λ k. HasConditions k asked selection) (sym has.of_kind) has

@@ -4,8 +4,9 @@ pub mod Kept
 pub mod Reads
 pub mod Selections
 pub mod Written
-pub mod Selecting
-pub mod Laws
 pub mod Fields
 pub mod Tables
+pub mod Forms
+pub mod Selecting
+pub mod Laws
 pub mod JsonLines

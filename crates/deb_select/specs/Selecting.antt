@@ -1,5 +1,5 @@
 -- What a call that writes the selected paragraphs of a file does: this project's own.
-use Rattle.std.specs.Prelude.{◌≡◌, ℕ, ◌+◌, ◌==◌, ◌||◌, Bool, true, false, not, refl, List, ◌++◌, length, Option, Some, Result, Ok, Err}
+use Rattle.std.specs.Prelude.{◌≡◌, ℕ, ◌+◌, Bool, true, false, refl, List, ◌++◌, length, Option, Some, Result, Ok, Err}
 use Rattle.std.specs.Io.KnownBytes.{Appends}
 use Rattle.deb_base.specs.Devices.{AppendsFront}
 use Rattle.deb_base.specs.declared.doc.Doc.{Doc}
@@ -14,12 +14,14 @@ use Rattle.deb_control.specs.Documents.{Accepted, Meaning, refusal_of, rules_of}
 use Rattle.deb_control.specs.Refusals.{outcome}
 use Rattle.deb_control.specs.ValueFiles.{SpellsEntries, ValueEntries}
 use Rattle.deb_select.specs.Conditions.{SelectionMeaning, selected, selects}
-use Rattle.deb_select.specs.Written.{chosen_text, one_if, written_after}
+use Rattle.deb_select.specs.Forms.{FormMeaning, begins, begins_if, output, piece, piece_if}
 
--- what is asked: the kind of the file, the conditions, and whether a paragraph was written before
+-- what is asked: the kind of the file, the conditions, what is written of each paragraph, and whether
+-- one was written before
 pub record Request : Type 0 where
   pub kind : Doc
   pub selection : SelectionMeaning
+  pub form : FormMeaning
   pub begun : Bool
 
 -- The file is accepted, so many of its paragraphs are selected, and exactly these were written.
@@ -29,7 +31,7 @@ pub record WritesSelected (asked : Request) (text : List ℕ) (count : ℕ) (old
   pub accepted : Accepted asked.kind text meaning
   pub counted : count ≡ length (selected asked.selection meaning)
   pub written : Appends old new
-      (chosen_text asked.begun asked.selection meaning (paragraphs_of text))
+      (output asked.form asked.begun asked.selection meaning (paragraphs_of text))
 
 -- The first paragraphs of the file pass, and mean this.
 pub record AreFirst (kind : Doc) (text : List ℕ) (first : Meaning) : Type 0 where
@@ -43,13 +45,13 @@ pub record WritesFirst (asked : Request) (text : List ℕ) (old new : Option (Li
   pub first : Meaning
   pub are : AreFirst asked.kind text first
   pub written : Appends old new
-      (chosen_text asked.begun asked.selection first (paragraphs_within text))
+      (output asked.form asked.begun asked.selection first (paragraphs_within text))
 
 pub record WritesPart (asked : Request) (text : List ℕ) (old new : Option (List ℕ)) : Type 0 where
   pub first : Meaning
   pub are : AreFirst asked.kind text first
   pub written : AppendsFront old new
-      (chosen_text asked.begun asked.selection first (paragraphs_within text))
+      (output asked.form asked.begun asked.selection first (paragraphs_within text))
 
 -- The file is refused so, and of all paragraphs before the first that is refused exactly the
 -- selected ones were written.
@@ -60,31 +62,39 @@ pub record WritesRefused (asked : Request) (text : List ℕ) (refusal : Refusal)
   pub spelled : SpellsEntries (SpellsValue asked.kind) (outcome (rules_of asked.kind) text).passed
       first
   pub written : Appends old new
-      (chosen_text asked.begun asked.selection first (paragraphs_within text))
-
--- whether a paragraph was written, before the file or of it
-abbrev pub is_begun : Bool → ℕ → Bool
-is_begun begun count = begun || not (count == 0)
+      (output asked.form asked.begun asked.selection first (paragraphs_within text))
 
 -- how many were written after one more paragraph, if it was
 abbrev pub count_after : ℕ → Bool → ℕ
 count_after count true = count + 1
 count_after count false = count
 
--- Ok: a paragraph of this meaning was written exactly if it is selected. Out of memory: nothing was
--- written. A failed write: a prefix was.
-abbrev pub PutsSelected : Bool → SelectionMeaning → ValueEntries ValueMeaning → Paragraph
+-- Ok: the text of a paragraph of this meaning was written, and the answer is whether the next one is
+-- separated from it. Out of memory: nothing was written. A failed write: a prefix was.
+abbrev pub PutsPiece : FormMeaning → Bool → ValueEntries ValueMeaning → Paragraph
     → Result Bool Fault → Option (List ℕ) → Option (List ℕ) → Type 0
-PutsSelected begun selection values p (Ok put) old new =
-    (put ≡ selects selection values) × Appends old new (written_after begun (one_if put p))
-PutsSelected begun selection values p (Err (Refused refusal)) old new = ⊥
-PutsSelected begun selection values p (Err Memory) old new = old ≡ new
-PutsSelected begun selection values p (Err Read) old new = ⊥
-PutsSelected begun selection values p (Err Write) old new =
-    AppendsFront old new (written_after begun (one_if (selects selection values) p))
+PutsPiece form begun values p (Ok now) old new =
+    (now ≡ begins form begun p) × Appends old new (piece form begun values p)
+PutsPiece form begun values p (Err (Refused refusal)) old new = ⊥
+PutsPiece form begun values p (Err Memory) old new = old ≡ new
+PutsPiece form begun values p (Err Read) old new = ⊥
+PutsPiece form begun values p (Err Write) old new =
+    AppendsFront old new (piece form begun values p)
+
+-- The same of a paragraph that is selected or isn't: the answer says which, and then that.
+abbrev pub PutsSelected : FormMeaning → Bool → SelectionMeaning → ValueEntries ValueMeaning
+    → Paragraph → Result (Bool × Bool) Fault → Option (List ℕ) → Option (List ℕ) → Type 0
+PutsSelected form begun selection values p (Ok put) old new =
+    (put.0 ≡ selects selection values) × (put.1 ≡ begins_if form begun selection values p)
+    × Appends old new (piece_if form begun selection values p)
+PutsSelected form begun selection values p (Err (Refused refusal)) old new = ⊥
+PutsSelected form begun selection values p (Err Memory) old new = old ≡ new
+PutsSelected form begun selection values p (Err Read) old new = ⊥
+PutsSelected form begun selection values p (Err Write) old new =
+    AppendsFront old new (piece_if form begun selection values p)
 
 -- out of memory or a failed write
-abbrev pub IsWritersFault : Result Bool Fault → Type 0
+abbrev pub IsWritersFault : {T : Type 0} → Result T Fault → Type 0
 IsWritersFault (Ok put) = Unit {0}
 IsWritersFault (Err (Refused refusal)) = ⊥
 IsWritersFault (Err Memory) = Unit {0}
@@ -92,16 +102,16 @@ IsWritersFault (Err Read) = ⊥
 IsWritersFault (Err Write) = Unit {0}
 
 -- A fact for an answer says something of that answer.
-worked-answers : (begun : Bool) (selection : SelectionMeaning) (values : ValueEntries ValueMeaning)
-    (p : Paragraph) (old new : Option (List ℕ))
-    → (PutsSelected begun selection values p (Err Memory) old new → old ≡ new)
-    × (PutsSelected begun selection values p (Err Write) old new
-    → AppendsFront old new (written_after begun (one_if (selects selection values) p)))
-    × (PutsSelected begun selection values p (Err Read) old new → ⊥)
-    × IsWritersFault (Err Write) × (IsWritersFault (Err Read) → ⊥)
-worked-answers begun selection values p old new =
-    (λ put. put, λ put. put, λ put. put, tt, λ fault. fault)
+worked-answers : (form : FormMeaning) (begun : Bool) (selection : SelectionMeaning)
+    (values : ValueEntries ValueMeaning) (p : Paragraph) (old new : Option (List ℕ))
+    → (PutsSelected form begun selection values p (Err Memory) old new → old ≡ new)
+    × (PutsSelected form begun selection values p (Err Write) old new
+    → AppendsFront old new (piece_if form begun selection values p))
+    × (PutsSelected form begun selection values p (Err Read) old new → ⊥)
+    × (PutsPiece form begun values p (Err Read) old new → ⊥)
+    × IsWritersFault {T = Bool} (Err Write) × (IsWritersFault {T = Bool} (Err Read) → ⊥)
+worked-answers form begun selection values p old new =
+    (λ put. put, λ put. put, λ put. put, λ put. put, tt, λ fault. fault)
 
-worked-counts : (count_after 3 true ≡ 4) × (count_after 3 false ≡ 3) × (is_begun false 0 ≡ false)
-    × (is_begun false 2 ≡ true) × (is_begun true 0 ≡ true)
-worked-counts = (refl, refl, refl, refl, refl)
+worked-counts : (count_after 3 true ≡ 4) × (count_after 3 false ≡ 3)
+worked-counts = (refl, refl)

@@ -5,6 +5,7 @@ mod cells;
 mod comparison;
 mod condition;
 mod fields;
+mod form;
 pub mod laws;
 mod parts;
 mod reason;
@@ -15,5 +16,6 @@ mod writing;
 
 pub use comparison::Comparison;
 pub use condition::Condition;
+pub use form::Form;
 pub use reason::{ConditionFault, Reason};
 pub use selection::Selection;

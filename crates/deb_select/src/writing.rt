@@ -1,25 +1,30 @@
 //! Writes the selected paragraphs of a file.
 
-ghost use Rattle.std.specs.Prelude.{◌≡◌, ◌<◌, ◌-◌, ◌^◌, ◌∷◌, ◌++◌, ℕ, List, [], Some, IfOk, IfErr};
-ghost use Rattle.deb_base.specs.Bodies.{file_limit, newline};
+ghost use Rattle.std.specs.Prelude.{◌≡◌, ◌||◌, ◌<◌, ◌-◌, ◌^◌, ◌∷◌, ◌++◌, ℕ, List, [], Some, IfOk, IfErr};
+ghost use Rattle.deb_base.specs.Bodies.{file_limit, newline, pieces_of};
 ghost use Rattle.deb_base.specs.Devices.{read_failures_after, write_failures_after, Puts, ReadFaultIffFailed, WriteFaultIffFailed};
 ghost use Rattle.deb_base.specs.Reading.{TakesNoMore};
 ghost use Rattle.deb_field.specs.Values.{ValueMeaning};
 ghost use Rattle.deb_syntax.specs.Answers.{Seen};
 ghost use Rattle.deb_syntax.specs.Lines.{Paragraph};
 ghost use Rattle.deb_control.specs.Calls.{IfCutOff, IfRefused, IfWriteFailed};
-ghost use Rattle.deb_control.specs.CheckedStates.{checked_state, doc_read, lines_checked};
+ghost use Rattle.deb_control.specs.CheckedStates.{checked_state, doc_judged, doc_read, lines_checked, passing_judged};
 ghost use Rattle.deb_control.specs.Checking.{IsRefusalOfDocument};
 ghost use Rattle.deb_control.specs.Paragraphs.{AreValuesOf};
 ghost use Rattle.deb_control.specs.ValueFiles.{ValueEntries};
 ghost use Rattle.deb_select.specs.Conditions.{SelectionMeaning};
-ghost use Rattle.deb_select.specs.Selecting.{count_after, is_begun, IsWritersFault, PutsSelected, Request, WritesFirst, WritesPart, WritesRefused, WritesSelected};
+ghost use Rattle.deb_select.specs.Forms.{after_gap, form_shown, has_bytes};
+ghost use Rattle.deb_select.specs.Selecting.{count_after, IsWritersFault, PutsPiece, PutsSelected, Request, WritesFirst, WritesPart, WritesRefused, WritesSelected};
 ghost use Rattle.deb_select.specs.Selections.{HasConditions};
 ghost use Rattle.deb_select.specs.Written.{gap};
 
+use crate::cells::push_row;
+use crate::fields::fields_text;
+use crate::form::Form;
 use crate::selection::Selection;
 use deb_base::{Fault, Sink, Source, put_all};
-use deb_control::{Checked, NoVisitor};
+use deb_control::{Checked, CheckedView, NoVisitor};
+use std::alloc::Global;
 
 impl Selection {
     /// Reads a file, writes each paragraph that is selected as soon as it is known, and returns
@@ -41,23 +46,24 @@ impl Selection {
     /// - `Fault::Write`: a write failed in this call. A prefix of the output was written.
     pub fn write<R: Source, W: Sink>(
         &self,
+        form: &Form,
         begun: bool,
         reader: &mut R,
         writer: &mut W,
     ) -> Result<u64, Fault>
-        ensures ok { (asked : Request) (text : List ℕ) → asked.begun ≡ begun
-            → HasConditions asked.kind asked.selection self.now → R.left reader.old ≡ Some text
+        ensures ok { (asked : Request) (text : List ℕ) → asked.form ≡ form_shown form.now
+            → asked.begun ≡ begun → HasConditions asked.kind asked.selection self.now → R.left reader.old ≡ Some text
             → IfOk result (λ count. WritesSelected asked text count (W.held writer.old)
             (W.held writer.new)) }
-        ensures refused { (asked : Request) (text : List ℕ) → asked.begun ≡ begun
-            → HasConditions asked.kind asked.selection self.now → R.left reader.old ≡ Some text
+        ensures refused { (asked : Request) (text : List ℕ) → asked.form ≡ form_shown form.now
+            → asked.begun ≡ begun → HasConditions asked.kind asked.selection self.now → R.left reader.old ≡ Some text
             → IfRefused result (λ refusal. WritesRefused asked text refusal (W.held writer.old)
             (W.held writer.new)) }
-        ensures cut_off { (asked : Request) (text : List ℕ) → asked.begun ≡ begun
-            → HasConditions asked.kind asked.selection self.now → R.left reader.old ≡ Some text
+        ensures cut_off { (asked : Request) (text : List ℕ) → asked.form ≡ form_shown form.now
+            → asked.begun ≡ begun → HasConditions asked.kind asked.selection self.now → R.left reader.old ≡ Some text
             → IfCutOff result (WritesFirst asked text (W.held writer.old) (W.held writer.new)) }
-        ensures write { (asked : Request) (text : List ℕ) → asked.begun ≡ begun
-            → HasConditions asked.kind asked.selection self.now → R.left reader.old ≡ Some text
+        ensures write { (asked : Request) (text : List ℕ) → asked.form ≡ form_shown form.now
+            → asked.begun ≡ begun → HasConditions asked.kind asked.selection self.now → R.left reader.old ≡ Some text
             → IfWriteFailed result (WritesPart asked text (W.held writer.old)
             (W.held writer.new)) }
         ensures reads_at_most { (text : List ℕ) → R.left reader.old ≡ Some text
@@ -77,54 +83,110 @@ impl Selection {
         let mut checked = Checked::new(self.alloc, self.doc);
         let mut visitor = NoVisitor;
         let mut count: u64 = 0;
+        let mut begun = begun;
         for _passed in 0..u64::MAX {
             if !checked.advance(&mut visitor, reader)? {
                 return Ok(count);
             }
-            let put = self.put(is_begun(begun, count), &checked, writer)?;
+            let (put, next) = self.put(form, begun, &checked, writer)?;
             count = counted(count, put);
+            begun = next;
         }
         // No file has so many paragraphs.
         unreachable!()
     }
 
-    /// Writes the paragraph that was found last, if it is selected, and returns whether it is.
+    /// Writes the paragraph that was found last, if it is selected, and returns whether it is, and
+    /// whether the next one is separated from it.
     ///
     /// # Errors
     ///
     /// Out of memory: nothing was written; or `Fault::Write`: a prefix was.
-    fn put<W: Sink>(&self, begun: bool, checked: &Checked, writer: &mut W) -> Result<bool, Fault>
+    fn put<W: Sink>(
+        &self,
+        form: &Form,
+        begun: bool,
+        checked: &Checked,
+        writer: &mut W,
+    ) -> Result<(bool, bool), Fault>
         ensures puts { (selection : SelectionMeaning) (seen : Seen)
             (values : ValueEntries ValueMeaning) (p : Paragraph)
             → HasConditions (doc_read checked.now) selection self.now
             → (checked_state checked.now).current ≡ Some seen
             → AreValuesOf (doc_read checked.now) seen values
             → lines_checked checked.now ≡ Some p
-            → PutsSelected begun selection values p result (W.held writer.old)
-            (W.held writer.new) }
+            → PutsSelected (form_shown form.now) begun selection values p result
+            (W.held writer.old) (W.held writer.new) }
         ensures counts_failure { W.failures writer.new ≡ write_failures_after
             (W.failures writer.old) result }
         ensures fault { IsWritersFault result }
     {
         let Some(paragraph) = checked.current() else {
-            return Ok(false);
+            return Ok((false, begun));
         };
         let Some(text) = checked.text() else {
-            return Ok(false);
+            return Ok((false, begun));
         };
         if !self.selects(&paragraph)? {
-            return Ok(false);
+            return Ok((false, begun));
         }
-        put_paragraph(begun, text, writer)?;
-        Ok(true)
+        let next = put_piece(self.alloc, form, begun, &paragraph, text, writer)?;
+        Ok((true, next))
     }
 }
 
-/// Returns whether a paragraph was written, before this file or of it.
-fn is_begun(begun: bool, count: u64) -> bool
-    ensures { result ≡ is_begun begun count }
+/// Writes a paragraph in this form, and returns whether the next one is separated from it.
+fn put_piece<W: Sink>(
+    alloc: Global,
+    form: &Form,
+    begun: bool,
+    paragraph: &CheckedView<'_>,
+    text: &[u8],
+    writer: &mut W,
+) -> Result<bool, Fault>
+    ensures puts { (values : ValueEntries ValueMeaning) (p : Paragraph)
+        → AreValuesOf (doc_judged paragraph.now) (passing_judged paragraph.now).seen values
+        → p.lines ≡ pieces_of text.now
+        → PutsPiece (form_shown form.now) begun values p result (W.held writer.old)
+        (W.held writer.new) }
+    ensures counts_failure { W.failures writer.new ≡ write_failures_after
+        (W.failures writer.old) result }
+    ensures fault { IsWritersFault result }
 {
-    begun || count != 0
+    match form {
+        Form::Paragraphs => {
+            put_paragraph(begun, text, writer)?;
+            Ok(true)
+        }
+        Form::Fields(names) => {
+            let lines = fields_text(alloc, names.as_slice(), text)?;
+            put_lines(begun, lines.as_slice(), writer)
+        }
+        Form::Table(names) => {
+            let mut line = Vec::new(alloc);
+            push_row(alloc, &mut line, names.as_slice(), paragraph)?;
+            put_all(writer, line.as_slice())?;
+            Ok(begun)
+        }
+    }
+}
+
+/// Writes lines after an empty line if a paragraph was written before them, and returns whether one
+/// was written then. No lines leave nothing.
+fn put_lines<W: Sink>(begun: bool, lines: &[u8], writer: &mut W) -> Result<bool, Fault>
+    ensures written { Puts (W.held writer.old) (W.held writer.new) result
+        (after_gap begun lines.now) }
+    ensures begun { IfOk result (λ next. next ≡ (begun || has_bytes lines.now)) }
+    ensures fault { IfErr result (λ fault. fault ≡ Fault.Write) }
+    ensures counts_failure { W.failures writer.new ≡ write_failures_after
+        (W.failures writer.old) result }
+{
+    if lines.is_empty() {
+        return Ok(begun);
+    }
+    put_all(writer, separator(begun))?;
+    put_all(writer, lines)?;
+    Ok(true)
 }
 
 /// Returns a count after one more paragraph, which counts if it was put.

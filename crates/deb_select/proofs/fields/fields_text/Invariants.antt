@@ -1,5 +1,4 @@
 use Rattle.std.proofs.Common.{◌≡◌, map, take}
-use Rattle.deb_base.specs.Bodies.{pieces_of}
 use Rattle.deb_syntax.specs.Lines.{with_newlines}
 use Rattle.deb_select.specs.Fields.{fields_lines}
 use Rattle.deb_select.proofs.fields.fields_text.Given as goal
