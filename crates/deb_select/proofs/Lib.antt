@@ -11,6 +11,7 @@ pub mod Judging
 pub mod Selected
 pub mod WrittenTexts
 pub mod Outputs
+pub mod FormOutputs
 pub mod Selecting
 pub mod Putting
 pub mod ReadTexts

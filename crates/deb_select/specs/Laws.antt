@@ -1,7 +1,7 @@
 -- What holds of conditions, and of what they select.
-use Rattle.std.specs.Prelude.{◌≡◌, ◌≤◌, ◌↔◌, ◌&&◌, ◌||◌, ℕ, ◌+◌, Bool, true, false, not, cond, IsTrue, List, [], ◌∷◌, ◌++◌, length, None, refl}
+use Rattle.std.specs.Prelude.{◌≡◌, codes, ◌==◌, ◌≤◌, ◌↔◌, ◌&&◌, ◌||◌, ℕ, ◌+◌, Bool, true, false, not, cond, IsTrue, List, [], ◌∷◌, ◌++◌, length, None, refl}
 use Rattle.std.specs.declared.cmp.Ordering.TheVariants.{Equal}
-use Rattle.deb_base.specs.Bodies.{file_limit}
+use Rattle.deb_base.specs.Bodies.{file_limit, newline}
 use Rattle.deb_base.specs.Docs.{is_single}
 use Rattle.deb_base.specs.declared.doc.Doc.{Doc}
 use Rattle.deb_base.specs.declared.kind.Kind.{Kind}
@@ -11,6 +11,9 @@ use Rattle.deb_control.specs.Documents.{Accepted, Meaning, canonical_text}
 use Rattle.deb_control.specs.ValueFiles.{ValueEntries}
 use Rattle.deb_select.specs.Conditions.{ConditionMeaning, SelectionMeaning, compare_values, selected, selects}
 use Rattle.deb_select.specs.Grammar.{SpellsCondition, condition_refusal}
+use Rattle.deb_select.specs.Fields.{fields_text}
+use Rattle.deb_select.specs.Forms.{WholeParagraphs, TheseFields, TableOf, output}
+use Rattle.deb_select.specs.Tables.{table_text}
 use Rattle.deb_select.specs.Written.{chosen, chosen_text, has_some}
 
 -- ---- conditions
@@ -134,3 +137,42 @@ FilesFollow =
 worked-numbers : (values others : ValueEntries ValueMeaning)
     → selected_numbers (plain []) (values ∷ others ∷ []) ≡ 1 ∷ 2 ∷ []
 worked-numbers values others = refl
+
+-- ---- the forms of output
+
+-- The output of whole paragraphs is the text of those that are selected.
+abbrev pub WholeOutputIsText : Type 0
+WholeOutputIsText =
+    (begun : Bool) (selection : SelectionMeaning) (meaning : Meaning) (paragraphs : List Paragraph)
+    → output WholeParagraphs begun selection meaning paragraphs
+    ≡ chosen_text begun selection meaning paragraphs
+
+-- That of fields is the text of these fields of them.
+abbrev pub FieldsOutputIsText : Type 0
+FieldsOutputIsText =
+    (names : List (List ℕ)) (begun : Bool) (selection : SelectionMeaning) (meaning : Meaning)
+    (paragraphs : List Paragraph)
+    → output (TheseFields names) begun selection meaning paragraphs
+    ≡ fields_text names begun selection meaning paragraphs
+
+-- That of a table is a function of the meaning, where each has its paragraph.
+abbrev pub TableIsOfMeanings : Type 0
+TableIsOfMeanings =
+    (names : List (List ℕ)) (begun : Bool) (selection : SelectionMeaning) (meaning : Meaning)
+    (paragraphs : List Paragraph) → length meaning ≤ length paragraphs
+    → output (TableOf names) begun selection meaning paragraphs
+    ≡ table_text names selection meaning
+
+-- how many newlines a text has
+abbrev pub newlines_in : List ℕ → ℕ
+newlines_in [] = 0
+newlines_in (b ∷ bs) = cond (b == newline) (newlines_in bs + 1) (newlines_in bs)
+
+-- A table has one line for each paragraph that is selected: no byte of a file ends a line of it.
+abbrev pub TableLinesAreSelected : Type 0
+TableLinesAreSelected =
+    (names : List (List ℕ)) (selection : SelectionMeaning) (meaning : Meaning)
+    → newlines_in (table_text names selection meaning) ≡ length (selected selection meaning)
+
+worked-newlines : newlines_in (codes "a\nb\n\nc") ≡ 3
+worked-newlines = refl

@@ -1,6 +1,6 @@
 //! Laws of conditions and of what they select. Each function does nothing; its contract is the law.
 
-ghost use Rattle.deb_select.specs.Laws.{CanonicalTextSelectsTheSame, EqualityIsOfMeanings, FilesFollow, JoinedConditionsIntersect, NegationPartitions, SameFilesSelectTheSame, SelectedAreSelected, SelectedTextIsAccepted, SelectedTextIsItsOwn, TextsAreRead};
+ghost use Rattle.deb_select.specs.Laws.{CanonicalTextSelectsTheSame, EqualityIsOfMeanings, FieldsOutputIsText, FilesFollow, JoinedConditionsIntersect, NegationPartitions, SameFilesSelectTheSame, SelectedAreSelected, SelectedTextIsAccepted, SelectedTextIsItsOwn, TableIsOfMeanings, TableLinesAreSelected, TextsAreRead, WholeOutputIsText};
 
 /// A text that isn't refused spells one condition, and one that is refused spells none.
 pub fn texts_are_read()
@@ -51,4 +51,24 @@ pub fn selected_text_is_its_own()
 /// What is written of two files is what is written of the first, and what of the second after it.
 pub fn files_follow()
     ensures { FilesFollow }
+{}
+
+/// The output of whole paragraphs is the text of those that are selected.
+pub fn whole_output_is_text()
+    ensures { WholeOutputIsText }
+{}
+
+/// The output of fields is the text of these fields of the paragraphs that are selected.
+pub fn fields_output_is_text()
+    ensures { FieldsOutputIsText }
+{}
+
+/// A table is a function of the file's meaning.
+pub fn table_is_of_meanings()
+    ensures { TableIsOfMeanings }
+{}
+
+/// A table has one line for each paragraph that is selected.
+pub fn table_lines_are_selected()
+    ensures { TableLinesAreSelected }
 {}
