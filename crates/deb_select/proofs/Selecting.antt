@@ -193,13 +193,14 @@ module _ {selection : Selection} {form : FormMeaning} {begun : Bool} {source old
     asks = record { kind = selection.doc; selection = asked; form = form; begun = begun }
 
     -- all of them
-    pub all_selected : ShownAll selection.doc text given → WritesSelected asks text count old now
+    pub all_selected : ShownAll selection.doc text given → WritesSelected asks text count next old now
     all_selected shown =
         let accepted = accepted-given selection.doc text given so_far.meaning shown so_far.are in
         record {
           meaning = so_far.meaning;
           accepted = accepted;
           counted = so_far.counted asked text has told;
+          started = so_far.started asked text has told ∙ ap (begun_after form begun asked so_far.meaning) (short_within text accepted.short);
           written = subst (λ ps. Appends old now (output form begun asked so_far.meaning ps)) (short_within text accepted.short) (so_far.written asked text has told);
         }
 

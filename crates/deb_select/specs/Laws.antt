@@ -12,7 +12,7 @@ use Rattle.deb_control.specs.ValueFiles.{ValueEntries}
 use Rattle.deb_select.specs.Conditions.{ConditionMeaning, SelectionMeaning, compare_values, selected, selects}
 use Rattle.deb_select.specs.Grammar.{SpellsCondition, condition_refusal}
 use Rattle.deb_select.specs.Fields.{fields_text}
-use Rattle.deb_select.specs.Forms.{WholeParagraphs, TheseFields, TableOf, output}
+use Rattle.deb_select.specs.Forms.{FormMeaning, WholeParagraphs, TheseFields, TableOf, begun_after, output}
 use Rattle.deb_select.specs.Tables.{table_text}
 use Rattle.deb_select.specs.Written.{chosen, chosen_text, has_some}
 
@@ -176,3 +176,12 @@ TableLinesAreSelected =
 
 worked-newlines : newlines_in (codes "a\nb\n\nc") ≡ 3
 worked-newlines = refl
+
+-- In each form the output of two files is that of the first, and that of the second after it.
+abbrev pub OutputsFollow : Type 0
+OutputsFollow =
+    (form : FormMeaning) (begun : Bool) (selection : SelectionMeaning) (first second : Meaning)
+    (paragraphs others : List Paragraph) → length first ≡ length paragraphs
+    → output form begun selection (first ++ second) (paragraphs ++ others)
+    ≡ output form begun selection first paragraphs
+    ++ output form (begun_after form begun selection first paragraphs) selection second others

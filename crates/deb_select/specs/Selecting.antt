@@ -14,7 +14,7 @@ use Rattle.deb_control.specs.Documents.{Accepted, Meaning, refusal_of, rules_of}
 use Rattle.deb_control.specs.Refusals.{outcome}
 use Rattle.deb_control.specs.ValueFiles.{SpellsEntries, ValueEntries}
 use Rattle.deb_select.specs.Conditions.{SelectionMeaning, selected, selects}
-use Rattle.deb_select.specs.Forms.{FormMeaning, begins, begins_if, output, piece, piece_if}
+use Rattle.deb_select.specs.Forms.{FormMeaning, begins, begins_if, begun_after, output, piece, piece_if}
 
 -- what is asked: the kind of the file, the conditions, what is written of each paragraph, and whether
 -- one was written before
@@ -24,12 +24,15 @@ pub record Request : Type 0 where
   pub form : FormMeaning
   pub begun : Bool
 
--- The file is accepted, so many of its paragraphs are selected, and exactly these were written.
-pub record WritesSelected (asked : Request) (text : List ℕ) (count : ℕ) (old new : Option (List ℕ))
-    : Type 0 where
+-- The file is accepted, so many of its paragraphs are selected, and exactly these were written. The
+-- call says whether a paragraph was written by it or before it.
+pub record WritesSelected (asked : Request) (text : List ℕ) (count : ℕ) (begun : Bool)
+    (old new : Option (List ℕ)) : Type 0 where
   pub meaning : Meaning
   pub accepted : Accepted asked.kind text meaning
   pub counted : count ≡ length (selected asked.selection meaning)
+  pub started : begun
+      ≡ begun_after asked.form asked.begun asked.selection meaning (paragraphs_of text)
   pub written : Appends old new
       (output asked.form asked.begun asked.selection meaning (paragraphs_of text))
 

@@ -1,6 +1,6 @@
 //! Laws of conditions and of what they select. Each function does nothing; its contract is the law.
 
-ghost use Rattle.deb_select.specs.Laws.{CanonicalTextSelectsTheSame, EqualityIsOfMeanings, FieldsOutputIsText, FilesFollow, JoinedConditionsIntersect, NegationPartitions, SameFilesSelectTheSame, SelectedAreSelected, SelectedTextIsAccepted, SelectedTextIsItsOwn, TableIsOfMeanings, TableLinesAreSelected, TextsAreRead, WholeOutputIsText};
+ghost use Rattle.deb_select.specs.Laws.{CanonicalTextSelectsTheSame, EqualityIsOfMeanings, FieldsOutputIsText, FilesFollow, JoinedConditionsIntersect, NegationPartitions, OutputsFollow, SameFilesSelectTheSame, SelectedAreSelected, SelectedTextIsAccepted, SelectedTextIsItsOwn, TableIsOfMeanings, TableLinesAreSelected, TextsAreRead, WholeOutputIsText};
 
 /// A text that isn't refused spells one condition, and one that is refused spells none.
 pub fn texts_are_read()
@@ -71,4 +71,9 @@ pub fn table_is_of_meanings()
 /// A table has one line for each paragraph that is selected.
 pub fn table_lines_are_selected()
     ensures { TableLinesAreSelected }
+{}
+
+/// In each form the output of two files is that of the first, and that of the second after it.
+pub fn outputs_follow()
+    ensures { OutputsFollow }
 {}

@@ -19,3 +19,4 @@ pub use condition::Condition;
 pub use form::Form;
 pub use reason::{ConditionFault, Reason};
 pub use selection::Selection;
+pub use writing::Outcome;

@@ -26,6 +26,15 @@ use deb_base::{Fault, Sink, Source, put_all};
 use deb_control::{Checked, CheckedView, NoVisitor};
 use std::alloc::Global;
 
+/// What a call has selected and written.
+#[derive(Clone, Copy)]
+pub struct Outcome {
+    /// How many paragraphs are selected.
+    pub count: u64,
+    /// Whether a paragraph was written, by the call or before it.
+    pub begun: bool,
+}
+
 impl Selection {
     /// Reads a file, writes each paragraph that is selected as soon as it is known, and returns
     /// their number. A paragraph's lines are written as they are in the file, each ended by a
@@ -50,11 +59,11 @@ impl Selection {
         begun: bool,
         reader: &mut R,
         writer: &mut W,
-    ) -> Result<u64, Fault>
+    ) -> Result<Outcome, Fault>
         ensures ok { (asked : Request) (text : List ℕ) → asked.form ≡ form_shown form.now
             → asked.begun ≡ begun → HasConditions asked.kind asked.selection self.now → R.left reader.old ≡ Some text
-            → IfOk result (λ count. WritesSelected asked text count (W.held writer.old)
-            (W.held writer.new)) }
+            → IfOk result (λ done. WritesSelected asked text done.count done.begun
+            (W.held writer.old) (W.held writer.new)) }
         ensures refused { (asked : Request) (text : List ℕ) → asked.form ≡ form_shown form.now
             → asked.begun ≡ begun → HasConditions asked.kind asked.selection self.now → R.left reader.old ≡ Some text
             → IfRefused result (λ refusal. WritesRefused asked text refusal (W.held writer.old)
@@ -86,7 +95,7 @@ impl Selection {
         let mut begun = begun;
         for _passed in 0..u64::MAX {
             if !checked.advance(&mut visitor, reader)? {
-                return Ok(count);
+                return Ok(Outcome { count, begun });
             }
             let (put, next) = self.put(form, begun, &checked, writer)?;
             count = counted(count, put);

@@ -1,4 +1,4 @@
-use Rattle.std.proofs.Common.{◌≡◌, ◌∙◌, ◌∷◌, ◌++◌, [], ℕ, cond, Ok, Some, None, refl, sym, ap, subst}
+use Rattle.std.proofs.Common.{◌≡◌, ◌∙◌, ◌∷◌, ◌++◌, [], cond, Ok, Some, None, refl, sym, ap, subst}
 use Rattle.std.proofs.lemmas.Result.{err_from_is_err_and}
 use Rattle.deb_control.specs.Calls.{IfCutOff, IfRefused, IfWriteFailed}
 use Rattle.deb_control.specs.CheckedStates.{checked_state, doc_read, lines_checked}
@@ -11,6 +11,7 @@ use Rattle.deb_select.specs.Selecting.{WritesFirst, WritesPart, WritesRefused, W
 use Rattle.deb_select.specs.Selections.{HasConditions}
 use Rattle.deb_select.specs.Forms.{form_shown}
 use Rattle.deb_select.proofs.Selecting.{SelectedSo, all_selected, cut_after, failed_after, first_selected, next_found, next_selected, none_selected, part_selected, refused_selected, same_conditions, same_request}
+use Rattle.deb_select.specs.declared.writing.Outcome.{Outcome}
 use Rattle.deb_select.proofs.selection.Selection.write.Goals as goal
 
 pub loop-passed-init : goal.loop-passed-init
@@ -26,8 +27,8 @@ returns-in_err-advance-clause-refused g c = λ asked text shape start has told.
     let so_far = c.loop-passed.invariant.shows in
     same_request (λ a. IfRefused c.from_residual.result (λ refusal. WritesRefused a text refusal (g.W.Sink.held c.args.writer.now) (g.W.Sink.held c.loop-passed.writer))) asked self.doc (form_shown c.args.form.now) c.args.begun has.of_kind shape start
     (rw (p.1, p.2)
-    (refused_then ℕ (ShownRefused self.doc text so_far.given) _ c.in_err-advance.field-0.0 (refused_selected so_far.holds asked.selection text (same_conditions asked.selection self asked.kind has) told)
-    (shows-refused so_far ℕ c.in_err-advance.field-0.0 c.in_err-advance.ensures.passes.checks text told)))
+    (refused_then Outcome (ShownRefused self.doc text so_far.given) _ c.in_err-advance.field-0.0 (refused_selected so_far.holds asked.selection text (same_conditions asked.selection self asked.kind has) told)
+    (shows-refused so_far Outcome c.in_err-advance.field-0.0 c.in_err-advance.ensures.passes.checks text told)))
 
 pub returns-in_err-advance-clause-cut_off : goal.returns-in_err-advance-clause-cut_off
 returns-in_err-advance-clause-cut_off g c = λ asked text shape start has told.
@@ -35,7 +36,7 @@ returns-in_err-advance-clause-cut_off g c = λ asked text shape start has told.
     let self = c.args.self.now in
     let so_far = c.loop-passed.invariant.shows in
     same_request (λ a. IfCutOff c.from_residual.result (WritesFirst a text (g.W.Sink.held c.args.writer.now) (g.W.Sink.held c.loop-passed.writer))) asked self.doc (form_shown c.args.form.now) c.args.begun has.of_kind shape start
-    (rw (p.1, p.2) (cut_off ℕ c.in_err-advance.field-0.0 _ (first_selected so_far.holds asked.selection text (same_conditions asked.selection self asked.kind has) told (shows-front so_far text told))))
+    (rw (p.1, p.2) (cut_off Outcome c.in_err-advance.field-0.0 _ (first_selected so_far.holds asked.selection text (same_conditions asked.selection self asked.kind has) told (shows-front so_far text told))))
 
 pub returns-in_err-advance-clause-reads_at_most : goal.returns-in_err-advance-clause-reads_at_most
 returns-in_err-advance-clause-reads_at_most g c = shows-taken c.loop-passed.invariant.shows c.in_err-advance.ensures.passes.checks
@@ -44,7 +45,7 @@ pub returns-then-not-branch-clause-ok : goal.returns-then-not-branch-clause-ok
 returns-then-not-branch-clause-ok g c = λ asked text shape start has told.
     let self = c.args.self.now in
     let so_far = c.loop-passed.invariant.shows in
-    same_request (λ a. WritesSelected a text c.loop-passed.count (g.W.Sink.held c.args.writer.now) (g.W.Sink.held c.loop-passed.writer)) asked self.doc (form_shown c.args.form.now) c.args.begun has.of_kind shape start
+    same_request (λ a. WritesSelected a text c.loop-passed.count c.loop-passed.begun (g.W.Sink.held c.args.writer.now) (g.W.Sink.held c.loop-passed.writer)) asked self.doc (form_shown c.args.form.now) c.args.begun has.of_kind shape start
     (all_selected so_far.holds asked.selection text (same_conditions asked.selection self asked.kind has) told (shows-end so_far (rw c.if-not-branch.true at c.in_ok-advance.ensures.passes.checks) text told))
 
 pub returns-then-not-branch-clause-reads_at_most : goal.returns-then-not-branch-clause-reads_at_most
@@ -67,7 +68,7 @@ returns-in_err-put-clause-cut_off g c = λ asked text shape start has told.
     let puts = c.in_err-put.ensures.puts asked.selection given values.0 found.0 (subst (λ d. HasConditions d asked.selection self) (sym doc_now) has_so) current are found.2 in
     same_request (λ a. IfCutOff c.from_residual-in_err-put.result (WritesFirst a text (g.W.Sink.held c.args.writer.now) (g.W.Sink.held c.put.new.writer))) asked self.doc (form_shown c.args.form.now) c.args.begun has.of_kind shape start
     (rw (e.1, e.2)
-    (cut_after ℕ c.in_err-put.field-0.0 (form_shown c.args.form.now) c.loop-passed.begun asked.selection values.0 found.0 (record { kind = self.doc; selection = asked.selection; form = form_shown c.args.form.now; begun = c.args.begun }) text (g.W.Sink.held c.args.writer.now) (g.W.Sink.held c.loop-passed.writer) (g.W.Sink.held c.put.new.writer) puts
+    (cut_after Outcome c.in_err-put.field-0.0 (form_shown c.args.form.now) c.loop-passed.begun asked.selection values.0 found.0 (record { kind = self.doc; selection = asked.selection; form = form_shown c.args.form.now; begun = c.args.begun }) text (g.W.Sink.held c.args.writer.now) (g.W.Sink.held c.loop-passed.writer) (g.W.Sink.held c.put.new.writer) puts
     (first_selected so_far.holds asked.selection text has_so told (shows-front so_far text told))))
 
 pub returns-in_err-put-clause-write : goal.returns-in_err-put-clause-write
@@ -87,7 +88,7 @@ returns-in_err-put-clause-write g c = λ asked text shape start has told.
     let puts = c.in_err-put.ensures.puts asked.selection given values.0 found.0 (subst (λ d. HasConditions d asked.selection self) (sym doc_now) has_so) current are found.2 in
     same_request (λ a. IfWriteFailed c.from_residual-in_err-put.result (WritesPart a text (g.W.Sink.held c.args.writer.now) (g.W.Sink.held c.put.new.writer))) asked self.doc (form_shown c.args.form.now) c.args.begun has.of_kind shape start
     (rw (e.1, e.2)
-    (failed_after ℕ c.in_err-put.field-0.0 (form_shown c.args.form.now) c.loop-passed.begun asked.selection values.0 found.0 (g.W.Sink.held c.loop-passed.writer) (g.W.Sink.held c.put.new.writer) _ puts
+    (failed_after Outcome c.in_err-put.field-0.0 (form_shown c.args.form.now) c.loop-passed.begun asked.selection values.0 found.0 (g.W.Sink.held c.loop-passed.writer) (g.W.Sink.held c.put.new.writer) _ puts
     (λ front_written. part_selected so_far.holds given values.0 values.1 asked.selection text (g.W.Sink.held c.put.new.writer) found.0 has_so told found.1 (shows-front_next so_far (passing_seen (doc_read c.loop-passed.checked) given) checks text told) front_written)))
 
 pub returns-in_err-put-clause-reads_at_most : goal.returns-in_err-put-clause-reads_at_most
