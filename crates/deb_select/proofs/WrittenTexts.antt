@@ -1,6 +1,6 @@
 -- The text of chosen paragraphs, part by part.
-use Rattle.std.proofs.Common.{◌≡◌, ℕ, zero, suc, ◌+◌, ◌≤◌, ◌==◌, ◌||◌, Bool, true, false, not, cond, List, [], ◌∷◌, ◌++◌, length, length-append, Option, Some, slice_get, Result, Ok, Err, refl, sym, ap, ◌∙◌, append_assoc, append-nil, arith}
-use Rattle.std.proofs.lemmas.Bool.{eqb-true, ne_eqb}
+use Rattle.std.proofs.Common.{◌≡◌, ℕ, zero, suc, ◌+◌, ◌≤◌, ◌==◌, ◌||◌, Bool, true, false, cond, List, [], ◌∷◌, ◌++◌, length, Option, Some, slice_get, Result, Ok, Err, refl, sym, ap, ◌∙◌, append_assoc, arith}
+use Rattle.std.proofs.lemmas.Bool.{eqb-true}
 use Rattle.std.specs.Io.KnownBytes.{Appends}
 use Rattle.std.proofs.KnownBytes.{Appends-trans}
 use Rattle.deb_base.specs.Bodies.{newline, pieces_of, with_byte}
@@ -8,11 +8,7 @@ use Rattle.deb_base.specs.Devices.{AppendsFront, Puts}
 use Rattle.deb_base.specs.declared.fault.Fault.{Fault}
 use Rattle.deb_base.proofs.Writes.{AppendsFront-more, AppendsFront-then}
 use Rattle.deb_syntax.specs.Lines.{Paragraph, with_newlines}
-use Rattle.deb_field.specs.Values.{ValueMeaning}
-use Rattle.deb_control.specs.Documents.{Meaning}
-use Rattle.deb_control.specs.ValueFiles.{ValueEntries}
-use Rattle.deb_select.specs.Conditions.{SelectionMeaning, selected, selects}
-use Rattle.deb_select.specs.Written.{chosen, gap, has_some, one_if, written_after}
+use Rattle.deb_select.specs.Written.{gap, has_some, written_after}
 
 or-false : (b : Bool) → b ≡ (b || false)
 or-false true = refl
@@ -31,31 +27,7 @@ written_after-append begun (p ∷ a) b =
     ∙ sym (append_assoc (gap begun) (with_newlines p.lines ++ written_after true a) (written_after true b))
     ∙ ap (λ t. written_after begun (p ∷ a) ++ written_after t b) (or-true begun)
 
--- the next paragraph of a list, which means this
-pub chosen-push : (asked : SelectionMeaning) (meaning : Meaning) (values : ValueEntries ValueMeaning) (ps : List Paragraph) (p : Paragraph) → slice_get ps (length meaning) ≡ Some p → chosen asked (meaning ++ values ∷ []) ps ≡ chosen asked meaning ps ++ one_if (selects asked values) p
-chosen-push asked [] values [] p at = absurd (cc)
-chosen-push asked [] values (q ∷ ps) p at = let same : q ≡ p = cc in append-nil (one_if (selects asked values) q) ∙ ap (one_if (selects asked values)) same
-chosen-push asked (first ∷ meaning) values [] p at = absurd (cc)
-chosen-push asked (first ∷ meaning) values (q ∷ ps) p at =
-    ap (λ l. one_if (selects asked first) q ++ l) (chosen-push asked meaning values ps p at)
-    ∙ sym (append_assoc (one_if (selects asked first) q) (chosen asked meaning ps) (one_if (selects asked values) p))
-
--- as many are chosen as are selected, where each meaning has its paragraph
-pub chosen-count : (asked : SelectionMeaning) (meaning : Meaning) (ps : List Paragraph) → length meaning ≤ length ps → length (chosen asked meaning ps) ≡ length (selected asked meaning)
-chosen-count asked [] ps enough = refl
-chosen-count asked (values ∷ meaning) [] enough = absurd (omega arith)
-chosen-count asked (values ∷ meaning) (p ∷ ps) enough =
-    length-append (one_if (selects asked values) p) (chosen asked meaning ps)
-    ∙ ap (λ n. length (one_if (selects asked values) p) + n) (chosen-count asked meaning ps (omega (arith, enough))) ∙ go (selects asked values)
-  where
-    go : (t : Bool) → length (one_if t p) + length (selected asked meaning) ≡ length (cond t (values ∷ selected asked meaning) (selected asked meaning))
-    go true = omega arith
-    go false = omega arith
-
-pub has_some-count : (ps : List Paragraph) → has_some ps ≡ not (length ps == 0)
-has_some-count [] = refl
-has_some-count (p ∷ ps) = sym (ap not (ne_eqb (length (p ∷ ps)) 0 (λ none. omega (arith, none))))
-
+-- an element is within the list
 pub within : {X : Type 0} (xs : List X) (i : ℕ) (x : X) → slice_get xs i ≡ Some x → i + 1 ≤ length xs
 within [] i x at = absurd (cc)
 within (y ∷ xs) zero x at = omega arith

@@ -36,10 +36,9 @@ pub struct Outcome {
 }
 
 impl Selection {
-    /// Reads a file, writes each paragraph that is selected as soon as it is known, and returns
-    /// their number. A paragraph's lines are written as they are in the file, each ended by a
-    /// newline, after an empty line if a paragraph was written before: by this call, or before it
-    /// if `begun` says so.
+    /// Reads a file, writes each paragraph that is selected in this form as soon as it is known, and
+    /// returns how many are selected. In a form of paragraphs an empty line stands before one if
+    /// another was written before: by this call, or before it if `begun` says so.
     ///
     /// One paragraph at a time is held in memory. At most 4,295,032,831 bytes are read: a file of
     /// the most bytes, and one piece. Promises about the text of the file hold for a reader whose
