@@ -3,7 +3,8 @@ use Rattle.std.specs.Fmt.{digits}
 use Rattle.std.specs.Prelude.{◌≡◌, List, [], map, ◌∷◌, Option, Some, None, true, false, codes, refl}
 use Rattle.clap.proofs.OnLiterals.{clap_on_literals}
 use Rattle.clap.specs.Walk.{Text}
-use Rattle.debctl_args.specs.Asked.{asked_of, asks, code_named, explain_takes_one, paths_or_list, unknown_code, kind_asked, no_number, unknown_kind, standard_input_twice, Asked}
+use Rattle.debctl_args.specs.Asked.{asked_of, asks, explain_takes_one, paths_or_list, unknown_code, no_number, unknown_kind, standard_input_twice, Asked}
+use Rattle.debctl_args.specs.AskedWords.{code_named, kind_asked}
 use Rattle.deb_base.specs.declared.code.Code.TheVariants as code
 use Rattle.deb_base.specs.declared.doc.Doc.TheVariants.{Any, Packages, Source, Sources}
 use Rattle.debctl_args.specs.Requests.{audits, explains, explains_all, explains_relation, explains_version, listed, paths, explains_rule}

@@ -17,7 +17,8 @@ Exit statuses:
   0  success, or the answer is yes
   1  the answer is no; for `diff`: the files differ; for `query`: a group is unmet;
      for `unmet`: a group is `unmet` or `unsure`; for `healthy`: the set isn't healthy;
-     for `installable`: a package may not be installable, or a source not built
+     for `installable`: a package may not be installable, or a source not built;
+     for `select`: no paragraph is picked
   2  a file, a version, a relation, an architecture or a profile is refused:
      standard error has `line N: CODE NAME`. Line 0 means a command-line
      argument. `same`, `diff`, `unmet` and `installable` of sources write

@@ -201,6 +201,45 @@ Example:
    +Version: 2
   1";
 
+pub(crate) const SELECT_HELP: &str = "\
+Example: which packages depend on libc6, and which are large?
+  $ debctl select --where 'Depends names libc6' -f Package --format table examples/Packages
+  exim4-daemon-light
+  hello
+  libgcc-s1
+  postfix
+  vim
+  $ debctl select --where 'Installed-Size >> 9999' -f Package,Installed-Size examples/Packages
+  Package: libc6
+  Installed-Size: 12987
+
+It picks the paragraphs for which each condition holds, or with `--not` the others:
+  FIELD              the paragraph has this field
+  FIELD = VALUE      the field has this value, however both are spelled; also `!=`
+  FIELD >> VALUE     the version is later, or the number larger; also `<<`, `<=` and `>=`
+  FIELD ~ TEXT       the canonical value contains these bytes
+  FIELD names NAME   the relation or the list contains this name
+If the paragraph lacks the field, no condition on it holds, not even one with `!=`. With
+`--kind any` every value is text, which has neither an order nor names.
+
+The formats are
+  control  the paragraphs byte for byte, or with `-f` the lines of these fields; an
+           empty line is between two paragraphs
+  table    a line for each paragraph: the canonical values of the fields of `-f`, with
+           a tab between two, and control characters escaped, as in `\\n`. The value of
+           a field that the paragraph lacks is empty
+  jsonl    a line for each paragraph: a JSON object
+
+It writes each paragraph before it reads the next one. With `--accepted` it continues
+after a refused paragraph, as `check --all` does.
+
+Exit statuses:
+  0  a paragraph is picked
+  1  no paragraph is picked, or with `--strict` one lacks a field
+  2  a file is refused: standard error has `line N: CODE NAME` for the first error, or
+     with `--accepted` for the first error of each paragraph
+  3  wrong arguments, out of memory, or a failed read or write";
+
 pub(crate) const COMPARE_HELP: &str = "\
 Prints nothing: the exit status is the answer.
 

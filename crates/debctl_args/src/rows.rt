@@ -12,20 +12,22 @@ use crate::file_arguments::{
 };
 use crate::file_help::{
     AUDIT_HELP, CANON_VERSION_HELP, CHECK_HELP, COMPARE_HELP, DIFF_HELP, EXPLAIN_HELP,
-    NORMALISE_HELP, SAME_HELP, SORT_HELP, VERSION_KEY_HELP,
+    NORMALISE_HELP, SAME_HELP, SELECT_HELP, SORT_HELP, VERSION_KEY_HELP,
 };
 use crate::found_arguments::given;
 use crate::index_arguments::{latest_task, query_task, unmet_task};
 use crate::jobs::Task;
 use crate::options::{
-    ALL, ALL_FOR, ALL_SOURCES, ARCH, Argument, BEFORE, BUDGET, BY, CODE, COMMAND, COMPLETE,
-    DEPENDENTS, DIFF_KIND, ESSENTIAL, FIRST, INDEX, INDEX_FILE, INDEX_FILES, INSTALLABLE_KIND,
-    INSTALLABLE_WHY, INSTALLED, KIND, LATEST_KIND, LEAST, LEFT, LIST, NEW, NULL, OLD, ONLY,
-    OPERATOR, PATH, PATHS, PROFILES, QUERIED, RECOMMENDS, RELATION, RELATION_FILE, RELATION_TEXT,
-    REVERSE, RIGHT, SECOND, SPELLED, UNLESS_IN, UNMET_KIND, UNMET_WITHOUT, VALUES, VERSION,
-    VERSION_TEXT, VERSIONS, WHOLE_FILES, WHY, WITHOUT, WITNESS,
+    ACCEPTED, ALL, ALL_FOR, ALL_SOURCES, ARCH, Argument, BEFORE, BUDGET, BY, CODE, COMMAND,
+    COMPLETE, COUNT, DEPENDENTS, DIFF_KIND, ESSENTIAL, FIELDS, FIRST, FORMAT, INDEX, INDEX_FILE,
+    INDEX_FILES, INSTALLABLE_KIND, INSTALLABLE_WHY, INSTALLED, KIND, LATEST_KIND, LEAST, LEFT,
+    LIST, NEW, NOT, NULL, OLD, ONLY, OPERATOR, PATH, PATHS, PROFILES, QUERIED, RECOMMENDS,
+    RELATION, RELATION_FILE, RELATION_TEXT, REVERSE, RIGHT, SECOND, SELECTED, SPELLED, STRICT,
+    UNLESS_IN, UNMET_KIND, UNMET_WITHOUT, VALUES, VERSION, VERSION_TEXT, VERSIONS, WHERE,
+    WHOLE_FILES, WHY, WITHOUT, WITNESS,
 };
 use crate::package_help::{HEALTHY_HELP, INSTALLABLE_HELP, LATEST_HELP, QUERY_HELP, UNMET_HELP};
+use crate::select_arguments::select_task;
 use crate::set_arguments::{healthy_task, installable_task};
 use crate::version_arguments::{canon_version_task, compare_task, sort_task, version_key_task};
 use clap::ArgMatches;
@@ -41,7 +43,7 @@ pub(crate) struct Row {
 }
 
 /// The commands on files and versions, in the order of the program's help.
-static FILE_COMMANDS: [Row; 10] = [
+static FILE_COMMANDS: [Row; 11] = [
     Row {
         name: "check",
         about: "Checks whether a file is well formed",
@@ -71,6 +73,13 @@ static FILE_COMMANDS: [Row; 10] = [
         name: "diff",
         about: "Lists the paragraphs that changed between two files",
         takes: &[DIFF_KIND, VALUES, SPELLED, OLD, NEW],
+    },
+    Row {
+        name: "select",
+        about: "Writes the paragraphs that match conditions, or their fields",
+        takes: &[
+            KIND, WHERE, NOT, ACCEPTED, FIELDS, FORMAT, STRICT, COUNT, SELECTED,
+        ],
     },
     Row {
         name: "compare",
@@ -188,6 +197,7 @@ pub(crate) fn help_after(name: &str) -> Option<&'static str> {
         "normalise" => Some(NORMALISE_HELP),
         "same" => Some(SAME_HELP),
         "diff" => Some(DIFF_HELP),
+        "select" => Some(SELECT_HELP),
         "compare" => Some(COMPARE_HELP),
         "canon-version" => Some(CANON_VERSION_HELP),
         "version-key" => Some(VERSION_KEY_HELP),
@@ -212,6 +222,7 @@ pub(crate) fn task_by(alloc: Global, name: &str, found: &ArgMatches<'_>) -> Resu
         "normalise" => normalise_task(alloc, found),
         "same" => same_task(alloc, found),
         "diff" => diff_task(alloc, found),
+        "select" => select_task(alloc, found),
         "compare" => compare_task(alloc, found),
         "canon-version" => canon_version_task(alloc, found),
         "version-key" => version_key_task(alloc, found),
