@@ -300,9 +300,7 @@ pub(crate) const WHERE: Argument = Argument {
     short: None,
     form: Form::Values,
     shown: "COND",
-    help: Some(
-        "A condition, such as 'Depends names libc6'; may be repeated: then each has to hold",
-    ),
+    help: Some("A condition that has to hold, such as `Depends names libc6`; may be repeated"),
 };
 
 /// `--not`

@@ -165,17 +165,16 @@ fn has_empty_field(found: &ArgMatches<'_>) -> bool
         (pieces_asked (first_of (codes "fields") (rows_of (found_of found.now)))) }
 {
     match given(found, "fields") {
-        Some(names) => has_empty_piece(names),
+        Some(names) => has_empty_piece(names.as_bytes()),
         None => false,
     }
 }
 
 /// Whether one of the texts between the commas of a text is empty.
-fn has_empty_piece(text: &str) -> bool
+fn has_empty_piece(text: &[u8]) -> bool
     ensures { result ≡ list_any is_empty (comma_pieces text.now) }
 {
-    text.as_bytes()
-        .split(|byte| *byte == b',')
+    text.split(|byte| *byte == b',')
         .any(|piece| is_empty(piece))
 }
 
