@@ -47,4 +47,3 @@ pub mod Slices
 pub mod StreamLaws
 pub mod Takings
 pub mod WalkingSteps
-pub mod WholeLines

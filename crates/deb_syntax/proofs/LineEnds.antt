@@ -2,11 +2,7 @@
 use Rattle.deb_syntax.proofs.Common.{zero, subst, IsUtf8, AllByRecursion, ◌≡◌, ℕ, ◌+◌, ◌-◌, ◌<◌, ◌≤◌, suc, nat_le, Bool, true, false, cond, eqb, eqb-true, le-leb, lt-leb, cases_lt, inl, inr, List, [], ◌∷◌, ◌++◌, length, take, drop, slice_index, get_or, slice_range, refl, sym, ap, ◌∙◌, arith, length-drop, drop-drop, drop_all, drop_more, length-take-le, Line, newline, line_length, pieces_of, with_byte, total_length}
 use Rattle.std.proofs.lemmas.List.{get_or-drop}
 use Rattle.deb_syntax.specs.LineEnds.{ends_from, piece_ends}
-use Rattle.deb_base.specs.Bodies.{HasNoNewline, newline}
-use Rattle.deb_syntax.specs.NextLines.{IsNewline}
 use Rattle.deb_syntax.proofs.NextParagraph.{total-cons}
-use Rattle.deb_syntax.proofs.Runs.{pieces_of-last, pieces_of-line}
-use Rattle.deb_syntax.proofs.Slices.{slice_range-rest}
 
 -- one line more
 pub ends_from-push : (start : ℕ) (lines : List Line) (line : Line) → ends_from start (lines ++ line ∷ []) ≡ ends_from start lines ++ (start + total_length lines + length line) ∷ []
@@ -135,21 +131,3 @@ known_line text start zero checked ends line all le =
     subst (λ n. IsUtf8 (take n (drop start text))) (sym none) ([], (refl, refl))
 known_line text start (suc end) checked ends line all le =
     (subst (λ lines. AllByRecursion IsUtf8 lines) line.pieces (all (omega (arith, le)))).0
-
--- the ends from a line's begin on: that at the first newline, and those after it
-pub ends-newline : (text : List ℕ) (start end : ℕ) → IsNewline text start end → ends_from start (pieces_of (drop start text)) ≡ end ∷ ends_from (end + 1) (pieces_of (drop (end + 1) text))
-ends-newline text start end f =
-    let line = slice_range text start end in
-    let len : length line ≡ end - start = length-take-le (end - start) (drop start text) (omega (arith, length-drop start text, f.within)) in
-    let rest : drop start text ≡ line ++ newline ∷ drop (end + 1) text = sym (slice_range-rest text start end f.after (omega (arith, f.within))) ∙ ap (λ zs. line ++ zs) (drop_more text end 0 f.within ∙ ap (λ b. b ∷ drop (end + 1) text) f.here) in
-    let at : start + length line ≡ end = omega (arith, len, f.after) in
-    let next : start + line_length line ≡ end + 1 = omega (arith, len, f.after) in
-    ap (λ zs. ends_from start (pieces_of zs)) rest ∙ ap (ends_from start) (pieces_of-line line (drop (end + 1) text) f.none)
-    ∙ ap (λ n. n ∷ ends_from (start + line_length line) (pieces_of (drop (end + 1) text))) at
-    ∙ ap (λ n. end ∷ ends_from n (pieces_of (drop (end + 1) text))) next
-
--- or that of the text
-pub ends-last : (text : List ℕ) (start : ℕ) → start ≤ length text → HasNoNewline (drop start text) → ends_from start (pieces_of (drop start text)) ≡ length text ∷ []
-ends-last text start within none =
-    let at : start + length (drop start text) ≡ length text = omega (arith, length-drop start text, within) in
-    ap (ends_from start) (pieces_of-last (drop start text) none) ∙ ap (λ n. n ∷ []) at

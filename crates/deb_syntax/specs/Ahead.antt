@@ -17,7 +17,6 @@ use Rattle.deb_syntax.specs.LineEnds.{line_ends}
 use Rattle.deb_syntax.specs.Lines.{IsClosed, lines_of, ends_line, paragraphs_from, paragraphs_of, total_length}
 use Rattle.deb_syntax.specs.NextLines.{IsNear}
 use Rattle.deb_syntax.specs.declared.ending.Extent.{Extent}
-use Rattle.deb_syntax.specs.declared.ending.KeptLines.{KeptLines}
 use Rattle.deb_syntax.specs.declared.first.FirstLine.{FirstLine}
 use Rattle.deb_syntax.specs.declared.first.FirstLine.TheVariants.{NoMore, Buffered, TooLong}
 
@@ -65,11 +64,6 @@ pub record KeepsLines (end kept : ℕ) (cursor : CursorState) : Type 0 where
   pub short : end < paragraph_limit
   pub closed : (ends_line (take kept cursor.unread) ≡ true)
       ⊎ (IsTrue cursor.ended × (kept ≡ length cursor.unread))
-
--- These lines of a paragraph are kept, and are so many.
-pub record AreKept (lines : KeptLines) (cursor : CursorState) : Type 0 where
-  pub keeps : KeepsLines lines.end lines.next cursor
-  pub counted : lines.count ≡ length (lines_of (take lines.next cursor.unread))
 
 -- They are one line.
 pub record KeepsLine (end kept : ℕ) (cursor : CursorState) : Type 0 where

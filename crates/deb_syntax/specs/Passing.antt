@@ -1,6 +1,6 @@
 -- What a call says that passes the next paragraph without judging its lines, and what judging them
 -- makes of it. Debian Policy 5.1; the limits are this project's own.
-use Rattle.std.specs.Prelude.{◌≡◌, ◌≤◌, ◌+◌, ◌^◌, ℕ, Bool, true, false, List, [], ◌∷◌, length, Option, Some, None, Result, Ok, Err, IfOk, IfErr, IfSome, IsTrue, codes, refl}
+use Rattle.std.specs.Prelude.{◌≡◌, ◌≤◌, ◌+◌, ◌^◌, ℕ, Bool, true, false, List, [], ◌∷◌, length, slice_range, Option, Some, None, Result, Ok, Err, IfOk, IfErr, IfSome, IsTrue, codes, refl}
 use Rattle.std.specs.Str.{is_utf8, chars}
 use lib.Utf8.{encode}
 use Rattle.std.proofs.Common.{arith}
@@ -16,9 +16,11 @@ use Rattle.deb_syntax.specs.Extents.{AreNotBlank}
 use Rattle.deb_syntax.specs.FieldSpans.{IsFaultOf}
 use Rattle.deb_syntax.specs.Judged.{IsRefusalOfLength}
 use Rattle.deb_syntax.specs.Judging.{judged}
+use Rattle.deb_syntax.specs.LineEnds.{piece_ends}
 use Rattle.deb_syntax.specs.Lines.{Paragraph, total_length}
 use Rattle.deb_syntax.specs.Reading.{Fits, GivesNone, Moment, State, passed_count, tells_end}
 use Rattle.deb_syntax.specs.Resuming.{HasPassed}
+use Rattle.deb_syntax.specs.declared.paragraphs.CurrentParagraph.{CurrentParagraph}
 
 -- What an answer that a paragraph has passed, or that there is none, says of a text that fits,
 -- where `passed` has passed before.
@@ -59,6 +61,11 @@ pub record CanBeJudged (p : Paragraph) : Type 0 where
   pub first : 1 ≤ p.first
   pub numbered : p.first + length p.lines ≤ 2 ^ 32
 
+-- Where the lines of a paragraph that has passed end in its bytes, if one has.
+abbrev pub EndsLines : List ℕ → List ℕ → Option CurrentParagraph → Type 0
+EndsLines ends buffer None = Unit {0}
+EndsLines ends buffer (Some at) = ends ≡ piece_ends (slice_range buffer at.from at.to)
+
 -- What judging a paragraph that has passed makes of a reader: it is the current one, or one of its
 -- lines is refused, or memory ran out. Where none has passed nothing is done.
 abbrev pub JudgesPassed : State → Option Paragraph → Result Bool Fault → State → Type 0
@@ -86,6 +93,10 @@ lines_to_judge = record {
   first = omega arith;
   numbered = omega arith;
 }
+
+ends_of_lines : EndsLines [] (codes "a") None
+    × EndsLines (1 ∷ 3 ∷ []) (codes "\nb\nc\n") (Some (record { from = 1; to = 4; first_line = 2 }))
+ends_of_lines = (tt, refl)
 
 -- a fault of an answer is that of the text; none has passed at the end
 answers_say : (text passed : List ℕ) (new : State) (left : Option (List ℕ))

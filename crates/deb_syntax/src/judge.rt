@@ -14,7 +14,6 @@ ghost use Rattle.deb_syntax.specs.FieldSpans.{begun_fields, fields_at, lies_with
 
 use crate::field_name::{is_name, name_bytes};
 use crate::field_span::FieldSpan;
-use crate::newline::line_ends;
 use crate::seen_names::{Names, add};
 use deb_base::{Code, Fault, FieldId, NameAtFront, Refusal, begins_with_blank};
 use memchr::memchr;
@@ -38,36 +37,16 @@ struct Line {
 /// Finds where the fields of a paragraph are, or the first refusal of one of its lines (Debian
 /// Policy 5.1; deb822(5), "Syntax").
 ///
-/// `text` is the paragraph's lines with a newline between two of them, and `first_line` is the
-/// number of the first. After Ok `spans` holds the spans of the fields in the text, and no others;
-/// after an error it may hold anything. `ends` is room for where the lines end.
+/// `text` is the paragraph's lines with a newline between two of them, `ends` is where each of them
+/// ends in it, and `first_line` is the number of the first. After Ok `spans` holds the spans of
+/// the fields in the text, and no others; after an error it may hold anything.
 ///
 /// Refused: a line isn't UTF-8 (`NotUtf8`), begins an armoured message (`Armour`) or a comment
 /// (`Comment`), is a continuation line without a field above it (`StrayContinuation`), has no colon
 /// (`NoColon`), or no name before its colon (`BadFieldName`) or one that stood before
-/// (`DuplicateField`). Memory: a growth of `spans`, of `ends`, or of the set of names, was refused.
-pub(crate) fn judge(
-    alloc: Global,
-    text: &[u8],
-    ends: &mut Vec<u32>,
-    first_line: u64,
-    spans: &mut Vec<FieldSpan>,
-) -> Result<(), Fault>
-    requires small { length text.now < 2 ^ 32 }
-    requires lines { first_line + length (pieces_of text.now) ≤ 2 ^ 32 }
-    ensures ok { OnOk result
-        (judged first_line (pieces_of text.now) ≡ Ok (fields_at text.now spans.new.items)) }
-    ensures within { OnOk result (IsTrue (list_all (lies_within text.now)
-        spans.new.items)) }
-    ensures fault { IfErr result (IsFaultOf (judged first_line (pieces_of text.now))) }
-{
-    line_ends(text, ends)?;
-    judge_lines(alloc, text, ends.as_slice(), first_line, spans)
-}
-
-/// The same, where each line ends at one of `ends`.
+/// (`DuplicateField`). Memory: a growth of `spans`, or of the set of names, was refused.
 #[tactic(auto, using(crate::proofs::Judgements::judging))]
-fn judge_lines(
+pub(crate) fn judge(
     alloc: Global,
     text: &[u8],
     ends: &[u32],

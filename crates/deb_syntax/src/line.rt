@@ -1,15 +1,15 @@
 //! Reads the lines of a file one after another, where those of a paragraph are kept (Debian Policy
 //! 5.1).
 
-ghost use Rattle.std.specs.Prelude.{◌≡◌, ◌+◌, ◌<◌, ◌≤◌, ◌^◌, ◌++◌, ℕ, List, length, drop, IfOk, IfErr, IsTrue};
-ghost use Rattle.deb_base.specs.Bodies.{is_blank, file_limit};
+ghost use Rattle.std.specs.Prelude.{◌≡◌, ◌+◌, ◌<◌, ◌≤◌, ◌^◌, ◌++◌, ℕ, List, length, drop, IfOk, IfErr, IfSome, IfNone, IsTrue};
+ghost use Rattle.deb_base.specs.Bodies.{HasNoNewline, is_blank, file_limit};
 ghost use Rattle.deb_base.specs.Devices.{read_failures_after};
 ghost use Rattle.deb_base.specs.Reading.{IsMemoryOrRead, piece_limit};
 ghost use Rattle.deb_syntax.specs.Cursors.{cursor_state, had, Takes};
-ghost use Rattle.deb_syntax.specs.NextLines.{Describes, DropsLong, IsEndedLine, IsNear, IsNextLine, KeepsCounts};
+ghost use Rattle.deb_syntax.specs.NextLines.{Describes, DropsLong, IsEndedLine, IsNear, IsNewline, IsNextLine, KeepsCounts};
 
 use crate::file_cursor::{End, FileCursor};
-use crate::newline::newline_from;
+use crate::newline::first_newline;
 use deb_base::{Fault, PARAGRAPH_LIMIT, Source, begins_with_blank, is_only_blanks};
 
 /// The line after the bytes that are kept.
@@ -112,6 +112,17 @@ pub(crate) fn next_line<R: Source>(
         seen = cursor.unread().len();
         cursor.fill(reader)?;
     }
+}
+
+/// Where the first newline is from `seen` on.
+#[inline(always)]
+fn newline_from(bytes: &[u8], seen: usize) -> Option<usize>
+    requires { seen ≤ length bytes.now }
+    ensures found { IfSome result (λ end. IsNewline bytes.now seen end) }
+    ensures none { IfNone result (HasNoNewline (drop seen bytes.now)) }
+{
+    let more = first_newline(&bytes[seen..])?;
+    Some(seen + more)
 }
 
 /// What a line is that ends with these bytes, those of it that are unread, and has a newline of so

@@ -1,14 +1,11 @@
 //! Finds line ends, most of which are near.
 
-ghost use Rattle.std.specs.Prelude.{◌≡◌, ◌+◌, ◌<◌, ◌≤◌, ◌==◌, ◌^◌, ℕ, false, length, drop, slice_index, if◌then◌else◌, IfSome, IfNone, OnOk};
+ghost use Rattle.std.specs.Prelude.{◌≡◌, ◌+◌, ◌<◌, ◌≤◌, ◌==◌, ℕ, false, length, slice_index, if◌then◌else◌};
 ghost use Rattle.std.specs.Int.{trailing_zeros, w64};
 ghost use Rattle.memchr.specs.Find.{IsFirstByte, is_byte};
-ghost use Rattle.deb_base.specs.Bodies.{HasNoNewline, newline};
-ghost use Rattle.deb_syntax.specs.LineEnds.{piece_ends};
-ghost use Rattle.deb_syntax.specs.NextLines.{IsNewline};
+ghost use Rattle.deb_base.specs.Bodies.{newline};
 
 use memchr::memchr;
-use std::alloc::AllocError;
 use std::simd::prelude::*;
 
 /// How many bytes are looked at in one step.
@@ -17,17 +14,6 @@ const LANES: usize = 32;
 /// How many bytes are looked at in such steps. The search that is fast in long texts takes longer
 /// to begin.
 const NEAR: usize = 128;
-
-/// Where the first newline is from `seen` on.
-#[inline(always)]
-pub(crate) fn newline_from(bytes: &[u8], seen: usize) -> Option<usize>
-    requires { seen ≤ length bytes.now }
-    ensures found { IfSome result (λ end. IsNewline bytes.now seen end) }
-    ensures none { IfNone result (HasNoNewline (drop seen bytes.now)) }
-{
-    let more = first_newline(&bytes[seen..])?;
-    Some(seen + more)
-}
 
 /// The offset of the first newline.
 #[inline(always)]
@@ -73,19 +59,4 @@ fn first_set(marks: u64) -> usize
     } else {
         marks.trailing_zeros() as usize
     }
-}
-
-/// Puts into `ends` where each line of the text ends, without its newline.
-pub(crate) fn line_ends(text: &[u8], ends: &mut Vec<u32>) -> Result<(), AllocError>
-    requires { length text.now < 2 ^ 32 }
-    ensures { OnOk result (ends.new.items ≡ piece_ends text.now) }
-{
-    ends.clear();
-    let mut start = 0;
-    while let Some(end) = newline_from(text, start) {
-        ends.push(end as u32)?;
-        start = end + 1;
-    }
-    ends.push(text.len() as u32)?;
-    Ok(())
 }

@@ -8,7 +8,7 @@ ghost use Rattle.deb_syntax.specs.NextLines.{IsNear};
 ghost use Rattle.deb_syntax.specs.Cursors.{cursor_state, buffer_of, had, Takes};
 ghost use Rattle.deb_syntax.specs.Answers.{next_answer};
 ghost use Rattle.deb_syntax.specs.Judged.{lines_standing, IsRefusalOfLength};
-ghost use Rattle.deb_syntax.specs.Passing.{CanBeJudged};
+ghost use Rattle.deb_syntax.specs.Passing.{CanBeJudged, EndsLines};
 ghost use Rattle.deb_syntax.specs.Resuming.{AnswersFault, HasPassed, is_resumable};
 ghost use Rattle.deb_syntax.specs.CurrentParagraphs.{HidesLong, stands_within};
 ghost use Rattle.deb_base.specs.Devices.{read_failures_after};
@@ -395,6 +395,7 @@ impl Paragraphs {
         ensures found { IfOk result (λ found. IsTrue found ↔ IsSome (judged_last self.new)) }
         ensures none { IfErr result (λ _. judged_last self.new ≡ None) }
         ensures judgeable { IfSome (judged_last self.new) CanBeJudged }
+        ensures ends { EndsLines self.new.ends.items (buffer_of self.new.cursor) self.new.judged }
         ensures source_untouched { IsTrue (state_of self.old).ended ⊎ IsTrue
             (state_of self.old).finished
             → reader.new ≡ reader.old }
@@ -418,6 +419,7 @@ impl Paragraphs {
     /// current one.
     fn judge_passed(&mut self) -> Result<bool, Fault>
         requires judgeable { IfSome (judged_last self.old) CanBeJudged }
+        requires ends { EndsLines self.old.ends.items (buffer_of self.old.cursor) self.old.judged }
         requires none { (state_of self.old).current ≡ None }
         ensures judges { JudgesPassed (state_of self.old) (judged_last self.old) result
             (state_of self.new) }
@@ -428,7 +430,13 @@ impl Paragraphs {
         };
         let text = self.cursor.slice(at.from, at.to);
         let alloc = *self.spans.allocator();
-        match judge(alloc, text, &mut self.ends, at.first_line, &mut self.spans) {
+        match judge(
+            alloc,
+            text,
+            self.ends.as_slice(),
+            at.first_line,
+            &mut self.spans,
+        ) {
             Ok(()) => {
                 self.current = Some(at);
                 Ok(true)
@@ -503,6 +511,7 @@ impl Paragraphs {
             (λ refusal. next_answer text (passed_count passed) ≡ Err refusal)) }
         ensures found { OnOk result (IsSome (judged_last self.new)) }
         ensures judgeable { IfSome (judged_last self.new) CanBeJudged }
+        ensures ends { EndsLines self.new.ends.items (buffer_of self.new.cursor) self.new.judged }
         ensures unjudged { IfErr result (λ _. self.new.judged ≡ None) }
         ensures none { self.new.current ≡ None }
         ensures unfinished { self.new.finished ≡ false }
@@ -515,7 +524,7 @@ impl Paragraphs {
         ensures source_untouched { IsTrue (state_of self.old).ended → reader.new ≡ reader.old }
         ensures kept { self.new.fault ≡ self.old.fault }
     {
-        match pass_paragraph(&mut self.cursor, end, next, reader) {
+        match pass_paragraph(&mut self.cursor, end, next, reader, &mut self.ends) {
             Ok(paragraph) => {
                 self.judged = Some(paragraph);
                 Ok(())
@@ -529,18 +538,21 @@ impl Paragraphs {
     }
 }
 
-/// Finds the end of the paragraph that begins the unread bytes, and passes it.
+/// Finds the end of the paragraph that begins the unread bytes, and passes it. Then `ends` holds
+/// where its lines end.
 fn pass_paragraph<R: Source>(
     cursor: &mut FileCursor,
     end: usize,
     next: usize,
     reader: &mut R,
+    ends: &mut Vec<u32>,
 ) -> Result<CurrentParagraph, Fault>
     requires line { KeepsLine end next (cursor_state cursor.old) }
     ensures stands { IfOk result (λ at. IsTrue (stands_within (buffer_of cursor.new) []
         (Some at))) }
     ensures judgeable { IfOk result (λ at. CanBeJudged (lines_standing (buffer_of cursor.new)
         at)) }
+    ensures ends { IfOk result (λ at. EndsLines ends.new.items (buffer_of cursor.new) (Some at)) }
     ensures near { OnOk result (length (cursor_state cursor.new).unread ≤ piece_limit) }
     ensures passes { (text : List ℕ) → At text [] (cursor_state cursor.old) (R.left reader.old)
         → IfOk result (λ at. HasPassed text (passed_of text (cursor_state cursor.old))
@@ -555,7 +567,7 @@ fn pass_paragraph<R: Source>(
         ≡ read_failures_after (R.failures reader.old) result }
     ensures source_untouched { IsTrue (cursor_state cursor.old).ended → reader.new ≡ reader.old }
 {
-    let extent = paragraph_extent(cursor, end, next, reader)?;
+    let extent = paragraph_extent(cursor, end, next, reader, ends)?;
     let (from, first_line) = (cursor.start(), cursor.lines() + 1);
     cursor.consume(extent.skip, extent.bytes, extent.lines);
     Ok(CurrentParagraph {

@@ -1,11 +1,12 @@
-use Rattle.deb_syntax.proofs.Common.{◌≡◌, ◌-◌, ℕ, List, [], IsTrue, At, SameCounts, cursor_state, had, paragraph_limit, Takes}
-use Rattle.deb_syntax.specs.Ahead.{AreKept}
+use Rattle.deb_syntax.proofs.Common.{◌≡◌, ◌-◌, ◌++◌, ◌∷◌, ℕ, List, [], take, IsTrue, At, KeepsLines, SameCounts, cursor_state, had, paragraph_limit, Takes}
+use Rattle.deb_syntax.specs.LineEnds.{line_ends}
 use Rattle.deb_syntax.proofs.ending.paragraph_extent.Given as goal
 
--- nothing has passed, these lines are kept, and no read has failed
+-- nothing has passed, these lines are kept, the ends of those before the last are listed, and no read has failed
 abbrev pub invariant-walk : goal.invariant-walk
 invariant-walk g l = record {
-  kept : AreKept l.lines (cursor_state l.cursor);
+  keeps : KeepsLines l.last l.kept (cursor_state l.cursor);
+  ends : l.ends.items ++ l.last ∷ [] ≡ line_ends (take l.kept (cursor_state l.cursor).unread);
   same : SameCounts (cursor_state l.fn.cursor) (cursor_state l.cursor);
   stays : (text : List ℕ) → At text [] (cursor_state l.fn.cursor) (g.R.Source.left l.fn.reader) → At text [] (cursor_state l.cursor) (g.R.Source.left l.reader);
   takes : Takes (had (cursor_state l.fn.cursor)) (g.R.Source.left l.fn.reader) (had (cursor_state l.cursor)) (g.R.Source.left l.reader);
@@ -14,4 +15,4 @@ invariant-walk g l = record {
 }
 
 abbrev pub decreases-walk : goal.decreases-walk
-decreases-walk g l = paragraph_limit - l.lines.next
+decreases-walk g l = paragraph_limit - l.kept

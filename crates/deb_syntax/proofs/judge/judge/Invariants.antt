@@ -1,7 +1,7 @@
 use Rattle.deb_syntax.proofs.Common.{◌≡◌, ◌+◌, ◌-◌, ◌<◌, ◌≤◌, length, drop, slice_index, Ok, IsUtf8, AllByRecursion, newline, pieces_of, judged, lines_judged, begun_fields, StandsAt}
 use Rattle.deb_syntax.specs.LineEnds.{ends_from}
 use Rattle.deb_syntax.proofs.LineEnds.{pieces_from}
-use Rattle.deb_syntax.proofs.judge.judge_lines.Given as goal
+use Rattle.deb_syntax.proofs.judge.judge.Given as goal
 
 -- the lines before `start` are judged, what is judged of the whole is what follows from there, and the lines from there on end at the ends that are left
 abbrev pub invariant-loop-end : goal.invariant-loop-end
