@@ -83,7 +83,7 @@ table_output names begun selection (values ∷ meaning) (p ∷ ps) enough = go (
 
 -- ---- its lines
 
-newlines-append : (a b : List ℕ) → newlines_in (a ++ b) ≡ newlines_in a + newlines_in b
+pub newlines-append : (a b : List ℕ) → newlines_in (a ++ b) ≡ newlines_in a + newlines_in b
 newlines-append [] b = omega arith
 newlines-append (x ∷ a) b = go (x == newline) (newlines-append a b)
   where

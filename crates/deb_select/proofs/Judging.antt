@@ -163,6 +163,11 @@ one-judged conditions values done field left now none counts passes so_far =
           (hold-either p q (λ c. holds c values) conditions so_far.hold passes);
     }
 
+-- the first fields, if all that conditions ask for are among them
+pub early-judged : (conditions : List ConditionMeaning) (values : ValueEntries ValueMeaning) (done : List Field) (left : ℕ) → left ≡ 0 → JudgedSo conditions values done left → list_all (λ condition. holds condition values) conditions ≡ true
+early-judged conditions values done left none so_far =
+    all-hold (is_named done) (λ c. holds c values) conditions (omega (arith, none, so_far.counted)) so_far.hold
+
 -- all fields
 pub all-judged : (conditions : List ConditionMeaning) (values : ValueEntries ValueMeaning) (fields : List Field) (left : ℕ) → ((name : List ℕ) → has_name name fields ≡ false → value_under name values ≡ None) → JudgedSo conditions values fields left
     → (left == 0) ≡ list_all (λ condition. holds condition values) conditions

@@ -3,6 +3,11 @@ pub mod Spelled
 pub mod TestMaps
 pub mod Asked
 pub mod Collected
+pub mod Pushed
+pub mod ExactNumbers
+pub mod JsonWritten
+pub mod JsonTrees
+pub mod JsonReading
 pub mod FieldLines
 pub mod TableCells
 pub mod KeptTests
@@ -12,6 +17,7 @@ pub mod Selected
 pub mod WrittenTexts
 pub mod Outputs
 pub mod FormOutputs
+pub mod JsonNewlines
 pub mod Selecting
 pub mod Putting
 pub mod ReadTexts
@@ -20,3 +26,6 @@ pub mod SelectedLists
 pub mod WrittenFiles
 pub mod MovedParagraphs
 pub mod FittingParagraphs
+pub mod FirstLines
+pub mod PlainBytes
+pub mod NamesInTexts

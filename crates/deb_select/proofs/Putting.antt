@@ -26,6 +26,13 @@ own_lines text p last is shown = sym (some_same (shown ∙ ap (option_map (λ p.
     some_same : {X : Type 0} {a b : X} → Some a ≡ Some b → a ≡ b
     some_same same = cc
 
+-- and the number of its first line is that of its view
+pub own_first : (shown seen : Seen) (p : Paragraph) → Some shown ≡ Some seen → seen.first ≡ p.first → shown.first ≡ p.first
+own_first shown seen p same first = ap (λ s. s.first) some_same ∙ first
+  where
+    some_same : shown ≡ seen
+    some_same = cc
+
 pub piece_text : (begun : Bool) (text : List ℕ) (p : Paragraph) → p.lines ≡ pieces_of text → gap begun ++ (text ++ newline ∷ []) ≡ gap begun ++ with_newlines p.lines
 piece_text begun text p lines = ap (λ l. gap begun ++ l) (sym (ended_pieces text) ∙ ap with_newlines (sym lines))
 

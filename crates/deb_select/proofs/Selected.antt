@@ -19,11 +19,15 @@ use Rattle.deb_select.specs.Selections.{HasConditions, asks_for, conditions_on, 
 use Rattle.deb_select.specs.declared.selection.Selection.{Selection}
 use Rattle.deb_select.specs.declared.test.Test.{Test}
 use Rattle.deb_select.proofs.FieldValues.{apart-before, field-value, no-value}
-use Rattle.deb_select.proofs.Judging.{JudgedSo, all-judged, as-many, none-on, one-fails, one-judged, tests-hold}
+use Rattle.deb_select.proofs.Judging.{JudgedSo, all-judged, early-judged, as-many, none-on, one-fails, one-judged, tests-hold}
 
 turned-false : (negated : Bool) → turned negated false ≡ negated
 turned-false true = refl
 turned-false false = refl
+
+turned-true : (negated : Bool) → not negated ≡ turned negated true
+turned-true true = refl
+turned-true false = refl
 
 turned-other : (negated holds : Bool) → not (beq negated holds) ≡ turned negated holds
 turned-other true true = refl
@@ -83,3 +87,8 @@ module _ (doc : Doc) (seen : Seen) (fields : are_fields seen.fields ≡ true) (m
   judged-all left so_far =
       turned-other selection.negated (left == 0) ∙ ap (λ n. turned n (left == 0)) has.negated
       ∙ ap (turned meaning.negated) (all-judged meaning.conditions values seen.fields left (no-value doc seen fields values are) so_far)
+
+  pub judged-early : (done : List Field) (left : ℕ) → left ≡ 0 → Judged done left → not selection.negated ≡ selects meaning values
+  judged-early done left none so_far =
+      turned-true selection.negated ∙ ap (λ n. turned n true) has.negated
+      ∙ ap (turned meaning.negated) (sym (early-judged meaning.conditions values done left none so_far))

@@ -3,15 +3,17 @@ use Rattle.std.proofs.Common.{◌≡◌, ℕ, zero, suc, ◌+◌, ◌≤◌, ◌
 use Rattle.std.proofs.lemmas.Bool.{le-leb}
 use Rattle.std.specs.Io.KnownBytes.{Appends}
 use Rattle.std.proofs.KnownBytes.{Appends-nil, Appends-trans}
-use Rattle.deb_base.specs.Bodies.{file_limit}
+use Rattle.deb_base.specs.Bodies.{file_limit, paragraph_limit}
 use Rattle.deb_base.specs.Devices.{AppendsFront}
-use Rattle.deb_base.specs.declared.code.Code.TheVariants.{TooManyParagraphs}
+use Rattle.deb_base.specs.declared.code.Code.TheVariants.{FileTooLong, TooManyParagraphs}
 use Rattle.deb_base.specs.declared.doc.Doc.{Doc}
 use Rattle.deb_base.specs.declared.fault.Fault.{Fault}
 use Rattle.deb_base.specs.declared.fault.Fault.TheVariants.{Refused, Memory, Read, Write}
 use Rattle.deb_base.specs.declared.refusal.Refusal.{Refusal}
 use Rattle.deb_base.proofs.Writes.{AppendsFront-then}
-use Rattle.deb_syntax.specs.Answers.{Seen, line_beyond, next_answer, paragraphs_within, whole_lines}
+use Rattle.deb_syntax.specs.Answers.{Seen, answer_of_first, is_line, line_beyond, line_too_long, next_answer, paragraph_answer, paragraphs_within, seen_from, whole_lines}
+use Rattle.deb_syntax.specs.Fields.{Field}
+use Rattle.deb_syntax.specs.Judging.{judged}
 use Rattle.deb_syntax.specs.Judged.{judged_behind, judged_by}
 use Rattle.deb_syntax.specs.Lines.{Paragraph, paragraphs_of}
 use Rattle.deb_syntax.specs.Meaning.{Entries}
@@ -64,22 +66,51 @@ follows doc text answered entries next = go (drop (length answered) (paragraphs_
     go [] is answer = absurd (never_behind_all (rules_of doc) (line_beyond 1 file_limit text) (line_behind text) (passed_in answered) entries answer)
     go (p ∷ rest) is answer = record { p = p; at = at_front (paragraphs_within text) (length answered) p rest is; may = few ((rules_of doc).single && has_some (passed_in answered)) p.first _ answer }
 
+-- the number of its first line
+first_from : (n : ℕ) (r : Result (List Field) Refusal) (seen : Seen) → seen_from n r ≡ Ok (Some seen) → seen.first ≡ n
+first_from n (Ok fields) seen is = let same : record { first = n; fields = fields } ≡ seen = cc in sym (ap (λ s. s.first) same)
+first_from n (Err refusal) seen is = absurd (cc)
+
+first_short : (t : Bool) (n : ℕ) (line : ℕ) (r : Result (List Field) Refusal) (seen : Seen) → cond t (Err (record { code = FileTooLong; line = line })) (seen_from n r) ≡ Ok (Some seen) → seen.first ≡ n
+first_short true n line r seen is = absurd (cc)
+first_short false n line r seen is = first_from n r seen is
+
+first_of_answer : (long beyond : Option ℕ) (p : Paragraph) (seen : Seen) → paragraph_answer long beyond p ≡ Ok (Some seen) → seen.first ≡ p.first
+first_of_answer (Some line) beyond p seen is = absurd (cc)
+first_of_answer None beyond p seen is = first_short (is_line (p.first + length p.lines) beyond) p.first (p.first + length p.lines) (judged p.first p.lines) seen is
+
+first_of_first : (beyond : Option ℕ) (p : Paragraph) (more : List Paragraph) (seen : Seen) → answer_of_first beyond (p ∷ more) ≡ Ok (Some seen) → seen.first ≡ p.first
+first_of_first None p more seen is = first_of_answer (line_too_long p.first paragraph_limit p.lines) None p seen is
+first_of_first (Some line) p more seen is = first_of_answer (line_too_long p.first paragraph_limit p.lines) (Some line) p seen is
+
+first_answered : (text : List ℕ) (count : ℕ) (seen : Seen) → next_answer text count ≡ Ok (Some seen) → (p : Paragraph) → slice_get (paragraphs_within text) count ≡ Some p → seen.first ≡ p.first
+first_answered text count seen answer p at = go (line_beyond 1 file_limit text) (drop count (paragraphs_within text)) refl answer
+  where
+    go : (beyond : Option ℕ) (left : List Paragraph) → drop count (paragraphs_within text) ≡ left → answer_of_first beyond left ≡ Ok (Some seen) → seen.first ≡ p.first
+    go None [] is answer = absurd (cc)
+    go (Some line) [] is answer = absurd (cc)
+    go beyond (q ∷ rest) is answer =
+        let at_q = at_front (paragraphs_within text) count q rest is in
+        let same : q ≡ p = cc in
+        first_of_first beyond q rest seen answer ∙ ap (λ x. x.first) same
+
 -- its lines are those that were judged
 pub found_lines : (doc : Doc) (text : List ℕ) (answered : List Answered) (entries : Entries) (seen : Seen) (last : Option Paragraph) → next_given (rules_of doc) text answered ≡ Ok (Some entries) → next_answer text (length answered) ≡ Ok (Some seen) → last ≡ lines_given (rules_of doc) text answered
-    → (p : Paragraph) × (slice_get (paragraphs_within text) (length answered) ≡ Some p) × (last ≡ Some p)
+    → (p : Paragraph) × (slice_get (paragraphs_within text) (length answered) ≡ Some p) × (last ≡ Some p) × (seen.first ≡ p.first)
 found_lines doc text answered entries seen last next answer is =
     let found = follows doc text answered entries next in (
       found.p,
       found.at,
       is ∙ ap (λ t. cond t None (judged_behind text (length answered))) found.may
           ∙ ap (λ a. judged_by a (slice_get (paragraphs_within text) (length answered))) answer ∙ found.at,
+      first_answered text (length answered) seen answer found.p found.at,
     )
 
 -- the same of the next paragraph that a reader gives
 pub next_found : {doc : Doc} {source : Shown} {Holds : List Seen → Type 0} {checked : Checked} {now : Shown} {count : ℕ} (so_far : ShownSoFar doc source Holds checked now count) (given : Seen) {later : CheckedMoment}
     → ChecksOn (doc_read checked) (checked_moment checked now.bytes now.failures) (Ok (Some (passing_seen (doc_read checked) given))) later → (last : Option Paragraph)
     → IfNone (checked_state checked).fault ((text : List ℕ) (answered : List Answered) → FitsChecked (doc_read checked) text answered (checked_state checked) now.bytes → last ≡ lines_given (rules_of (doc_read checked)) text answered)
-    → (text : List ℕ) → source.bytes ≡ Some text → (p : Paragraph) × (slice_get (paragraphs_within text) (length so_far.given) ≡ Some p) × (last ≡ Some p)
+    → (text : List ℕ) → source.bytes ≡ Some text → (p : Paragraph) × (slice_get (paragraphs_within text) (length so_far.given) ≡ Some p) × (last ≡ Some p) × (given.first ≡ p.first)
 next_found {doc} {checked = checked} {now = now} so_far given checks last lines text told =
     let has = so_far.files text told in
     let answered = answered_seen doc so_far.given in
@@ -87,7 +118,7 @@ next_found {doc} {checked = checked} {now = now} so_far given checks last lines 
     let clause = subst (λ d. (text : List ℕ) (answered : List Answered) → FitsChecked d text answered (checked_state checked) now.bytes → last ≡ lines_given (rules_of d) text answered) so_far.reads
     (without_error (checked_state checked).fault _ so_far.sound lines) in
     let found = found_lines doc text answered gives.entries given last gives.answer gives.seen (clause text answered has.fits) in
-    (found.0, subst (λ n. slice_get (paragraphs_within text) n ≡ Some found.0) (answered-length doc so_far.given) found.1, found.2)
+    (found.0, subst (λ n. slice_get (paragraphs_within text) n ≡ Some found.0) (answered-length doc so_far.given) found.1, found.2, found.3)
 
 -- a file that isn't too long has its paragraphs within the limit
 pub short_within : (text : List ℕ) → length text ≤ file_limit → paragraphs_within text ≡ paragraphs_of text

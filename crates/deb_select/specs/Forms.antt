@@ -8,21 +8,24 @@ use Rattle.deb_control.specs.Documents.{Meaning}
 use Rattle.deb_control.specs.ValueFiles.{ValueEntries}
 use Rattle.deb_select.specs.Conditions.{SelectionMeaning, selects}
 use Rattle.deb_select.specs.Fields.{fields_lines}
+use Rattle.deb_select.specs.JsonTokens.{json_line}
 use Rattle.deb_select.specs.Tables.{row}
 use Rattle.deb_select.specs.Written.{gap}
 use Rattle.deb_select.specs.declared.form.Form.{Form}
-use Rattle.deb_select.specs.declared.form.Form.TheVariants.{Paragraphs, Fields, Table}
+use Rattle.deb_select.specs.declared.form.Form.TheVariants.{Paragraphs, Fields, Table, Json}
 
--- whole paragraphs, some fields of each, or a line of a table for each
+-- whole paragraphs, some fields of each, or a line of a table or of JSON for each
 pub data FormMeaning : Type 0 where
   WholeParagraphs : FormMeaning
   TheseFields : List (List ℕ) → FormMeaning
   TableOf : List (List ℕ) → FormMeaning
+  JsonLines : FormMeaning
 
 abbrev pub form_shown : Form → FormMeaning
 form_shown Paragraphs = WholeParagraphs
 form_shown (Fields names) = TheseFields (map (λ name. name.items) names.items)
 form_shown (Table names) = TableOf (map (λ name. name.items) names.items)
+form_shown Json = JsonLines
 
 -- a text after what separates it from those before it, if it isn't empty
 abbrev pub after_gap : Bool → List ℕ → List ℕ
@@ -40,6 +43,7 @@ piece WholeParagraphs begun values p = gap begun ++ with_newlines p.lines
 piece (TheseFields names) begun values p =
     after_gap begun (with_newlines (fields_lines names p.lines))
 piece (TableOf names) begun values p = row names values ++ newline ∷ []
+piece JsonLines begun values p = json_line p.first values
 
 -- and whether the next one is separated from it
 abbrev pub begins : FormMeaning → Bool → Paragraph → Bool
@@ -47,6 +51,7 @@ begins WholeParagraphs begun p = true
 begins (TheseFields names) begun p =
     begun || has_bytes (with_newlines (fields_lines names p.lines))
 begins (TableOf names) begun p = begun
+begins JsonLines begun p = begun
 
 -- the same of a paragraph that is selected or isn't
 abbrev pub piece_if : FormMeaning → Bool → SelectionMeaning → ValueEntries ValueMeaning → Paragraph

@@ -43,8 +43,8 @@ version_json (Some version) = Some (string (version_text version))
 
 abbrev pub source_json : SourceMeaning → Data
 source_json source =
-    object (put (codes "name") (string source.name)
-    (with_member (codes "version") (version_json source.version) no_members))
+    object (with_member (codes "version") (version_json source.version)
+    (put (codes "name") (string source.name) no_members))
 
 -- the parts of an alternative, those that it has. Architectures and the items of restrictions have
 -- their `!`.
@@ -55,8 +55,8 @@ qualifier_json (Some qualifier) = Some (string qualifier)
 abbrev pub bound_json : Option (Op × VersionMeaning) → Members → Members
 bound_json None members = members
 bound_json (Some bound) members =
-    put (codes "operator") (string (operator_text bound.0))
-    (put (codes "version") (string (version_text bound.1)) members)
+    put (codes "version") (string (version_text bound.1))
+    (put (codes "operator") (string (operator_text bound.0)) members)
 
 abbrev pub architectures_json : Option (Bool × List (List ℕ)) → Option Data
 architectures_json None = None
@@ -102,22 +102,20 @@ value_json (FoldedMeans words) = array (strings words)
 value_json (RelationMeans relation) = array (relation_json relation)
 value_json (TextMeans text) = string text
 
--- the fields of a paragraph, by the canonical spellings of their names
-abbrev pub fields_json : ValueEntries ValueMeaning → Members
-fields_json [] = no_members
-fields_json (entry ∷ values) = put entry.0 (value_json entry.1) (fields_json values)
+-- the fields of a paragraph, by the canonical spellings of their names, put after others
+abbrev pub fields_json : Members → ValueEntries ValueMeaning → Members
+fields_json members [] = members
+fields_json members (entry ∷ values) =
+    fields_json (put entry.0 (value_json entry.1) members) values
 
--- a paragraph whose first line has this number, and its line of the output
+-- a paragraph whose first line has this number
 abbrev pub paragraph_json : ℕ → ValueEntries ValueMeaning → Data
 paragraph_json line values =
-    object (put (codes "line") (number_json line)
-    (put (codes "fields") (object (fields_json values)) no_members))
-
-abbrev pub json_line : ℕ → ValueEntries ValueMeaning → List ℕ
-json_line line values = compact_text (paragraph_json line values) ++ codes "\n"
+    object (put (codes "fields") (object (fields_json no_members values))
+    (put (codes "line") (number (unsigned line)) no_members))
 
 -- a relation whose first alternative has all parts
-abbrev depends : Relation
+abbrev pub depends : Relation
 depends =
     (record {
       name = codes "bb";
@@ -133,8 +131,8 @@ worked-numbers : (number_json_within 17 17 ≡ number (unsigned 17))
     × (number_json_within 17 18 ≡ string (codes "18"))
 worked-numbers = (refl, refl)
 
-worked-line : json_line 3 ((codes "Package", NameMeans (codes "aa")) ∷ [])
-    ≡ codes "{\"fields\":{\"Package\":\"aa\"},\"line\":3}\n"
+worked-line : compact_text (paragraph_json 3 ((codes "Package", NameMeans (codes "aa")) ∷ []))
+    ≡ codes "{\"fields\":{\"Package\":\"aa\"},\"line\":3}"
 unfolding serde_json_on_literals digits
 worked-line = refl
 
@@ -146,14 +144,14 @@ worked-relation : compact_text (value_json (RelationMeans depends))
 unfolding serde_json_on_literals
 worked-relation = refl
 
-worked-paragraph : json_line 1 (
+worked-paragraph : compact_text (paragraph_json 1 (
     (codes "Description", TextMeans (codes "a\"b\n c"))
     ∷ (codes "Size", NumberMeans 7)
     ∷ (
       codes "Source",
       SourceMeans (record { name = codes "ss"; version = Some (version_in (codes "0:2")) }),
-    ) ∷ [])
+    ) ∷ []))
     ≡ codes "{\"fields\":{\"Description\":\"a\\\"b\\n c\",\"Size\":7,"
-    ++ codes "\"Source\":{\"name\":\"ss\",\"version\":\"2\"}},\"line\":1}\n"
+    ++ codes "\"Source\":{\"name\":\"ss\",\"version\":\"2\"}},\"line\":1}"
 unfolding serde_json_on_literals digits
 worked-paragraph = refl

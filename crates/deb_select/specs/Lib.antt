@@ -2,11 +2,14 @@ pub mod Conditions
 pub mod Grammar
 pub mod Kept
 pub mod Reads
+pub mod Rests
 pub mod Selections
 pub mod Written
 pub mod Fields
 pub mod Tables
+pub mod JsonLines
+pub mod JsonTokens
 pub mod Forms
 pub mod Selecting
 pub mod Laws
-pub mod JsonLines
+pub mod JsonLaws

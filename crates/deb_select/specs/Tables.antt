@@ -1,5 +1,5 @@
 -- The table of some fields of the paragraphs that are selected: this project's own.
-use Rattle.std.specs.Prelude.{◌≡◌, ℕ, ◌-◌, ◌/◌, ◌%◌, ◌+◌, ◌==◌, ◌||◌, Bool, true, false, cond, is_some, nat_lt, List, [], ◌∷◌, ◌++◌, Option, None, Some, codes, refl}
+use Rattle.std.specs.Prelude.{◌≡◌, ℕ, ◌-◌, ◌/◌, ◌%◌, ◌+◌, ◌==◌, ◌||◌, ◌&&◌, not, Bool, true, false, cond, is_some, nat_lt, List, [], ◌∷◌, ◌++◌, Option, None, Some, codes, refl}
 use Rattle.std.specs.List.{flat_map, list_all}
 use Rattle.deb_version.specs.Places.{version_in}
 use Rattle.deb_field.specs.Values.{ValueMeaning, NameMeans, NumberMeans, TextMeans, VersionMeans, value_text}
@@ -21,6 +21,10 @@ cell_byte b =
     (cond (b == 92) (codes "\\\\")
     (cond (nat_lt b 32 || (b == 127))
     (92 ∷ 120 ∷ hex_digit (b / 16) ∷ hex_digit (b % 16) ∷ []) (b ∷ []))))
+
+-- whether a byte in a cell is written as it is
+abbrev pub is_plain : ℕ → Bool
+is_plain b = not (nat_lt b 32) && (not (b == 92) && not (b == 127))
 
 -- the canonical text of a value, and nothing of a field that is absent
 abbrev pub cell : Option ValueMeaning → List ℕ
@@ -68,6 +72,10 @@ worked-table : (table (codes "package" ∷ codes "Version" ∷ codes "Size" ∷ 
     × (table (codes "Description" ∷ []) (aa ∷ bb ∷ []) ≡ codes "a\\tb\\\\\\n c\n\n")
     × (flat_map cell_byte (0 ∷ 31 ∷ 32 ∷ 127 ∷ 195 ∷ 188 ∷ []) ≡ codes "\\x00\\x1f \\x7f" ++ 195 ∷ 188 ∷ [])
 worked-table = (refl, refl, refl)
+
+worked-plain : (is_plain 31 ≡ false) × (is_plain 32 ≡ true) × (is_plain 92 ≡ false)
+    × (is_plain 127 ≡ false) × (is_plain 195 ≡ true)
+worked-plain = (refl, refl, refl, refl, refl)
 
 worked-full : (is_full (codes "Package" ∷ []) (record { conditions = []; negated = false })
     (aa ∷ bb ∷ []) ≡ true)

@@ -1,14 +1,14 @@
 //! The lines of a table.
 
-ghost use Rattle.std.specs.Prelude.{◌≡◌, ◌<◌, ◌++◌, ◌∷◌, [], IfOk, OnOk, Option, Some, map};
-ghost use Rattle.std.specs.List.{flat_map};
+ghost use Rattle.std.specs.Prelude.{◌≡◌, ◌<◌, ◌≤◌, ◌++◌, ◌∷◌, [], IfOk, OnOk, Option, Some, length, map};
+ghost use Rattle.std.specs.List.{flat_map, list_all, prefix_len};
 ghost use Rattle.deb_base.specs.Bodies.{newline};
 ghost use Rattle.deb_control.specs.CheckedStates.{doc_judged, passing_judged};
 ghost use Rattle.deb_control.specs.FieldWords.{value_under};
 ghost use Rattle.deb_control.specs.Paragraphs.{AreValuesOf};
 ghost use Rattle.deb_control.specs.ValueFiles.{ValueEntries};
 ghost use Rattle.deb_field.specs.Values.{ValueMeaning};
-ghost use Rattle.deb_select.specs.Tables.{cell, cell_byte, hex_digit, more_cells, row};
+ghost use Rattle.deb_select.specs.Tables.{cell, cell_byte, hex_digit, is_plain, more_cells, row};
 
 use crate::shown_value::text_of;
 use deb_control::CheckedView;
@@ -79,10 +79,54 @@ fn push_cell(
 fn push_text(out: &mut Vec<u8>, text: &[u8]) -> Result<(), AllocError>
     ensures { OnOk result (out.new.items ≡ out.old.items ++ flat_map cell_byte text.now) }
 {
-    for byte in text {
-        push_byte(out, *byte)?;
+    if is_all_plain(text) {
+        out.extend_from_slice(text)?;
+        return Ok(());
+    }
+    push_escaped(out, text)
+}
+
+/// Appends a text of which some bytes aren't written as they are.
+fn push_escaped(out: &mut Vec<u8>, text: &[u8]) -> Result<(), AllocError>
+    ensures { OnOk result (out.new.items ≡ out.old.items ++ flat_map cell_byte text.now) }
+{
+    let mut rest = text;
+    while !rest.is_empty() {
+        let plain = plain_len(rest);
+        out.extend_from_slice(&rest[..plain])?;
+        if plain == rest.len() {
+            return Ok(());
+        }
+        push_byte(out, rest[plain])?;
+        rest = &rest[plain + 1..];
     }
     Ok(())
+}
+
+/// Whether all bytes are written as they are. Without an early exit this becomes vector code.
+fn is_all_plain(text: &[u8]) -> bool
+    ensures { result ≡ list_all is_plain text.now }
+{
+    let mut plain = true;
+    for byte in text {
+        plain &= is_plain(*byte);
+    }
+    plain
+}
+
+/// How many bytes come before the first one that isn't written as it is.
+fn plain_len(text: &[u8]) -> usize
+    ensures value { result ≡ prefix_len is_plain text.now }
+    ensures bound { result ≤ length text.now }
+{
+    text.iter().take_while(|byte| is_plain(**byte)).count()
+}
+
+/// Whether a byte is written as it is.
+fn is_plain(byte: u8) -> bool
+    ensures { result ≡ is_plain byte }
+{
+    byte >= 32 && byte != b'\\' && byte != 127
 }
 
 /// Appends a byte as it is in a cell.

@@ -1,13 +1,16 @@
 //! The lines of some fields of a paragraph.
 
-ghost use Rattle.std.specs.Prelude.{◌≡◌, ◌↔◌, ◌≤◌, ◌==◌, ◌++◌, ◌∷◌, [], IfOk, IsTrue, OnOk, length, map, not};
+ghost use Rattle.std.specs.Prelude.{◌≡◌, ◌↔◌, ◌≤◌, ◌<◌, ◌+◌, ◌==◌, ◌++◌, ◌∷◌, [], IfOk, IsTrue, OnOk, length, map, not};
 ghost use Rattle.std.specs.List.{before_first, position_or_len};
+ghost use Rattle.std.specs.Option.{option_map};
 ghost use Rattle.deb_base.specs.Bodies.{newline, pieces_of};
 ghost use Rattle.deb_base.specs.FieldNames.{colon};
 ghost use Rattle.deb_syntax.specs.Lines.{with_newlines};
 ghost use Rattle.deb_select.specs.Fields.{begins_field, continuations, field_lines, fields_lines};
+ghost use Rattle.deb_select.specs.Rests.{bytes_left, lines_left};
 
 use deb_base::{begins_with_blank, same_name};
+use memchr::memchr;
 use std::alloc::{AllocError, Global};
 
 /// Returns the lines of the fields with these names, in the order of the names, each ended by a
@@ -24,29 +27,21 @@ pub(crate) fn fields_text(
     ensures { IfOk result (λ out. out.items
         ≡ with_newlines (fields_lines (map (λ name. name.items) names.now) (pieces_of text.now))) }
 {
-    let lines = lines_of(alloc, text)?;
     let mut out = Vec::new(alloc);
     for name in names {
-        push_field(&mut out, name.as_slice(), lines.as_slice())?;
+        push_field(&mut out, name.as_slice(), text)?;
     }
     Ok(out)
 }
 
-/// Returns the lines of a paragraph's text.
-fn lines_of<'a>(alloc: Global, text: &'a [u8]) -> Result<Vec<&'a [u8]>, AllocError>
-    ensures { IfOk result (λ lines. map (λ line. line.now) lines.items ≡ pieces_of text.now) }
-{
-    let lines: Vec<&'a [u8]> = text.split(|byte| *byte == b'\n').collect(alloc)?;
-    Ok(lines)
-}
-
-/// Appends the lines of the field with a name, if it is there.
-fn push_field(out: &mut Vec<u8>, name: &[u8], lines: &[&[u8]]) -> Result<(), AllocError>
+/// Appends the lines of the field with a name, if the text has it.
+fn push_field(out: &mut Vec<u8>, name: &[u8], text: &[u8]) -> Result<(), AllocError>
     ensures { OnOk result (out.new.items ≡ out.old.items
-        ++ with_newlines (field_lines name.now (map (λ line. line.now) lines.now))) }
+        ++ with_newlines (field_lines name.now (pieces_of text.now))) }
 {
-    let mut rest = lines;
-    while let [line, behind @ ..] = rest {
+    let mut rest = Some(text);
+    while let Some(lines) = rest {
+        let (line, behind) = first_line(lines);
         if begins_field(name, line) {
             push_line(out, line)?;
             return push_continuations(out, behind);
@@ -56,13 +51,14 @@ fn push_field(out: &mut Vec<u8>, name: &[u8], lines: &[&[u8]]) -> Result<(), All
     Ok(())
 }
 
-/// Appends the continuation lines with which lines begin.
-fn push_continuations(out: &mut Vec<u8>, lines: &[&[u8]]) -> Result<(), AllocError>
+/// Appends the continuation lines with which a text begins.
+fn push_continuations(out: &mut Vec<u8>, text: Option<&[u8]>) -> Result<(), AllocError>
     ensures { OnOk result (out.new.items ≡ out.old.items
-        ++ with_newlines (continuations (map (λ line. line.now) lines.now))) }
+        ++ with_newlines (continuations (lines_left (option_map (λ t. t.now) text.entry)))) }
 {
-    let mut rest = lines;
-    while let [line, behind @ ..] = rest {
+    let mut rest = text;
+    while let Some(lines) = rest {
+        let (line, behind) = first_line(lines);
         if !begins_with_blank(line) {
             return Ok(());
         }
@@ -70,6 +66,18 @@ fn push_continuations(out: &mut Vec<u8>, lines: &[&[u8]]) -> Result<(), AllocErr
         rest = behind;
     }
     Ok(())
+}
+
+/// Returns the first line of a text, and what follows its newline, if it has one.
+fn first_line(text: &[u8]) -> (&[u8], Option<&[u8]>)
+    ensures lines { result.0.now ∷ lines_left (option_map (λ t. t.now) result.1)
+        ≡ pieces_of text.now }
+    ensures fewer { bytes_left (option_map (λ t. t.now) result.1) < 1 + length text.now }
+{
+    match memchr(b'\n', text) {
+        Some(at) => (&text[..at], Some(&text[at + 1..])),
+        None => (text, None),
+    }
 }
 
 /// Appends a line and a newline.

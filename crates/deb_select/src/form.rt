@@ -10,4 +10,7 @@ pub enum Form {
     Fields(Vec<Vec<u8>>),
     /// One line: the canonical texts of the fields with these names, with a tab between two.
     Table(Vec<Vec<u8>>),
+    /// One line of JSON (RFC 8259): an object with the number of the first line of the paragraph, and
+    /// with its fields, each in the form that its kind has in JSON.
+    Json,
 }

@@ -1,5 +1,6 @@
 //! Laws of conditions and of what they select. Each function does nothing; its contract is the law.
 
+ghost use Rattle.deb_select.specs.JsonLaws.{JsonLinesAreSelected, JsonLinesReadBack, JsonLinesTellTokens};
 ghost use Rattle.deb_select.specs.Laws.{CanonicalTextSelectsTheSame, EqualityIsOfMeanings, FieldsOutputIsText, FilesFollow, JoinedConditionsIntersect, NegationPartitions, OutputsFollow, SameFilesSelectTheSame, SelectedAreSelected, SelectedTextIsAccepted, SelectedTextIsItsOwn, TableIsOfMeanings, TableLinesAreSelected, TextsAreRead, WholeOutputIsText};
 
 /// A text that isn't refused spells one condition, and one that is refused spells none.
@@ -76,4 +77,20 @@ pub fn table_lines_are_selected()
 /// In each form the output of two files is that of the first, and that of the second after it.
 pub fn outputs_follow()
     ensures { OutputsFollow }
+{}
+
+/// Each line of JSON reads back, as `serde_json` reads, to exactly the value of the paragraph's
+/// meaning.
+pub fn json_lines_read_back()
+    ensures { JsonLinesReadBack }
+{}
+
+/// Lines of JSON are as many as the paragraphs that are selected.
+pub fn json_lines_are_selected()
+    ensures { JsonLinesAreSelected }
+{}
+
+/// Two lines of JSON are equal exactly if their tokens are.
+pub fn json_lines_tell_tokens()
+    ensures { JsonLinesTellTokens }
 {}

@@ -6,6 +6,8 @@ mod comparison;
 mod condition;
 mod fields;
 mod form;
+mod json_line;
+mod json_relation;
 pub mod laws;
 mod parts;
 mod reason;

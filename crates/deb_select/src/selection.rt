@@ -1,13 +1,14 @@
 //! The conditions of a selection, and which paragraphs they select.
 
-ghost use Rattle.std.specs.Prelude.{◌≡◌, ◌++◌, ◌∷◌, ℕ, List, [], Bool, IfOk, OnOk, cond, map, set, true};
+ghost use Rattle.std.specs.Prelude.{◌≡◌, ◌++◌, ◌∷◌, ℕ, List, [], Bool, IfOk, IsTrue, OnOk, cond, false, map, set, true};
 ghost use Rattle.std.specs.List.{list_all};
 ghost use Rattle.std.specs.Option.{option_map};
 ghost use Rattle.std.specs.Str.{bytes_eq};
 ghost use Rattle.deb_base.specs.KnownFields.{row_of};
 ghost use Rattle.deb_base.specs.Names.{folded};
 ghost use Rattle.deb_base.specs.declared.doc.Doc.{Doc as DocKind};
-ghost use Rattle.deb_field.specs.Values.{SpellsValue, ValueMeaning};
+ghost use Rattle.deb_field.specs.Values.{SpellsKind, SpellsValue, ValueMeaning};
+ghost use Rattle.deb_field.specs.ValueMeanings.{value_meaning};
 ghost use Rattle.deb_control.specs.CheckedStates.{doc_judged, passing_judged};
 ghost use Rattle.deb_control.specs.Paragraphs.{AreValuesOf};
 ghost use Rattle.deb_control.specs.ValueFiles.{ValueEntries};
@@ -20,7 +21,7 @@ use crate::shown_value::ShownValue;
 use crate::test::Test;
 use deb_base::{FieldId, KNOWN_FIELDS};
 use deb_control::CheckedView;
-use deb_field::{Doc, Value};
+use deb_field::{Doc, Kind, Value};
 use deb_syntax::RawField;
 use indexmap::IndexMap;
 use std::alloc::{AllocError, Global};
@@ -103,6 +104,9 @@ impl Selection {
         // How many conditions ask for a field that hasn't come.
         let mut left = self.count;
         for field in paragraph.fields() {
+            if left == 0 {
+                return Ok(!self.negated);
+            }
             if let Some(tests) = self.tests_of(&field)? {
                 if !all_pass(self.alloc, self.doc, tests, &field)? {
                     return Ok(self.negated);
@@ -174,16 +178,48 @@ fn all_pass(
         → IfOk result (λ passed. passed
         ≡ list_all (λ test. passes_kept test (value_kept value)) (map test_shown tests.now)) }
 {
+    let kind = field.id.kind(doc);
+    if lacks_name(kind, tests, field.body) {
+        return Ok(false);
+    }
     // What passes is never refused, so that the only fault is out of memory.
-    let Ok(value) = Value::of_kind(alloc, field.id.kind(doc), field.body) else {
+    let Ok(value) = Value::of_kind(alloc, kind, field.body) else {
         return Err(AllocError);
     };
-    let shown = ShownValue::of(alloc, &value)?;
-    Ok(value_passes(&shown, tests))
+    value_passes(alloc, &value, tests)
+}
+
+/// Whether the first test asks for a name whose bytes aren't in a relation's body, so that the
+/// relation need not be read.
+fn lacks_name(kind: Kind, tests: &[Test], body: &[u8]) -> bool
+    ensures { IsTrue result → (value : ValueMeaning) → SpellsKind kind body.now value
+        → list_all (λ test. passes_kept (test_shown test) (value_kept value)) tests.now ≡ false }
+{
+    match kind {
+        Kind::Relation(_) => match tests {
+            [first, ..] => first.lacks_name(body),
+            [] => false,
+        },
+        _ => false,
+    }
 }
 
 /// Whether a value passes all tests.
-fn value_passes(value: &ShownValue<'_>, tests: &[Test]) -> bool
+fn value_passes(alloc: Global, value: &Value<'_>, tests: &[Test]) -> Result<bool, AllocError>
+    ensures { IfOk result (λ passed. passed
+        ≡ list_all (λ test. passes_kept (test_shown test) (value_kept (value_meaning value.now)))
+        tests.now) }
+{
+    // Several tests share what they see of the value. One alone has no need of most of it.
+    if let [test] = tests {
+        return test.passes_alone(alloc, value);
+    }
+    let shown = ShownValue::of(alloc, value)?;
+    Ok(shown_passes(&shown, tests))
+}
+
+/// Whether what tests see of a value passes all of them.
+fn shown_passes(value: &ShownValue<'_>, tests: &[Test]) -> bool
     ensures { result
         ≡ list_all (λ test. passes_kept (test_shown test) (value_shown value.now)) tests.now }
 {

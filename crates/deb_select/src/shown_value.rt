@@ -69,7 +69,7 @@ pub(crate) fn key_of(alloc: Global, value: &Value<'_>) -> Result<Vec<u8>, AllocE
 }
 
 /// A number's digits without leading zeros.
-fn without_zeros(digits: &[u8]) -> &[u8]
+pub(crate) fn without_zeros(digits: &[u8]) -> &[u8]
     ensures { result.now ≡ after_run (λ b. b == 48) digits.now }
 {
     &digits[leading_zeros(digits)..]
@@ -93,7 +93,7 @@ pub(crate) fn text_of(alloc: Global, value: &Value<'_>) -> Result<Vec<u8>, Alloc
 }
 
 /// Returns the names in a value.
-fn names_of<'a>(alloc: Global, value: &Value<'a>) -> Result<Vec<&'a [u8]>, AllocError>
+pub(crate) fn names_of<'a>(alloc: Global, value: &Value<'a>) -> Result<Vec<&'a [u8]>, AllocError>
     ensures { IfOk result (λ names. map (λ name. name.now) names.items
         ≡ names_in (value_meaning value.now)) }
 {

@@ -21,6 +21,7 @@ ghost use Rattle.deb_select.specs.Written.{gap};
 use crate::cells::push_row;
 use crate::fields::fields_text;
 use crate::form::Form;
+use crate::json_line::json_line;
 use crate::selection::Selection;
 use deb_base::{Fault, Sink, Source, put_all};
 use deb_control::{Checked, CheckedView, NoVisitor};
@@ -122,7 +123,7 @@ impl Selection {
             → HasConditions (doc_read checked.now) selection self.now
             → (checked_state checked.now).current ≡ Some seen
             → AreValuesOf (doc_read checked.now) seen values
-            → lines_checked checked.now ≡ Some p
+            → lines_checked checked.now ≡ Some p → seen.first ≡ p.first
             → PutsSelected (form_shown form.now) begun selection values p result
             (W.held writer.old) (W.held writer.new) }
         ensures counts_failure { W.failures writer.new ≡ write_failures_after
@@ -154,7 +155,7 @@ fn put_piece<W: Sink>(
 ) -> Result<bool, Fault>
     ensures puts { (values : ValueEntries ValueMeaning) (p : Paragraph)
         → AreValuesOf (doc_judged paragraph.now) (passing_judged paragraph.now).seen values
-        → p.lines ≡ pieces_of text.now
+        → p.lines ≡ pieces_of text.now → (passing_judged paragraph.now).seen.first ≡ p.first
         → PutsPiece (form_shown form.now) begun values p result (W.held writer.old)
         (W.held writer.new) }
     ensures counts_failure { W.failures writer.new ≡ write_failures_after
@@ -173,6 +174,11 @@ fn put_piece<W: Sink>(
         Form::Table(names) => {
             let mut line = Vec::new(alloc);
             push_row(alloc, &mut line, names.as_slice(), paragraph)?;
+            put_all(writer, line.as_slice())?;
+            Ok(begun)
+        }
+        Form::Json => {
+            let line = json_line(alloc, paragraph)?;
             put_all(writer, line.as_slice())?;
             Ok(begun)
         }

@@ -4,11 +4,16 @@ use Rattle.deb_syntax.specs.Raw.{field_of, fields_left}
 use Rattle.deb_control.specs.CheckedStates.{doc_judged, passing_judged}
 use Rattle.deb_select.specs.Selections.{tests_lent}
 use Rattle.deb_select.proofs.Judging.{JudgedSo, none-judged}
-use Rattle.deb_select.proofs.Selected.{asked-fails, asked-next, fields-all, fields-next, judged-all, unasked-next}
+use Rattle.deb_select.proofs.Selected.{asked-fails, asked-next, fields-all, fields-next, judged-all, judged-early, unasked-next}
 use Rattle.deb_select.proofs.selection.Selection.selects.Goals as goal
 
 pub loop-field-init : goal.loop-field-init
 loop-field-init c = record { fields = search rules; judged = λ meaning values has are. none-judged meaning.conditions values c.args.self.now.count has.counted }
+
+pub returns-then-left-eq0 : goal.returns-then-left-eq0
+returns-then-left-eq0 c = λ meaning values has are.
+    judged-early (doc_judged c.args.paragraph.now) (passing_judged c.args.paragraph.now).seen c.args.paragraph.now.raw.fields meaning values are c.args.self.now has (map field_of c.loop-field.yielded) c.loop-field.left
+    c.if-left-eq0.true (c.loop-field.invariant.judged meaning values has are)
 
 pub returns-then-not-branch : goal.returns-then-not-branch
 returns-then-not-branch c = λ meaning values has are.

@@ -65,7 +65,7 @@ returns-in_err-put-clause-cut_off g c = λ asked text shape start has told.
     let are = subst (λ d. AreValuesOf d given values.0) (sym doc_now) values.1 in
     let has_so = same_conditions asked.selection self asked.kind has in
     let found = next_found so_far given checks (lines_checked c.advance.new.self) c.in_ok-advance.ensures.lines_found text told in
-    let puts = c.in_err-put.ensures.puts asked.selection given values.0 found.0 (subst (λ d. HasConditions d asked.selection self) (sym doc_now) has_so) current are found.2 in
+    let puts = c.in_err-put.ensures.puts asked.selection given values.0 found.0 (subst (λ d. HasConditions d asked.selection self) (sym doc_now) has_so) current are found.2 found.3 in
     same_request (λ a. IfCutOff c.from_residual-in_err-put.result (WritesFirst a text (g.W.Sink.held c.args.writer.now) (g.W.Sink.held c.put.new.writer))) asked self.doc (form_shown c.args.form.now) c.args.begun has.of_kind shape start
     (rw (e.1, e.2)
     (cut_after Outcome c.in_err-put.field-0.0 (form_shown c.args.form.now) c.loop-passed.begun asked.selection values.0 found.0 (record { kind = self.doc; selection = asked.selection; form = form_shown c.args.form.now; begun = c.args.begun }) text (g.W.Sink.held c.args.writer.now) (g.W.Sink.held c.loop-passed.writer) (g.W.Sink.held c.put.new.writer) puts
@@ -85,7 +85,7 @@ returns-in_err-put-clause-write g c = λ asked text shape start has told.
     let are = subst (λ d. AreValuesOf d given values.0) (sym doc_now) values.1 in
     let has_so = same_conditions asked.selection self asked.kind has in
     let found = next_found so_far given checks (lines_checked c.advance.new.self) c.in_ok-advance.ensures.lines_found text told in
-    let puts = c.in_err-put.ensures.puts asked.selection given values.0 found.0 (subst (λ d. HasConditions d asked.selection self) (sym doc_now) has_so) current are found.2 in
+    let puts = c.in_err-put.ensures.puts asked.selection given values.0 found.0 (subst (λ d. HasConditions d asked.selection self) (sym doc_now) has_so) current are found.2 found.3 in
     same_request (λ a. IfWriteFailed c.from_residual-in_err-put.result (WritesPart a text (g.W.Sink.held c.args.writer.now) (g.W.Sink.held c.put.new.writer))) asked self.doc (form_shown c.args.form.now) c.args.begun has.of_kind shape start
     (rw (e.1, e.2)
     (failed_after Outcome c.in_err-put.field-0.0 (form_shown c.args.form.now) c.loop-passed.begun asked.selection values.0 found.0 (g.W.Sink.held c.loop-passed.writer) (g.W.Sink.held c.put.new.writer) _ puts
@@ -114,7 +114,7 @@ loop-passed-preserved g c =
             found.0,
             found.1,
             λ asked has.
-                c.in_ok-put.ensures.puts asked given values.0 found.0 (subst (λ d. HasConditions d asked self) (sym doc_now) has) current are found.2,
+                c.in_ok-put.ensures.puts asked given values.0 found.0 (subst (λ d. HasConditions d asked self) (sym doc_now) has) current are found.2 found.3,
           ))));
       writes = c.in_ok-put.ensures.counts_failure ∙ c.loop-passed.invariant.writes;
     }

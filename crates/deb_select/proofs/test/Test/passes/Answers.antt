@@ -1,11 +1,8 @@
-use Rattle.std.proofs.Common.{◌≡◌, ◌||◌, Bool, List, [], ◌∷◌, map, refl, sym, ap, ◌∙◌}
+use Rattle.std.proofs.Common.{sym, ap, ◌∙◌}
 use Rattle.std.specs.List.{list_any}
 use Rattle.std.specs.Str.{bytes_eq}
+use Rattle.deb_select.proofs.Contained.{any_map}
 use Rattle.deb_select.proofs.test.Test.passes.Goals as goal
-
-any-map : {X Y : Type 0} (f : X → Y) (p : Y → Bool) (xs : List X) → list_any p (map f xs) ≡ list_any (λ x. p (f x)) xs
-any-map f p [] = refl
-any-map f p (x ∷ xs) = ap (λ v. p (f x) || v) (any-map f p xs)
 
 pub returns-in-Names : goal.returns-in-Names
 returns-in-Names c =
@@ -13,4 +10,4 @@ returns-in-Names c =
     (c.is_among.ensures
     ∙ ap (λ name. list_any (λ one. bytes_eq name one.now) c.deref-in-Names-2.result.now) c.deref-in-Names.ensures.value
     ∙ ap (list_any (λ one. bytes_eq c.in-Names.name.items one.now)) c.deref-in-Names-2.ensures.value
-    ∙ sym (any-map (λ one. one.now) (bytes_eq c.in-Names.name.items) c.args.value.now.names.items))
+    ∙ sym (any_map (λ one. one.now) (bytes_eq c.in-Names.name.items) c.args.value.now.names.items))
