@@ -61,7 +61,8 @@ pub struct Index {
 }
 
 impl Index {
-    ghost use Rattle.deb_index.specs.Indexes.{counts_of, lines_of, number_in, packages_of, spellings_of};
+    ghost use Rattle.deb_index.specs.Indexes.{counts_of, lines_of, number_in, packages_of};
+    ghost use Rattle.deb_index.specs.Indexes.{spellings_of};
 
     /// Returns the index of no file, which lists no package.
     ///

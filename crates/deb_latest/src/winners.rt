@@ -32,7 +32,8 @@ pub struct Winners {
 
 impl Winners {
     ghost use Rattle.std.specs.Prelude.{◌==◌};
-    ghost use Rattle.deb_latest.specs.Writes.{HasWritten, IsWritersFault, PutsParagraph, WritesFile, WritesRead, WritesRefused};
+    ghost use Rattle.deb_latest.specs.Writes.{HasWritten, IsWritersFault, PutsParagraph};
+    ghost use Rattle.deb_latest.specs.Writes.{WritesFile, WritesRead, WritesRefused};
 
     /// Returns those with these numbers, in files that together have `count` paragraphs. None is
     /// written yet.
