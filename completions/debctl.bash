@@ -6,19 +6,20 @@ _debctl() {
     # What each command offers: its options, their values, and its words by their number.
     local -A offers=(
         [:options]='--help --version'
-        [:0]='check explain audit normalise same diff compare canon-version version-key sort query unmet healthy installable latest help'
+        [:0]='check explain audit normalise same diff select compare canon-version version-key sort query unmet healthy installable latest help'
         [check:options]='--kind --all --complete --least --help'
         [check:0]=files
         [check:-k]='binary packages source sources status any'
         [check:--kind]='binary packages source sources status any'
         [check:--least]=''
-        [explain:options]='--kind --all --code --relation --version-text --help'
+        [explain:options]='--kind --all --code --relation --version-text --where --help'
         [explain:0]=files
         [explain:-k]='binary packages source sources status any'
         [explain:--kind]='binary packages source sources status any'
         [explain:--code]=''
         [explain:--relation]=''
         [explain:--version-text]=''
+        [explain:--where]=''
         [audit:options]='--kind --all --complete --least --files0-from --null --help'
         [audit:more]=files
         [audit:-k]='binary packages source sources status any'
@@ -39,6 +40,14 @@ _debctl() {
         [diff:1]=files
         [diff:-k]='binary packages source sources status'
         [diff:--kind]='binary packages source sources status'
+        [select:options]='--kind --where --not --accepted --fields --format --strict --count --help'
+        [select:more]=files
+        [select:-k]='binary packages source sources status any'
+        [select:--kind]='binary packages source sources status any'
+        [select:--where]=''
+        [select:-f]=''
+        [select:--fields]=''
+        [select:--format]='control table jsonl'
         [compare:options]=--help
         [compare:0]=''
         [compare:1]='lt le eq ne ge gt'
@@ -87,7 +96,7 @@ _debctl() {
         [latest:--by]='name name,arch'
         [latest:--before]=''
         [help:options]=--help
-        [help:0]='check explain audit normalise same diff compare canon-version version-key sort query unmet healthy installable latest help kinds'
+        [help:0]='check explain audit normalise same diff select compare canon-version version-key sort query unmet healthy installable latest help kinds'
     )
     local command='' given=0 ended='' i key offer
     for ((i = 1; i < cword; i++)); do
@@ -97,9 +106,9 @@ _debctl() {
         fi
         case ${words[i]} in
             --) ended=yes ;;
-            -k | --kind | --least | --arch | --profiles | --index | --unless-in | --without | --all-for | --budget | --only | --witness | --by | --before) ((i++)) ;;
+            -k | --kind | --least | -f | --fields | --format | --arch | --profiles | --index | --unless-in | --without | --all-for | --budget | --only | --witness | --by | --before) ((i++)) ;;
             # The value is in place of a word, as it is if it is a word of its own.
-            --code=* | --relation=* | --version-text=* | --files0-from=* | --relation-from=*) ((given++)) ;;
+            --code=* | --relation=* | --version-text=* | --where=* | --files0-from=* | --relation-from=*) ((given++)) ;;
         esac
     done
     key=$command:$given

@@ -9,9 +9,9 @@ function __debctl_arguments
             case --
                 string join -- \n $words[2..]
                 return
-            case -k --kind --least --arch --profiles --index --unless-in --without --all-for --budget --only --witness --by --before
+            case -k --kind --least -f --fields --format --arch --profiles --index --unless-in --without --all-for --budget --only --witness --by --before
                 set words $words[2..]
-            case - '--code=*' '--relation=*' '--version-text=*' '--files0-from=*' '--relation-from=*'
+            case - '--code=*' '--relation=*' '--version-text=*' '--where=*' '--files0-from=*' '--relation-from=*'
                 printf '%s\n' $words[1]
             case '-*'
             case '*'
@@ -40,6 +40,7 @@ complete -c debctl -n __debctl_at -a audit -d 'Checks many files and prints one 
 complete -c debctl -n __debctl_at -a normalise -d 'Writes the canonical text of a file'
 complete -c debctl -n __debctl_at -a same -d 'Checks whether two files mean the same'
 complete -c debctl -n __debctl_at -a diff -d 'Lists the paragraphs that changed between two files'
+complete -c debctl -n __debctl_at -a select -d 'Writes the paragraphs that match conditions, or their fields'
 complete -c debctl -n __debctl_at -a compare -d 'Compares two versions in Debian'"'"'s order'
 complete -c debctl -n __debctl_at -a canon-version -d 'Prints the canonical text of a version'
 complete -c debctl -n __debctl_at -a version-key -d 'Prints keys whose byte order is the order of their versions'
@@ -64,6 +65,7 @@ complete -c debctl -n '__debctl_at explain' -s a -l all -d 'Report every error, 
 complete -c debctl -n '__debctl_at explain' -l code -x -d 'Explain an error code, from 1 to 23 or by its name, instead of a file'
 complete -c debctl -n '__debctl_at explain' -l relation -x -d 'Explain a relation instead of a file'
 complete -c debctl -n '__debctl_at explain' -l version-text -x -d 'Explain a version instead of a file'
+complete -c debctl -n '__debctl_at explain' -l where -x -d 'Explain a condition of `select` instead of a file'
 complete -c debctl -n '__debctl_at explain' -s h -l help -d 'Print help'
 complete -c debctl -n '__debctl_at audit 0 more' -F
 complete -c debctl -n '__debctl_at audit' -s k -l kind -x -a 'binary packages source sources status any' -d 'The kind of file'
@@ -86,6 +88,16 @@ complete -c debctl -n '__debctl_at diff' -s k -l kind -x -a 'binary packages sou
 complete -c debctl -n '__debctl_at diff' -l values -d 'Print the lines of the fields that differ'
 complete -c debctl -n '__debctl_at diff' -l spelled -d 'Print each version as its file spells it'
 complete -c debctl -n '__debctl_at diff' -s h -l help -d 'Print help'
+complete -c debctl -n '__debctl_at select 0 more' -F
+complete -c debctl -n '__debctl_at select' -s k -l kind -x -a 'binary packages source sources status any' -d 'The kind of file'
+complete -c debctl -n '__debctl_at select' -l where -x -d 'A condition that has to hold, such as `Depends names libc6`'
+complete -c debctl -n '__debctl_at select' -l not -d 'Pick the paragraphs for which not all conditions hold'
+complete -c debctl -n '__debctl_at select' -l accepted -d 'Continue after a paragraph that is refused'
+complete -c debctl -n '__debctl_at select' -s f -l fields -x -d 'Write only these fields, in this order'
+complete -c debctl -n '__debctl_at select' -l format -x -a 'control table jsonl' -d 'The format'
+complete -c debctl -n '__debctl_at select' -l strict -d 'Exit with status 1 if a line of the table lacks a field'
+complete -c debctl -n '__debctl_at select' -l count -d 'Print only how many paragraphs are picked'
+complete -c debctl -n '__debctl_at select' -s h -l help -d 'Print help'
 complete -c debctl -n '__debctl_at compare 1' -a 'lt le eq ne ge gt'
 complete -c debctl -n '__debctl_at compare' -s h -l help -d 'Print help'
 complete -c debctl -n '__debctl_at canon-version' -s h -l help -d 'Print help'
@@ -139,5 +151,5 @@ complete -c debctl -n '__debctl_at latest' -s k -l kind -x -a 'packages sources'
 complete -c debctl -n '__debctl_at latest' -l by -x -a 'name name,arch' -d 'What one package is'
 complete -c debctl -n '__debctl_at latest' -l before -x -d 'Consider only versions earlier than this one'
 complete -c debctl -n '__debctl_at latest' -s h -l help -d 'Print help'
-complete -c debctl -n '__debctl_at help 0' -a 'check explain audit normalise same diff compare canon-version version-key sort query unmet healthy installable latest help kinds'
+complete -c debctl -n '__debctl_at help 0' -a 'check explain audit normalise same diff select compare canon-version version-key sort query unmet healthy installable latest help kinds'
 complete -c debctl -n '__debctl_at help' -s h -l help -d 'Print help'

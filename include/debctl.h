@@ -16,10 +16,10 @@
  * that length, and a second call does the work again.
  *
  * Order. If several things are wrong, the status is the first of these that applies: DEB_NO_KIND,
- * DEB_NO_INDEX, DEB_REFUSED, DEB_SECOND_REFUSED, DEB_NO_ROOM. A call that also writes something of a
- * refused text (deb_check_all, deb_fields, and the explanations) needs room for that: it returns
- * DEB_NO_ROOM before DEB_REFUSED. DEB_NO_MEMORY may come in place of any status but
- * DEB_NO_KIND and DEB_NO_INDEX.
+ * DEB_NO_INDEX, DEB_REFUSED, DEB_SECOND_REFUSED, DEB_NO_ROOM; of deb_select DEB_SECOND_REFUSED comes
+ * before DEB_REFUSED. A call that also writes something of a refused text (deb_check_all, deb_fields,
+ * and the explanations) needs room for that: it returns DEB_NO_ROOM before DEB_REFUSED. DEB_NO_MEMORY
+ * may come in place of any status but DEB_NO_KIND and DEB_NO_INDEX.
  *
  * Lengths are in bytes, and lines are counted from 1. Several threads may call at once. Memory is
  * taken with malloc and realloc, and freed before the call returns: only an index and a reader keep
@@ -48,9 +48,11 @@ enum deb_status {
     DEB_NO = 1,             /* deb_same, deb_diff: the files differ; deb_query, deb_unmet: a group is
                              * unmet; deb_healthy: the set isn't healthy; deb_installable: a package
                              * has a line; deb_buildable: a source package has one; deb_witness:
-                             * no set is found; deb_index_package: there is no such package */
+                             * no set is found; deb_index_package: there is no such package;
+                             * deb_select: no paragraph is selected */
     DEB_REFUSED = 2,        /* a text is refused, or the first of two */
-    DEB_SECOND_REFUSED = 3, /* the first text is accepted, and the second is refused */
+    DEB_SECOND_REFUSED = 3, /* the first text is accepted, and the second is refused; deb_select: a
+                             * condition is refused */
     DEB_NO_ROOM = 4,        /* the buffer is too small; its length is what it needs */
     DEB_NO_MEMORY = 5,      /* out of memory */
     DEB_NO_KIND = 6,        /* no kind of document has this number, or no detail; deb_diff, deb_unmet,
@@ -125,7 +127,7 @@ struct deb_answer {
                      * and DEB_NO of deb_unmet and deb_buildable; of the paragraphs that pass, for
                      * DEB_REFUSED of deb_check_all and deb_explain_all; of the packages, for DEB_YES
                      * and DEB_NO of deb_healthy, deb_installable and deb_witness, and for DEB_YES
-                     * of deb_index_read */
+                     * of deb_index_read; deb_latest and deb_select say what it is for them */
 };
 
 /* The answer of a comparison of two versions. */
@@ -296,6 +298,14 @@ struct deb_answer deb_explain_relation(const uint8_t *text, size_t text_length,
  * DEB_REFUSED, with DEB_BAD_VERSION; DEB_YES: it is a version; DEB_NO_ROOM; DEB_NO_MEMORY. */
 struct deb_answer deb_explain_version(const uint8_t *text, size_t text_length,
                                       uint8_t *out, size_t out_size, size_t *length);
+
+/* Writes why a text is no condition of deb_select on paragraphs of a kind, in lines `key: value`. The
+ * keys are, in this order and if they apply: place (the offset of the error in the text), code and
+ * name (of a value that the field can't have), reason, value (the text, with the escapes of
+ * DEB_TABLE) and rule. For a condition the line `ok` is written. Each line ends with a newline.
+ * DEB_REFUSED, with the code 0; DEB_YES: it is a condition; DEB_NO_ROOM; DEB_NO_MEMORY; DEB_NO_KIND. */
+struct deb_answer deb_explain_condition(uint8_t kind, const uint8_t *text, size_t text_length,
+                                        uint8_t *out, size_t out_size, size_t *length);
 
 /* Compares two files by meaning, as documents of a kind.
  * DEB_YES; DEB_NO; DEB_REFUSED: the first is refused; DEB_SECOND_REFUSED; DEB_NO_MEMORY;
@@ -611,6 +621,32 @@ struct deb_answer deb_latest(uint8_t kind, uint8_t by,
                              const struct deb_text *texts, size_t text_count,
                              uint8_t *out, size_t out_size, size_t *length);
 
+/* What deb_select writes of each paragraph. */
+enum deb_select_form {
+    DEB_CONTROL = 0,    /* the fields with the names in `names`, in this order, as they are in the text,
+                         * with an empty line between paragraphs; without a name, whole paragraphs */
+    DEB_TABLE = 1,      /* a line with the canonical texts of these fields, with a tab between two; a
+                         * field that is absent is empty, and control characters and the backslash
+                         * are escaped: `\t`, `\n`, `\\`, `\x1f` */
+    DEB_JSON_LINES = 2, /* a line with an object in JSON, of the meaning of all fields */
+    DEB_COUNT = 3       /* nothing: the paragraphs are only counted */
+};
+
+/* Writes the paragraphs of a text for which all conditions hold, in the order of the text and in a form
+ * of deb_select_form: what the program `debctl select` writes of one file. With others != 0 it
+ * writes those for which not all hold; `others` is 0 or 1. A condition is `FIELD` (the field is there),
+ * `FIELD OPERATOR VALUE` with one of `=`, `!=`, `<<`, `<=`, `>=`, `>>` and `~` (contains), or
+ * `FIELD names NAME`; docs/FORMAT.md says what they mean. Without a condition all paragraphs are selected.
+ * DEB_YES, with the number of these paragraphs; DEB_NO: there is none, and nothing is written;
+ * DEB_REFUSED: the text is refused; DEB_SECOND_REFUSED: a condition is, whose place in `conditions`,
+ * from 1, is `count` (deb_explain_condition says why), before the text is read; DEB_NO_ROOM;
+ * DEB_NO_MEMORY; DEB_NO_KIND: `kind`, `others` or `form` has another number. */
+struct deb_answer deb_select(uint8_t kind, uint8_t others, uint8_t form,
+                             const struct deb_text *conditions, size_t condition_count,
+                             const struct deb_text *names, size_t name_count,
+                             const uint8_t *text, size_t text_length,
+                             uint8_t *out, size_t out_size, size_t *length);
+
 /* A part of a text: the offset of its first byte, and the number of its bytes. */
 struct deb_span {
     size_t start;
@@ -622,7 +658,8 @@ enum deb_form {
     DEB_REPORT = 0,      /* deb_query, deb_index_query, and both with _why; deb_witness, DEB_YES */
     DEB_UNMET_LINES = 1, /* deb_unmet, deb_index_unmet, deb_index_unmet_with */
     DEB_DIFF_LINES = 2,  /* deb_diff */
-    DEB_EXPLANATION = 3, /* deb_explain, deb_explain_all, deb_explain_relation, deb_explain_version */
+    DEB_EXPLANATION = 3, /* deb_explain, deb_explain_all, deb_explain_relation, deb_explain_version,
+                          * deb_explain_condition */
     DEB_HEALTH_LINES = 4, /* deb_healthy */
     DEB_INSTALLABLE_LINES = 5 /* deb_installable, deb_buildable; deb_witness, DEB_NO */
 };
@@ -647,7 +684,8 @@ enum deb_row_kind {
     DEB_ROW_END = 15,           /* no cell: the empty line after an explanation of deb_explain_all */
     DEB_ROW_OK = 16,            /* the number in `ok N` */
     DEB_ROW_SUMMARY = 17,       /* the numbers in `ok N, M refused` */
-    DEB_ROW_VALID = 18,         /* no cell: the line `ok` of deb_explain_relation or _version */
+    DEB_ROW_VALID = 18,         /* no cell: the line `ok` of deb_explain_relation, _version or
+                                 * _condition */
     DEB_ROW_DOWNGRADED = 19,    /* as DEB_ROW_UPGRADED, with an earlier new version */
     DEB_ROW_UNMET_NEED = 20,    /* number, package, version, architecture, field, group */
     DEB_ROW_UNSURE_NEED = 21,   /* the same */

@@ -1,7 +1,9 @@
 """deb822.py fields FILE: reads each field of each paragraph with python-debian.
 
 deb822.py diff OLD NEW: prints which fields differ in packages of the same name and architecture.
+deb822.py json FILE: prints each paragraph as a line of JSON, with the parts of its relations.
 """
+import json
 import sys
 
 from debian.deb822 import Packages
@@ -34,8 +36,17 @@ def diff(old, new):
         print_differing(key, before, {})
 
 
+def print_json(paragraph):
+    """Prints the fields of a paragraph, each relation by its groups."""
+    relations = {name: groups for name, groups in paragraph.relations.items() if groups}
+    print(json.dumps({name: relations.get(name.lower(), it) for name, it in paragraph.items()}))
+
+
 if sys.argv[1] == "fields":
     for paragraph in paragraphs(sys.argv[2]):
         dict(paragraph)
+elif sys.argv[1] == "json":
+    for paragraph in paragraphs(sys.argv[2]):
+        print_json(paragraph)
 else:
     diff(sys.argv[2], sys.argv[3])

@@ -5,7 +5,7 @@ Each function calls the library libdebctl, whose answers are proved, and adds no
 The library is looked for at DEBCTL_LIBRARY, then in the folder of this package, then where the
 system keeps its libraries. A text is a `str`, of which the UTF-8 is read, or a bytes-like object
 such as `bytes` or `memoryview`. A function raises TypeError for an argument of another type. What
-is returned is a `str`, except for keys and the file of `normalise`.
+is returned is a `str`, except for keys and the files of `normalise`, `latest` and `select`.
 
     >>> import debctl
     >>> debctl.compare("1.0~rc1", "1.0")
@@ -43,6 +43,9 @@ from ._rows import (
     Change, Exclusion, Group, HealthReason, LeftOut, Need, NotInstallable, NumberedPackage, Reason,
     UnmetGroup,
 )
+from ._select import (
+    BadCondition, count_selected, explain_condition, select, select_objects, select_table,
+)
 from ._versions import Parts, Version, canonical, compare, key
 
 __version__ = "0.1.0"
@@ -55,19 +58,20 @@ def library_version() -> str:
 
 
 __all__ = [
-    "AllChecked", "AllExplained", "Alternative", "BuildReport", "Change", "Code", "Details",
-    "Exclusion", "Explanation", "Group", "HealthReason", "HealthReport", "Index", "InstallReport",
-    "Kind", "LeftOut", "Need", "NotInstallable", "NumberedPackage", "Package", "Paragraph", "Parts",
-    "Reason", "Refused", "Report", "Text", "UnmetGroup", "UnmetReport", "Version", "WitnessReport",
-    "applies", "buildable", "canonical", "check", "check_all", "compare", "diff", "explain",
-    "explain_all", "explain_relation", "explain_version", "healthy", "installable", "key", "latest",
+    "AllChecked", "AllExplained", "Alternative", "BadCondition", "BuildReport", "Change", "Code",
+    "Details", "Exclusion", "Explanation", "Group", "HealthReason", "HealthReport", "Index",
+    "InstallReport", "Kind", "LeftOut", "Need", "NotInstallable", "NumberedPackage", "Package",
+    "Paragraph", "Parts", "Reason", "Refused", "Report", "Text", "UnmetGroup", "UnmetReport",
+    "Version", "WitnessReport", "applies", "buildable", "canonical", "check", "check_all",
+    "compare", "count_selected", "diff", "explain", "explain_all", "explain_condition",
+    "explain_relation", "explain_version", "healthy", "installable", "key", "latest",
     "library_version", "normalise", "paragraphs", "query", "relations", "same", "satisfies",
-    "unmet", "witness",
+    "select", "select_objects", "select_table", "unmet", "witness",
 ]
 
 for _public in (
-    AllChecked, AllExplained, Alternative, BuildReport, Change, Code, Details, Exclusion,
-    Explanation, Group, HealthReason, HealthReport, Index, InstallReport, LeftOut, Need,
+    AllChecked, AllExplained, Alternative, BadCondition, BuildReport, Change, Code, Details,
+    Exclusion, Explanation, Group, HealthReason, HealthReport, Index, InstallReport, LeftOut, Need,
     NotInstallable, NumberedPackage, Package, Paragraph, Parts, Reason, Refused, Report, UnmetGroup,
     UnmetReport, Version, WitnessReport,
 ):

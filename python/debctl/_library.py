@@ -118,6 +118,8 @@ _FUNCTIONS: List[Tuple[str, Any, List[Any]]] = [
     ("deb_index_details", Answer, _MEMORY + _NUMBER + _BUFFER),
     ("deb_index_file", Answer, _MEMORY + _NUMBER + [_LENGTH]),
     ("deb_latest", Answer, 2 * _KIND + _TEXT + _TEXTS + _BUFFER),
+    ("deb_select", Answer, 3 * _KIND + 2 * _TEXTS + _TEXT + _BUFFER),
+    ("deb_explain_condition", Answer, _KIND + _TEXT + _BUFFER),
     ("deb_version_parts", VersionParts, _TEXT),
     ("deb_relation_parts", Answer, _TEXT + _TABLE),
     ("deb_explain_relation", Answer, _TEXT + _BUFFER),

@@ -4,6 +4,8 @@
 
 #[path = "driver/printed.rs"]
 mod printed;
+#[path = "driver/selected.rs"]
+mod selected;
 #[path = "driver/several.rs"]
 mod several;
 
@@ -14,6 +16,7 @@ use debctl::{
     Index, Kind, Members, ReadError, Reader, Refusal, Report, Search, SourceKind, Version,
 };
 use printed::Printed;
+use selected::{of_condition, of_selection};
 use several::{of_files, of_latest, with_options};
 use std::io::{stdin, stdout, BufRead, Read, Write};
 use std::num::NonZeroU32;
@@ -309,6 +312,8 @@ fn answer(call: &str, number: usize, files: &[Vec<u8>]) -> Result<Vec<u8>, Error
         "query-files" | "why-files" => of_files(call, number, files).unwrap_or_else(|it| it),
         "unmet-with" => with_options(number, files).unwrap_or_else(|it| it),
         "latest" => return Ok(of_latest(number, files)),
+        "explain-condition" => of_condition(KINDS[number], &files[0])?,
+        "select" | "count" => return Ok(of_selection(number, files)),
         "unmet" => of_unmet(number, files)?,
         "healthy" | "installable" | "witness" => of_set(call, number, files)?,
         "buildable" => of_sources(number, files)?,

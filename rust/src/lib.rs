@@ -39,6 +39,7 @@ mod refusals;
 mod relations;
 mod reports;
 mod search;
+mod select;
 mod texts;
 mod versions;
 
@@ -61,6 +62,9 @@ pub use reports::{
     UnmetReport, Verdict, WitnessReport,
 };
 pub use search::Search;
+pub use select::{
+    explain_condition, select, select_table, SelectError, SelectForm, Selected, Selection,
+};
 pub use versions::{canonical, compare, key, Version};
 
 /// Returns the version of the library `libdebctl` that is linked.

@@ -239,7 +239,22 @@ mod tests {
                 let report = witness(all, false, search, "amd64", "aa", needs())?;
                 assert_eq!(report.not_installable.len(), COUNT);
             }
-            _ => drop(relations(relation)?),
+            19 => drop(relations(relation)?),
+            _ => {
+                let (kind, conditions) = (Kind::Packages, &[][..]);
+                let asked = Selection {
+                    kind,
+                    conditions,
+                    others: false,
+                };
+                let selected = [SelectForm::Control(&[]), SelectForm::JsonLines].map(|form| {
+                    let selected = select(asked, form, old);
+                    selected.expect("it is accepted").count
+                });
+                let rows = select_table(asked, &[b"Package", b"Depends"], old);
+                assert_eq!(rows.expect("it is accepted").len(), COUNT);
+                assert_eq!(selected, [COUNT as u64; 2]);
+            }
         }
         Ok(())
     }
@@ -248,7 +263,7 @@ mod tests {
     fn the_first_room_is_enough() -> Result<(), Error> {
         let (old, new) = (index("1"), index("2"));
         let loaded = Index::read(&old)?;
-        for asked in 0..=19 {
+        for asked in 0..=20 {
             let before = REPEATED.with(Cell::get);
             answer(asked, &old, &new, &loaded)?;
             assert_eq!(REPEATED.with(Cell::get), before, "call {asked}");

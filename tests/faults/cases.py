@@ -60,9 +60,10 @@ class Case:
 
     @property
     def is_job(self):
-        """Whether the words ask for a job. Only then the answer goes through a buffered writer, which
-        asks again if a write was interrupted."""
-        return self.words[0] != "help" and not self.err.startswith((b"usage: ", b"error: "))
+        """Whether the words ask for a job, which reads conditions itself. Only then the answer goes
+        through a buffered writer, which asks again if a write was interrupted."""
+        is_refused = self.err.startswith((b"usage: ", b"error: ")) and not self.err.startswith(b"usage: --where ")
+        return self.words[0] != "help" and not is_refused
 
     @property
     def opens_all(self):
@@ -286,6 +287,7 @@ def many_paragraphs():
         (["check", "--complete", "old"], b"ok 400\n", 0),
         (["audit", "--complete", "old", "new"], audited, 0),
         (["normalise", "old"], old, 0), (["same", "old", "new"], b"different\n", 1),
+        (["select", "--where", "Depends names zz", "old"], last % 1, 0),
         (["diff", "old", "new"], b"upgraded 400 p400 1 2 all Version\n", 1),
         (["query", *arch, "vv", "old"], b"met vv\n" + met, 0),
         (["query", *arch, "--why", "vv (>= 1)", "old"], b"unmet vv (>= 1)\n" + why, 1),

@@ -23,6 +23,8 @@ FAULT_LINES = {
     "stat": b"fault: read\n",
     "write": b"fault: write\n",
 }
+# The commands that collect a list with a known bound.
+COLLECTING = "sort", "audit", "installable", "latest", "select"
 # The errors of wrong arguments that a hint may follow.
 HINTED = b"usage: unknown kind", b"usage: unknown command"
 
@@ -120,7 +122,7 @@ class Answer:
 @dataclass(frozen=True)
 class Wanted:
     """The answer that is wanted: of each text all of it, or what the rule says. By `one` standard output
-    is one of some texts."""
+    is one of some texts. Before its line standard error may have the first lines of a text."""
 
     out: bytes
     err: bytes
@@ -129,6 +131,7 @@ class Wanted:
     err_rule: str = "all"
     most_paragraphs: Optional[int] = None
     outs: Tuple[bytes, ...] = ()
+    before: bytes = b""
 
 
 class Runs:
@@ -237,10 +240,10 @@ def asks_for_hint(case: Case, status):
 def is_asked_for_less(case: Case, fault: Fault, answer: Answer):
     """Whether std asked once more for memory, for less of it. It does so in `collect`, by which
     `sort` gathers its lines, `audit` the paths of a list, `installable` the packages that have one of
-    many versions of a name, `latest` the numbers of its paragraphs, and clap the letters of a word
-    that may be similar to a wrong one: where the room for all that may come is refused, it asks for
+    many versions of a name, `latest` the numbers of its paragraphs, `select` the words of a value, and
+    clap the letters of a word that may be similar to a wrong one: where the room for all that may come is refused, it asks for
     that of one. Then there are more growths than where nothing fails."""
-    has_collect = case.words[0] in ("sort", "audit", "installable", "latest") or b"\n  tip: a similar " in case.err
+    has_collect = case.words[0] in COLLECTING or b"\n  tip: a similar " in case.err
     if fault.calls != "growth" or fault.is_lasting or not has_collect:
         return False
     growths = answer.record.get("growths", 0) - asks_for_hint(case, answer.status)
@@ -272,11 +275,12 @@ def wanted_of(case: Case, fault: Fault, k, answer: Answer):
         rules = ["begins" if name in case.open_ended else "all" for name in ("out", "err")]
         return Wanted(case.out, case.err, case.status, *rules)
     line = FAULT_LINES[fault.calls]
+    before = case.err if "--accepted" in case.words else b""
     if fault.calls == "write":
         on_stderr = record["met_on_stderr"]
         if on_stderr == record["met"]:
             return Wanted(case.out, case.err, FAULT_STATUS, err_rule="part")
-        return Wanted(case.out, line, FAULT_STATUS, "part", "part" if on_stderr else "all")
+        return Wanted(case.out, line, FAULT_STATUS, "part", "part" if on_stderr else "all", before=before)
     if case.words[0] == "audit":
         return wanted_of_audit(case, fault, record)
     if case.words[0] == "explain" and fault.calls in ("open", "stat"):
@@ -284,6 +288,8 @@ def wanted_of(case: Case, fault: Fault, k, answer: Answer):
         return Wanted(b"".join(told), line, FAULT_STATUS)
     if "--all" in case.words:
         return wanted_of_all(case, fault, record)
+    if case.words[0] == "select":
+        return Wanted(case.out, line, FAULT_STATUS, rule_of_select(case), before=before)
     if case.words[0] in ("unmet", "healthy"):
         return Wanted(case.out, line, FAULT_STATUS, "whole lines")
     if case.words[0] not in ("normalise", "latest"):
@@ -291,6 +297,13 @@ def wanted_of(case: Case, fault: Fault, k, answer: Answer):
     is_bounded = fault.calls == "read" and case.words[0] == "normalise"
     most = paragraphs_read(case, record) if is_bounded else None
     return Wanted(case.out, line, FAULT_STATUS, "whole paragraphs", most_paragraphs=most)
+
+
+def rule_of_select(case: Case):
+    """How much of its output `select` may have written before a fault: a count comes last."""
+    if "--count" in case.words:
+        return "part"
+    return "whole lines" if "--format" in case.words else "whole paragraphs"
 
 
 def wanted_of_all(case: Case, fault: Fault, record):
@@ -430,7 +443,8 @@ def wrong_texts(answer: Answer, wanted: Wanted):
         is_wanted = fits(answer.out, wanted.out, wanted.out_rule, wanted.most_paragraphs)
     if not is_wanted:
         return "standard output differs"
-    if not fits(answer.err, wanted.err, wanted.err_rule):
+    lines = itertools.accumulate(wanted.before.splitlines(keepends=True), initial=b"")
+    if not any(fits(answer.err, before + wanted.err, wanted.err_rule) for before in lines):
         return "standard error differs"
     return None
 

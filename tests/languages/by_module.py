@@ -129,6 +129,9 @@ def with_options(number, texts):
 
 def explained(call, number, texts):
     """The answer of an explanation."""
+    if call == "explain-condition":
+        text = debctl.explain_condition(*texts, KINDS[number])
+        return b"%d 0 0 0\n" % (0 if text == "ok\n" else 2) + text.encode()
     if call == "explain":
         it = debctl.explain(*texts, KINDS[number])
     else:
@@ -185,6 +188,41 @@ def searched(call, number, texts):
     return debctl.installable(texts[1], texts[0], **more)
 
 
+def selected(number, texts):
+    """The answer which paragraphs are selected; the rows of a table and the objects of lines of JSON are
+    counted, too."""
+    file, *more = texts
+    count, form = number // 64, number // 16 % 4
+    where, fields = more[:count], more[count:]
+    options = {"kind": KINDS[number % 8], "others": number // 8 % 2 == 1}
+    try:
+        found = debctl.count_selected(file, *where, **options)
+        text = b""
+        if form < 3:
+            text = debctl.select(
+                file, *where, fields=fields, form=("control", "table", "jsonl")[form], **options
+            )
+    except debctl.BadCondition as bad:
+        return b"3 0 0 %d\n" % bad.number + bad.text.encode()
+    head = b"%d 0 0 %d\n" % (not found, found)
+    agree = True
+    if form == 1:
+        rows = debctl.select_table(file, *where, fields=fields, **options)
+        agree = len(rows) == found and all(len(row) == len(fields) for row in rows)
+        agree &= b"".join(b"\t".join(map(cell, row)) + b"\n" for row in rows) == text
+    if form == 2:
+        objects = debctl.select_objects(file, *where, **options)
+        agree = len(objects) == found and all(it["line"] and it["fields"] for it in objects)
+    return head + text + (b"" if agree else b"rows differ\n")
+
+
+def cell(text):
+    """A cell of a table, from its text."""
+    said = {"\t": r"\t", "\n": r"\n", "\\": r"\\"}
+    hidden = lambda it: said.get(it, rf"\x{ord(it):02x}")
+    return "".join(hidden(it) if it < " " or it in "\\\x7f" else it for it in text).encode()
+
+
 def answered(call, number, texts, loaded):
     """The answer where nothing is refused."""
     if call in ("compare", "canonical", "key"):
@@ -200,6 +238,8 @@ def answered(call, number, texts, loaded):
     if call == "latest":
         by = "name,arch" if number >= 8 else "name"
         return b"0 0 0 0\n" + debctl.latest(texts[1:], KINDS[number % 8], by, texts[0])
+    if call in ("select", "count"):
+        return selected(number, texts)
     if call == "healthy":
         more = {"kind": KINDS[number % 8], "recommends": number >= 8}
         it = debctl.healthy(texts[1], texts[0], **more)
@@ -207,7 +247,7 @@ def answered(call, number, texts, loaded):
     if call in ("installable", "witness", "buildable"):
         it = searched(call, number, texts)
         return b"%d 0 0 0\n" % (not it) + by_rows(it.text, it)
-    if call in ("explain", "explain-relation", "explain-version"):
+    if call in ("explain", "explain-relation", "explain-version", "explain-condition"):
         return explained(call, number, texts)
     if call in ("check-all", "explain-all"):
         return on_all(call, number, texts)

@@ -87,6 +87,14 @@ TAKE_TEXT = {
     "witness's name": lambda text: debctl.witness(text, HELLO, "amd64"),
     "witness's index": lambda text: debctl.witness("hello", text, "amd64"),
     "witness's arch": lambda text: debctl.witness("hello", HELLO, text),
+    "select's file": debctl.select,
+    "select's condition": lambda text: debctl.select(HELLO, text),
+    "select's field": lambda text: debctl.select(HELLO, fields=[text]),
+    "select_table's file": lambda text: debctl.select_table(text, fields=["Package"]),
+    "select_table's field": lambda text: debctl.select_table(HELLO, fields=[text]),
+    "select_objects' file": debctl.select_objects,
+    "count_selected's file": debctl.count_selected,
+    "explain_condition": debctl.explain_condition,
     "buildable's index": lambda text: debctl.buildable(text, "", "amd64"),
     "buildable's file": lambda text: debctl.buildable(HELLO, text, "amd64"),
     "buildable's arch": lambda text: debctl.buildable(HELLO, "", text),
@@ -102,6 +110,8 @@ TAKE_KIND = {
     "check_all's kind": lambda kind: debctl.check_all(HELLO, kind),
     "explain_all's kind": lambda kind: debctl.explain_all(HELLO, kind),
     "same's kind": lambda kind: debctl.same(HELLO, HELLO, kind),
+    "select's kind": lambda kind: debctl.select(HELLO, kind=kind),
+    "explain_condition's kind": lambda kind: debctl.explain_condition("Package", kind),
     "healthy's kind": lambda kind: debctl.healthy(HELLO, "amd64", kind=kind),
     "installable's kind": lambda kind: debctl.installable(HELLO, "amd64", kind=kind),
     "witness's kind": lambda kind: debctl.witness("hello", HELLO, "amd64", kind=kind),
@@ -184,6 +194,24 @@ def latest_refused(*texts, **more):
         return refused.text, int(refused.code), refused.line
 
 
+def bad_condition(*words, **more):
+    """The number and the reason of a text that is no condition."""
+    try:
+        return debctl.select(*words, **more)
+    except debctl.BadCondition as bad:
+        again = pickle.loads(pickle.dumps(bad))
+        assert (again.number, again.text, str(again)) == (bad.number, bad.text, str(bad))
+        assert isinstance(bad, ValueError) and bad.text == debctl.explain_condition(
+            words[bad.number], **{key: more[key] for key in more if key == "kind"}
+        )
+        return bad.number, bad.lines["reason"], int(bad.lines["place"])
+
+
+def collected(texts):
+    """Texts that are made one by one, with a collection of garbage before each."""
+    return ("".join(it) for it in texts if gc.collect() >= 0)
+
+
 INDEX = debctl.Index(HELLO + "\n" + "Package: mailer\nVersion: 2\nArchitecture: all\nProvides: mta\n")
 
 # Two paragraphs that pass, and between them a bad version, a line without a colon, a name twice and a
@@ -196,6 +224,11 @@ FOUR_REFUSED = [
     (Code.BadVersion, 5, "Version"), (Code.NoColon, 8, None), (Code.DuplicateField, 11, "SIZE"),
     (Code.MissingField, 14, "Architecture"),
 ]
+TWO = (
+    "Package: aa\nVersion: 1.9\nArchitecture: all\nNote: a\tb\\é\n\n"
+    "package: bb \nVersion: 1.10\nArchitecture: all\n"
+)
+ALL_BYTES = "Note: |" + "".join(map(chr, range(9))) + "".join(map(chr, range(11, 256))) + "|\n"
 long_index = "\n".join(f"Package: p{at}\nVersion: {at}\nArchitecture: all\n" for at in range(2000))
 long_version = "1" * 100000 + "-0"
 bad_version = (Code.BadVersion, 0, "BadVersion", False)
@@ -334,6 +367,73 @@ TESTS = {
     "latest, refused": [
         latest_refused(HELLO, BAD), latest_refused(BAD, HELLO), latest_refused(BAD, before="1_"),
     ] == [(2, 15, 4), (1, 15, 4), (None, 18, 0)],
+    "select": debctl.select(TWO, "Version >> 1.9") == TWO.split("\n\n")[1].encode(),
+    "select all": debctl.select(TWO) == TWO.encode() == debctl.select(TWO, "Package", others=False),
+    "select others": debctl.select(TWO, "Version >> 1.9", others=True) == TWO.split("\n\n")[0].encode()
+    + b"\n",
+    "select none": [debctl.select(TWO, "Size", form=form, fields=()) for form in ("control", "jsonl")]
+    == [b"", b""] and debctl.select_table(TWO, "Size", fields=["Size"]) == [],
+    "select nothing": (debctl.select(""), debctl.count_selected(b""), debctl.select_objects(""))
+    == (b"", 0, []),
+    "select fields": debctl.select(TWO, "Package = bb", fields=["VERSION", b"package", "size"])
+    == b"Version: 1.10\npackage: bb \n",
+    "select with texts that are freed": debctl.select(
+        TWO, *collected([["Package ", "= b", "b"], ["Version", ">>1"]]),
+        fields=collected([["Ver", "sion"], ["Pack", "age"]]),
+    ) == b"Version: 1.10\npackage: bb \n",
+    "select from bytes-like objects": [
+        debctl.select(like(TWO.encode()), like(b"Package=bb"), fields=[like(b"Version")])
+        for like in BYTES_LIKE
+    ] == [b"Version: 1.10\n"] * 4,
+    "count selected": [debctl.count_selected(TWO, "Version << 2", others=it) for it in (False, True)]
+    == [2, 0],
+    "select a table": debctl.select(TWO, form="table", fields=["note", "Package"])
+    == "a\\tb\\\\é\taa\n\tbb\n".encode(),
+    "the rows of a table": debctl.select_table(TWO, fields=["note", "Package"])
+    == [["a\tb\\é", "aa"], ["", "bb"]],
+    "rows without a cell": debctl.select_table(TWO, fields=()) == [[], []],
+    "cells with each byte": debctl.select_table(
+        ALL_BYTES, kind="any", fields=["Note", "x"],
+    ) == [[ALL_BYTES[6:].strip(), ""]],
+    "lines in a cell": debctl.select_table("A: x\n y\n .\n \u2028z\n", fields=["a"], kind="any")
+    == [["x\n y\n .\n \u2028z"]],
+    "select objects": [
+        (it["line"], sorted(it["fields"]), it["fields"]["Version"]) for it in debctl.select_objects(TWO)
+    ] == [
+        (1, ["Architecture", "Note", "Package", "Version"], {"canonical": "1.9", "spelled": "1.9"}),
+        (6, ["Architecture", "Package", "Version"], {"canonical": "1.10", "spelled": "1.10"}),
+    ],
+    "objects of each byte": debctl.select_objects(ALL_BYTES, kind="any")
+    == [{"line": 1, "fields": {"Note": ALL_BYTES[6:].strip()}}],
+    "many are selected": len(debctl.select_objects(long_index, "Version >= 1000"))
+    == len(debctl.select_table(long_index, "Version >= 1000", fields=["Package"] * 9))
+    == debctl.select(long_index, "Version >= 1000", form="jsonl").count(b"\n") == 1000,
+    "select, refused": [
+        refusal(debctl.select, HELLO + "\n" + BAD), refusal(debctl.select_table, BAD, fields=["x"]),
+        refusal(debctl.select_objects, BAD), refusal(debctl.count_selected, BAD, "Package"),
+    ] == [(15, 8, "BadNumber", False)] + [(15, 4, "BadNumber", False)] * 3,
+    "no conditions": [
+        bad_condition(BAD, "Size >= 1k"), bad_condition(BAD, "Package", "Package >= aa"),
+        bad_condition(BAD, ""), bad_condition(BAD, "Package = \0\xe9\n"),
+        bad_condition(HELLO, "Version >= 1", kind="any"), bad_condition(HELLO, b"Package = \xff"),
+    ] == [
+        (1, "ValueBad", 8), (2, "NoOrder", 8), (1, "NameExpected", 0), (1, "ValueBad", 10),
+        (1, "NoOrder", 8), (1, "ValueBad", 10),
+    ],
+    "explain a condition": (
+        debctl.explain_condition("Version >= 1"), debctl.explain_condition(b"Version ~ \xff"),
+        debctl.explain_condition("Package >= \ta\\"), debctl.explain_condition(b"=\xff"),
+    ) == (
+        "ok\n", "ok\n", "place: 8\nreason: NoOrder\nvalue: Package >= \\ta\\\\\n"
+        "rule: Only versions and numbers have an order.\n",
+        "place: 0\nreason: NameExpected\nvalue: =\\xff\nrule: A field's name is expected.\n",
+    ),
+    "select, wrong words": [
+        error(debctl.select, HELLO, form="json"), error(debctl.select, HELLO, kind="foo"),
+        error(debctl.select, HELLO, fields="Package"), error(debctl.select_table, HELLO, fields=b"a"),
+        error(debctl.select, HELLO, ["Package"]), error(debctl.select, HELLO, fields=[5]),
+        error(debctl.select_table, HELLO), error(debctl.explain_condition, "Package", "foo"),
+    ] == [ValueError, ValueError] + [TypeError] * 5 + [ValueError],
     "latest, wrong words": [
         error(debctl.latest, [HELLO], kind="binary"), error(debctl.latest, [HELLO], by="arch"),
         error(debctl.latest, HELLO), error(debctl.latest, [5]),

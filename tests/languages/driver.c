@@ -19,7 +19,8 @@ struct file {
 };
 
 /* What is asked: the number, three files or, of `witness` and `buildable`, four, and all further files
- * as profiles; of `unmet-with` four, of a question to an index of several files two, and of `latest` one.
+ * as profiles; of `unmet-with` four, of a question to an index of several files two, and of `latest`,
+ * `select` and `count` one: the file, before the conditions and the names of fields.
  * `out` gathers the answer. The number is that of a kind, and with more that is asked: 8
  * times a detail or whether Recommends is asked, 16 times whether essential packages are, 32 times
  * whether reasons are, and 64 times a budget. The second file of `witness` is the name. The last file of
@@ -53,9 +54,12 @@ static int is_of_files(const struct question *q) {
     return calls(q, "query-files") || calls(q, "why-files");
 }
 
+/* Whether paragraphs are selected. */
+static int is_selection(const struct question *q) { return calls(q, "select") || calls(q, "count"); }
+
 /* How many files aren't profiles. */
 static int own_files(const struct question *q) {
-    if (calls(q, "latest"))
+    if (calls(q, "latest") || is_selection(q))
         return 1;
     if (is_of_files(q))
         return 2;
@@ -136,6 +140,17 @@ static struct deb_answer ask(const struct question *q, uint8_t *out, size_t room
     return ask_file(q, out, room, length);
 }
 
+/* The same of the paragraphs that are selected. The number is that of the kind, and 8 more for the
+ * others, 16 times the form, and 64 times how many conditions there are. */
+static struct deb_answer ask_selected(const struct question *q, uint8_t *out, size_t room,
+                                      size_t *length) {
+    const struct file *file = &q->files[0];
+    size_t count = (size_t)(q->number / 64);
+    return deb_select((uint8_t)(q->number % 8), (uint8_t)(q->number / 8 % 2),
+                      (uint8_t)(q->number / 16 % 4), q->profiles, count, q->profiles + count,
+                      q->profile_count - count, file->bytes, file->length, out, room, length);
+}
+
 /* The same of a search for sets of packages. */
 static struct deb_answer search(const struct question *q, uint8_t *out, size_t room,
                                 size_t *length) {
@@ -151,6 +166,10 @@ static struct deb_answer search(const struct question *q, uint8_t *out, size_t r
     if (calls(q, "latest"))
         return deb_latest(kind, recommends, target->bytes, target->length, q->profiles,
                           q->profile_count, out, room, length);
+    if (is_selection(q))
+        return ask_selected(q, out, room, length);
+    if (calls(q, "explain-condition"))
+        return deb_explain_condition(kind, target->bytes, target->length, out, room, length);
     if (calls(q, "installable"))
         return deb_installable(kind, recommends, essential, reasons, budget, target->bytes,
                                target->length, q->without, q->without_count, first->bytes,
@@ -408,6 +427,23 @@ static void write_refusals(const struct question *q) {
     free(refusals);
 }
 
+/* Writes why a text is no condition, and whether its rows say so. */
+static void write_reason(const struct question *q, const struct deb_text *text) {
+    uint8_t kind = (uint8_t)(q->number % 8), *out;
+    struct deb_row *rows;
+    size_t length, count;
+    deb_explain_condition(kind, text->bytes, text->length, NULL, 0, &length);
+    out = malloc(length + 1);
+    if (deb_explain_condition(kind, text->bytes, text->length, out, length, &length).status ==
+        DEB_REFUSED)
+        fwrite(out, 1, length, q->out);
+    count = rows_of(DEB_EXPLANATION, out, length, &rows);
+    if (count == SIZE_MAX || !prints_as(rows, count, out, length))
+        fprintf(q->out, "rows differ\n");
+    free(rows);
+    free(out);
+}
+
 /* Writes the answer of a call and its text, and whether it is the same in other ways. */
 static void write_answer(const struct question *q) {
     uint8_t *out = NULL;
@@ -421,6 +457,8 @@ static void write_answer(const struct question *q) {
     write_head(q, answer);
     if (out)
         fwrite(out, 1, length, q->out);
+    if (is_selection(q) && answer.status == DEB_SECOND_REFUSED)
+        write_reason(q, &q->profiles[answer.count - 1]);
     if (!rows_agree(q, answer, out, length))
         fprintf(q->out, "rows differ\n");
     if (!index_agrees(q, answer, out, length))

@@ -178,6 +178,9 @@ static struct deb_answer call(int which) {
     const uint8_t *text = bytes(index_of_two);
     size_t size = strlen(index_of_two);
     struct deb_text profile = {bytes("nocheck"), 7};
+    struct deb_text fields[] = {{bytes("Depends"), 7}, {bytes("version"), 7}};
+    struct deb_text conditions[] = {{bytes("Depends names aa"), 16}, {bytes("version >= 1"), 12},
+                                    {bytes("Architecture = all"), 18}, {bytes("Size >= 1k"), 10}};
     switch (which) {
     case 0:
         return deb_version_canonical(bytes("01:02.030-0004"), 14, out, sizeof out, &length);
@@ -286,6 +289,24 @@ static struct deb_answer call(int which) {
         struct deb_text texts[] = {{text, size}, {text, size}};
         return deb_latest(DEB_PACKAGES, DEB_NAME, bytes("9"), 1, texts, 2, out, sizeof out, &length);
     }
+    case 41:
+        return deb_select(DEB_PACKAGES, 0, DEB_CONTROL, conditions, 2, fields, 2, text, size, out,
+                          sizeof out, &length);
+    case 42:
+        return deb_select(DEB_PACKAGES, 1, DEB_TABLE, conditions, 3, fields, 2, text, size, out,
+                          sizeof out, &length);
+    case 43:
+        return deb_select(DEB_PACKAGES, 0, DEB_JSON_LINES, NULL, 0, NULL, 0, text, size, out,
+                          sizeof out, &length);
+    case 44:
+        return deb_select(DEB_PACKAGES, 0, DEB_COUNT, conditions + 2, 2, NULL, 0, text, size, out,
+                          sizeof out, &length);
+    case 45:
+        return deb_explain_condition(DEB_PACKAGES, bytes("Version >= 1_"), 13, out, sizeof out,
+                                     &length);
+    case 46:
+        return deb_explain_condition(DEB_PACKAGES, bytes("Version >= 1"), 12, out, sizeof out,
+                                     &length);
     default:
         return deb_query(bytes("amd64"), 5, &profile, 1, bytes("hello (>= 1) | xx, mta"), 22, text,
                          size, out, sizeof out, &length);
@@ -307,7 +328,9 @@ int main(void) {
                                   "installable",       "installable, installed",
                                   "witness",           "witness, not found",
                                   "buildable",         "index_read_more", "index_without",
-                                  "index_unmet_with",  "latest",  "query"};
+                                  "index_unmet_with",  "latest",  "select", "select, table",
+                                  "select, JSON",      "select, no condition",
+                                  "explain_condition, refused", "explain_condition", "query"};
     enum { CALLS = sizeof names / sizeof *names };
     static const int statuses[CALLS] = {
         DEB_YES, DEB_YES, DEB_YES, DEB_YES, DEB_REFUSED, DEB_YES,
@@ -317,6 +340,7 @@ int main(void) {
         DEB_REFUSED, DEB_YES, DEB_YES, DEB_YES, DEB_REFUSED, DEB_YES,
         DEB_NO,  DEB_NO,  DEB_NO,  DEB_NO,  DEB_YES, DEB_NO,
         DEB_NO,  DEB_YES, DEB_YES, DEB_YES, DEB_YES, DEB_YES,
+        DEB_YES, DEB_YES, DEB_SECOND_REFUSED, DEB_REFUSED, DEB_YES, DEB_YES,
     };
     struct deb_answer reading;
     int which, passed = 0, failed = 0;

@@ -11,12 +11,16 @@ OPTIONS = {"--index", "--unless-in", "--without", "--all-sources", "--all-for"}
 OLD = 999  # the place of a refused file that is the old index
 LONGEST_RELATION = 16_777_216  # in a file that the program reads; the libraries have no such limit
 FLAGS = [
-    "--recommends", "--installed", "--all", "--why", "--values", "--essential", "--all-sources",
+    "--recommends", "--installed", "--all", "--why", "--values", "--essential", "--all-sources", "--not",
+    "--count",
 ]
 VALUES = [
     "--kind", "--arch", "--profiles", "--relation", "--version-text", "--relation-from", "--budget",
-    "--index", "--witness", "--without", "--unless-in", "--all-for", "--by", "--before",
+    "--index", "--witness", "--without", "--unless-in", "--all-for", "--by", "--before", "--fields",
+    "--format", "--where",
 ]
+SHORT = {"-k": "--kind", "-f": "--fields"}
+SEVERAL = {"--index", "--where"}  # what may be said more than once
 
 
 class Unknown(Exception):
@@ -28,14 +32,14 @@ def options_of(words):
     options, others, ended = {}, [], False
     words = iter(words)
     for word in words:
-        name, equals, value = ("--kind" if word == "-k" else word).partition("=")
+        name, equals, value = SHORT.get(word, word).partition("=")
         if ended or not word.startswith("-") or word == "-":
             others.append(word)
         elif word == "--":
             ended = True
         elif word in FLAGS and name not in options:
             options[name] = ""
-        elif name == "--index":
+        elif name in SEVERAL:
             options.setdefault(name, []).append(value if equals else next(words, ""))
         elif name in VALUES and name not in options:
             options[name] = value if equals else next(words, "")
@@ -114,6 +118,46 @@ def latest_question(options, others, given):
         raise Unknown
     texts = [bytes_of(before or ""), *(read(path, given) for path in others)]
     return "latest", KINDS.index(kind) + 8 * (by != "name"), texts
+
+
+def conditions_of(where):
+    """The texts of conditions. What isn't UTF-8 is no word of the program."""
+    try:
+        return [word.encode() for word in where]
+    except UnicodeEncodeError as error:
+        raise Unknown from error
+
+
+def condition_question(options, others):
+    """A question why a text is no condition: its number is that of the kind."""
+    kind, where = options.pop("--kind", "packages"), conditions_of(options.pop("--where"))
+    if kind not in KINDS or len(where) != 1 or others:
+        raise Unknown
+    return "explain-condition", KINDS.index(kind), where
+
+
+def select_question(options, others, given):
+    """A question which paragraphs are selected: its number is that of the kind, 8 more for the others, 16
+    times the form, and 64 times how many conditions there are; its texts are the file, the conditions
+    and the names of the fields. To count is a call of its own."""
+    kind, where = options.pop("--kind", "packages"), options.pop("--where", [])
+    form = 3 if options.pop("--count", None) is not None else None
+    names = options.pop("--fields", None)
+    words = ("control", "table", "jsonl")
+    said = options.pop("--format", None)
+    if form is None:
+        form = words.index(said or "control") if said in (None, *words) else 9
+    elif said is not None or names is not None:
+        raise Unknown
+    if kind not in KINDS or form == 9 or len(others) > 1 or (form == 1) > (names is not None):
+        raise Unknown
+    if (form == 2 and names is not None) or "" in (names or "-").split(","):
+        raise Unknown
+    conditions = conditions_of(where)
+    number = KINDS.index(kind) + 8 * (options.pop("--not", None) is not None) + 16 * form
+    fields = [] if names is None else [bytes_of(it) for it in names.split(",")]
+    texts = [read(others[0] if others else None, given), *conditions, *fields]
+    return "count" if form == 3 else "select", number + 64 * len(conditions), texts
 
 
 def healthy_question(options, others, given):
@@ -205,6 +249,8 @@ def text_question(call, options, others):
         return call, 0, [bytes_of(others[0]), bytes_of(others[2])]
     if call == "canon-version" and len(others) == 1:
         return "canonical", 0, [bytes_of(others[0])]
+    if call == "explain" and "--where" in options:
+        return condition_question(options, others)
     for option, name in [("--relation", "explain-relation"), ("--version-text", "explain-version")]:
         if call == "explain" and option in options and not others:
             return name, 0, [bytes_of(options.pop(option))]
@@ -245,6 +291,8 @@ def question(words, given):
             asked = query_question(options, others, given)
         elif call == "latest":
             asked = latest_question(options, others, given)
+        elif call == "select":
+            asked = select_question(options, others, given)
         else:
             asked = text_question(call, options, others)
             asked = asked or file_question(call, options, others, given)

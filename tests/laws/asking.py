@@ -12,6 +12,7 @@ from laws.documents import alternative, made, mistaken, read, text_of
 from laws.explained import HEAD, Explained, cut
 from laws.reasons import FIELDS, Fault, fault_of, nearly
 from laws.refusals import REFUSAL, AllRefusals
+from laws.selected import Selected
 from laws.several import File, Several
 from laws.spelling import planted, respelled, spoiled
 from laws.universes import NAMES, package, sources, universe
@@ -150,6 +151,7 @@ class Asked:
         if case.kind in ("source", "sources"):
             yield from self.of_source_file(normal)
         yield from self.of_sources()
+        yield from Selected(self.program, case.random, case.kind, case.text).wrong(normal)
         refusal = normal.err if normal.status == 2 else b""
         yield from Several(self.program, case.random).wrong(case.kind, case.text, refusal)
 

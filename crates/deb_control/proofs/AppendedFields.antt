@@ -24,8 +24,8 @@ appended doc field old new appends =
     )
 
 module _ (doc : Doc) (fields : List Field) (order : List ℕ) (i : ℕ) (within : i < length order) (raw : RawField) (at : option_map field_of (Some raw) ≡ slice_get fields (get_or order i 0)) where
-  next : picked fields (drop i order) ≡ field_of raw ∷ picked fields (drop (i + 1) order)
-  next =
+  pub picked-next : picked fields (drop i order) ≡ field_of raw ∷ picked fields (drop (i + 1) order)
+  picked-next =
       ap (picked fields) (drop-cons order i 0 within)
       ∙ ap (λ field. field ∷ picked fields (drop (suc i) order)) (get_or_from_slice_get fields (get_or order i 0) (field_of raw) no_field (sym at))
       ∙ ap (λ n. field_of raw ∷ picked fields (drop n order)) (sym (add-one i))
@@ -37,16 +37,16 @@ module _ (doc : Doc) (fields : List Field) (order : List ℕ) (i : ℕ) (within 
       let others = picked fields (drop (i + 1) order) in
       ap (λ m. m ++ flat_map T others) (appended doc (field_of raw) old new appends).0
       ∙ append_assoc old (T (field_of raw)) (flat_map T others)
-      ∙ ap (λ m. old ++ flat_map T m) (sym next)
+      ∙ ap (λ m. old ++ flat_map T m) (sym picked-next)
       ∙ so_far
 
   pub good-next : (old new : List ℕ) → AppendsField (kind_of doc (canonical_name raw.name.now)) (field_of raw) old new → (AllByRecursion (IsGood (rules_of doc)) (picked fields (drop i order)) → AllByRecursion (IsGood (rules_of doc)) (picked fields order)) → AllByRecursion (IsGood (rules_of doc)) (picked fields (drop (i + 1) order)) → AllByRecursion (IsGood (rules_of doc)) (picked fields order)
-  good-next old new appends so_far rest = so_far (subst (AllByRecursion (IsGood (rules_of doc))) (sym next) ((appended doc (field_of raw) old new appends).1, rest))
+  good-next old new appends so_far rest = so_far (subst (AllByRecursion (IsGood (rules_of doc))) (sym picked-next) ((appended doc (field_of raw) old new appends).1, rest))
 
   -- one whose value is refused
   pub not_good : IsSome (kind_refusal (kind_of doc (canonical_name raw.name.now)) raw.body.now) → AllByRecursion (IsGood (rules_of doc)) (picked fields order) → ⊥
   not_good refused good =
       let P = IsGood (rules_of doc) in
       let rest = subst (AllByRecursion P) (drop-map (λ k. get_or fields k no_field) i order) (All-drop P i (picked fields order) good) in
-      let one : IsGood (rules_of doc) (field_of raw) = (subst (AllByRecursion P) next rest).0 in
+      let one : IsGood (rules_of doc) (field_of raw) = (subst (AllByRecursion P) picked-next rest).0 in
       false≢true (sym (ap is_some one) ∙ refused)

@@ -97,7 +97,7 @@ pub use Rattle.deb_control.specs.PassingValues.{HasValue}
 pub use Rattle.deb_control.specs.ReadingOn.{ReadsFile, ReadsOn, shown}
 pub use Rattle.deb_control.specs.Refusals.{Answered, Outcome, answer_behind, answer_of_seen, built, canonical_entries, canonical_field, followed, has_some, have_names, line_behind, next_after, next_checked, next_given, outcome, outcome_behind, passed_in, refusal_by, refusal_or, refused_or_built, stopped, value_refusal_of, within_file}
 pub use Rattle.deb_control.specs.Rules.{AreRulesOf, Rules}
-pub use Rattle.deb_control.specs.Sorting.{comes_before, name_before}
+pub use Rattle.deb_control.specs.Sorting.{name_before}
 pub use Rattle.deb_control.specs.Totals.{bytes_with, gap_behind}
 pub use Rattle.deb_control.specs.ValueFileLaws.{CanonicalTextMeansTheSame, CanonicalTextTellsMeanings, TextMeansOneThing}
 pub use Rattle.deb_control.specs.ValueFiles.{MeansValues, SpellsEntries, SpellsEntry, ValueEntries, bodies_of, body_under, values_text}

@@ -29,6 +29,7 @@ pub mod KnownNames
 pub mod NameFronts
 pub mod FieldOrders
 pub mod AppendedFields
+pub mod OrderedFields
 pub mod ValueLookups
 pub mod FollowedParagraphs
 pub mod CheckedSoFar

@@ -1,5 +1,5 @@
 -- The lines of the paragraph at which a document is refused are those that were judged last.
-use Rattle.deb_control.proofs.Common.{◌≡◌, ℕ, ◌==◌, ◌&&◌, not, Bool, true, false, cond, List, length, Option, None, Result, Ok, Err, IfNone, sym, ap, ◌∙◌, subst, Fault, Refused, Memory, Read, Write, advance_answer, State, passed_count, is_single, Doc, rules_of, IfRefused, Paragraph, Answered, passed_in}
+use Rattle.deb_control.proofs.Common.{◌≡◌, ℕ, ◌==◌, ◌&&◌, not, Bool, true, false, cond, List, length, Option, None, Result, Ok, Err, IfNone, IfOk, sym, ap, ◌∙◌, subst, Fault, Refused, Memory, Read, Write, advance_answer, State, passed_count, is_single, Doc, rules_of, IfRefused, Paragraph, Answered, passed_in}
 use Rattle.deb_syntax.specs.Judged.{ShowsJudged, judged_behind}
 use Rattle.deb_control.specs.Refused.{lines_given}
 use Rattle.deb_control.proofs.Checks.{has_some-is}
@@ -14,6 +14,10 @@ of_refusal (Err (Refused refusal)) P p = p
 of_refusal (Err Memory) P p = tt
 of_refusal (Err Read) P p = tt
 of_refusal (Err Write) P p = tt
+
+pub of_ok : {T : Type 0} (result : Result T Fault) (P : Type 0) → P → IfOk result (λ _. P)
+of_ok (Ok a) P p = p
+of_ok (Err fault) P p = tt
 
 -- an answer that there is a paragraph, or none, shows what was judged
 pub shown_by_answer : (text : List ℕ) (count : ℕ) (state : State) (found : Bool) (last : Option Paragraph) → ShowsJudged text count (advance_answer state (Ok found)) last → last ≡ judged_behind text count

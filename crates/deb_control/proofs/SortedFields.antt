@@ -1,7 +1,6 @@
 -- Fields that are sorted by the canonical spellings of their names: what they mean is they themselves, in that order.
-use Rattle.deb_control.proofs.Common.{◌≡◌, ℕ, suc, ◌<◌, Bool, false, List, [], ◌∷◌, ◌++◌, length, map, get_or, Ordering, Less, Equal, Greater, is_eq, add-one, refl, sym, ap, ◌∙◌, subst, append-nil, append_assoc, arith, or_parts, both_ways, nat_list_cmp_total, sorted_far, ranks_by, IsPermutation-map, is_eq-slice_cmp, bytes_eq-Decides, AllByRecursion, IsSortedBy, is_lt, ordering_reverse, folded, canonical_name, folded-from_canonical_name, Field, has_name, AreDistinct, byte_order, Entries, entries_after, entries_of, distinct-permutation, entries_of-permutation, name_before}
+use Rattle.deb_control.proofs.Common.{◌≡◌, ℕ, suc, ◌<◌, Bool, false, List, [], ◌∷◌, ◌++◌, length, map, get_or, Ordering, Less, Equal, Greater, is_eq, add-one, refl, sym, ap, ◌∙◌, subst, append-nil, append_assoc, arith, or_parts, both_ways, nat_list_cmp_total, sorted_far, ranks_by, is_eq-slice_cmp, bytes_eq-Decides, AllByRecursion, IsSortedBy, is_lt, ordering_reverse, folded, canonical_name, folded-from_canonical_name, Field, has_name, AreDistinct, byte_order, Entries, entries_after, entries_of, name_before}
 use Rattle.std.proofs.Common.{bytes_eq}
-use Rattle.std.specs.List.Sorted.{IsPermutation}
 use Rattle.deb_control.proofs.Entries.{IsAscending}
 use Rattle.deb_control.proofs.ParagraphText.{insert_last, AllAbove, AllAbove-push, AllAbove-nil}
 
@@ -58,10 +57,3 @@ module _ {X : Type 0} (field_in : X → Field) where
       let order = ranks_by nat_list_cmp_total (λ y. canonical_name (field_in y).name) in
       let least = first_least x xs (λ j e within. sorted_far below order (x ∷ xs) up 0 (suc j) e (omega arith) (omega (arith, within))) in
       (all_behind x xs d.0 least, ascending_from_sorted xs (sorted_tail x xs up) d.1)
-
-  -- what fields mean that were sorted
-  pub entries_of-sorted_fields : (was now : List X) → IsPermutation was now → IsSortedBy below now → AreDistinct (map field_in was) → entries_of (map field_in was) ≡ map entry_of (map field_in now)
-  entries_of-sorted_fields was now moved up d =
-      let moves = IsPermutation-map field_in was now moved in
-      entries_of-permutation (map field_in was) (map field_in now) moves d
-      ∙ entries_of-ascending (map field_in now) (ascending_from_sorted now up (distinct-permutation (map field_in was) (map field_in now) moves d))

@@ -1,5 +1,5 @@
 -- What a paragraph whose values have been read shows of it. Debian Policy 5.1.
-use Rattle.std.specs.Prelude.{◌≡◌, ℕ, List, [], ◌∷◌, map, Ok, codes, refl, true, false}
+use Rattle.std.specs.Prelude.{◌≡◌, ℕ, List, [], ◌∷◌, map, Ok, codes, refl}
 use denote.Ref.{Bor}
 use Rattle.deb_base.specs.Kinds.{known_row, row_count}
 use Rattle.deb_base.specs.Names.{canonical_name}
@@ -18,7 +18,6 @@ use Rattle.deb_control.specs.Pairs.{Pairwise}
 use Rattle.deb_control.specs.Refusals.{built}
 use Rattle.deb_control.specs.ValueFiles.{ValueEntries, SpellsEntry, body_under}
 use Rattle.deb_control.specs.declared.typed_field.TypedField.{TypedField}
-use Rattle.deb_control.specs.Sorting.{comes_before}
 
 -- the field as it is in the file
 abbrev pub field_in : TypedField → Field
@@ -91,8 +90,3 @@ text_of_two : (text_of_values
     ((codes "Essential", FlagMeans Yes) ∷ (codes "X-A", TextMeans (codes "1")) ∷ [])
     ≡ codes "Essential: yes\nX-A: 1\n") × (text_of_values [] ≡ [])
 text_of_two = (refl, refl)
-
-fields_in_order : (comes_before flag_field text_field ≡ true)
-    × (comes_before text_field flag_field ≡ false)
-unfolding flag_field text_field
-fields_in_order = (refl, refl)

@@ -3,14 +3,10 @@ use Rattle.std.specs.Prelude.{◌≡◌, ℕ, zero, suc, ◌+◌, ◌*◌, ◌^�
 use Rattle.std.specs.Ordering.{is_lt}
 use Rattle.deb_base.specs.Names.{canonical_name}
 use Rattle.deb_syntax.specs.Meaning.{byte_order}
-use Rattle.deb_control.specs.declared.typed_field.TypedField.{TypedField}
 
--- the canonical spelling of a name comes before that of another, and so do their fields
+-- the canonical spelling of a name comes before that of another
 abbrev pub name_before : List ℕ → List ℕ → Bool
 name_before name other = is_lt (byte_order (canonical_name name) (canonical_name other))
-
-abbrev pub comes_before : TypedField → TypedField → Bool
-comes_before field other = name_before field.raw.name.now other.raw.name.now
 
 -- The first k bytes of a text as one number, the first of them highest. A byte that is missing
 -- counts as 0.

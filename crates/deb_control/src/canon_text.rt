@@ -85,7 +85,11 @@ impl ParagraphChecker for CanonText {
 }
 
 /// Replaces `order` by the numbers of a paragraph's fields in the order of their names.
-fn sort_fields(alloc: Global, paragraph: &Raw<'_>, order: &mut Vec<usize>) -> Result<(), AllocError>
+pub(crate) fn sort_fields(
+    alloc: Global,
+    paragraph: &Raw<'_>,
+    order: &mut Vec<usize>,
+) -> Result<(), AllocError>
     ensures { OnOk result (IsOrderOf (fields_of paragraph.now) order.new.items) }
 {
     order.clear();

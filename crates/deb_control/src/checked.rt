@@ -1,6 +1,7 @@
 //! Reads the paragraphs of a document, and checks them one after another.
 
 ghost use Rattle.std.specs.Prelude.{◌≡◌, ◌==◌, ℕ, List, [], Option, Some, None, Ok, true, IfNone, IfErr, IfOk, IfSome, IsFalse, IsSome, IsTrue};
+ghost use Rattle.deb_base.specs.Bodies.{pieces_of};
 ghost use Rattle.deb_base.specs.Codes.{number_of};
 ghost use Rattle.deb_syntax.specs.Paragraphs.{judged_last, seen_of, state_of};
 ghost use Rattle.deb_syntax.specs.Reading.{Fits};
@@ -164,6 +165,11 @@ impl Checked {
             answered (checked_state self.old) (R.left reader.old) → IfRefused result
             (λ _. lines_checked self.new ≡ lines_given (rules_of (doc_read self.old)) text
             answered)) }
+        ensures lines_found { IfNone (checked_state self.old).fault
+            ((text : List ℕ) (answered : List Answered) → FitsChecked (doc_read self.old) text
+            answered (checked_state self.old) (R.left reader.old) → IfOk result
+            (λ _. lines_checked self.new ≡ lines_given (rules_of (doc_read self.old)) text
+            answered)) }
         ensures refused { IfNone (checked_state self.old).fault
             ((text : List ℕ) (answered : List Answered) → FitsChecked (doc_read self.old) text
             answered (checked_state self.old) (R.left reader.old) → IfErr result
@@ -243,6 +249,16 @@ impl Checked {
         }
     }
 
+    /// Returns the lines of the paragraph that the last `advance` found, or at which it refused the
+    /// file, as they are in the file, with the newlines between them. `None` if there is no such
+    /// paragraph.
+    pub fn text(&self) -> Option<&[u8]>
+        ensures { option_map (λ text. pieces_of text.now) result
+            ≡ option_map (λ p. p.lines) (lines_checked self.now) }
+    {
+        self.paragraphs.text()
+    }
+
     /// Returns the line of a number, counted from 1, without its newline, of the paragraph that the
     /// last `advance` found, or at which it refused the file. `None` if that has no such line, or
     /// if there is no such paragraph.
@@ -266,6 +282,11 @@ impl Checked {
         ensures lines { IfNone (checked_state self.old).fault
             ((text : List ℕ) (answered : List Answered) → FitsChecked self.old.doc text
             answered (checked_state self.old) (R.left reader.old) → IfRefused result
+            (λ _. lines_checked self.new ≡ lines_given (rules_of self.old.doc) text
+            answered)) }
+        ensures lines_found { IfNone (checked_state self.old).fault
+            ((text : List ℕ) (answered : List Answered) → FitsChecked self.old.doc text
+            answered (checked_state self.old) (R.left reader.old) → IfOk result
             (λ _. lines_checked self.new ≡ lines_given (rules_of self.old.doc) text
             answered)) }
         ensures refused { IfNone (checked_state self.old).fault

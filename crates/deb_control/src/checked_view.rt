@@ -7,8 +7,9 @@ ghost use Rattle.deb_control.specs.SpelledAlike.{spelled_in};
 ghost use Rattle.deb_control.specs.Checking.{is_judged};
 
 use crate::alike::are_alike;
-use crate::paragraph::Paragraph;
+use crate::paragraph::{Paragraph, read_fields};
 use crate::paragraph_check::value_of;
+use crate::typed_field::TypedField;
 use deb_base::Fault;
 use deb_field::{Doc, Value};
 use deb_syntax::{Fields, Raw, RawField};
@@ -29,7 +30,7 @@ impl<'a> CheckedView<'a> {
     ghost use Rattle.deb_syntax.specs.Raw.{field_of, field_named, fields_left};
     ghost use Rattle.deb_field.specs.ValueMeanings.{value_meaning};
     ghost use Rattle.deb_control.specs.CheckedStates.{doc_judged, passing_judged};
-    ghost use Rattle.deb_control.specs.Paragraphs.{AreValuesOf};
+    ghost use Rattle.deb_control.specs.Paragraphs.{AreValuesOf, values_in};
     ghost use Rattle.deb_control.specs.ParagraphValues.{fields_shown, values_of};
     ghost use Rattle.deb_control.specs.PassingValues.{HasValue};
 
@@ -88,6 +89,23 @@ impl<'a> CheckedView<'a> {
         };
         match value_of(alloc, self.doc, &field) {
             Ok(value) => Ok(Some(value)),
+            Err(fault) => Err(want_of_memory(fault)),
+        }
+    }
+
+    /// Returns the fields with their values, in ascending order of the canonical spellings of their
+    /// names.
+    ///
+    /// # Errors
+    ///
+    /// Out of memory only.
+    pub fn typed_fields(&self, alloc: Global) -> Result<Vec<TypedField<'a>>, AllocError>
+        ensures values { IfOk result
+            (λ fields. AreValuesOf (doc_judged self.now) (passing_judged self.now).seen
+            (values_in fields.items)) }
+    {
+        match read_fields(alloc, self.doc, &self.raw) {
+            Ok(fields) => Ok(fields),
             Err(fault) => Err(want_of_memory(fault)),
         }
     }

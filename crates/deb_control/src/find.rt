@@ -49,6 +49,11 @@ pub(crate) fn find<R: Source, C: ParagraphChecker>(
         (moment_from shown kept paragraphs.old totals.old (R.left reader.old)
         (R.failures reader.old)).state (R.left reader.old) → IfRefused result
         (λ _. judged_last paragraphs.new ≡ lines_given (rules_of doc) text answered) }
+    ensures lines_found { (shown : Option Seen) (kept : Option Fault) (text : List ℕ)
+        (answered : List Answered) → FitsChecked doc text answered
+        (moment_from shown kept paragraphs.old totals.old (R.left reader.old)
+        (R.failures reader.old)).state (R.left reader.old) → IfOk result
+        (λ _. judged_last paragraphs.new ≡ lines_given (rules_of doc) text answered) }
     ensures inside { IfErr result
         (λ fault. IsTrue (is_inside (Some fault) (state_of paragraphs.new).fault)) }
     ensures refused { (shown shown_now : Option Seen) (kept kept_now : Option Fault)

@@ -1,6 +1,7 @@
 //! Paragraphs with their values.
 
-ghost use Rattle.std.specs.Prelude.{◌≡◌, ◌++◌, Some, None, Err, IfOk, IfErr, IsTrue, OnOk, OnErr, length, map};
+ghost use Rattle.std.specs.Prelude.{◌≡◌, ◌<◌, ◌++◌, Some, None, Err, IfOk, IfErr, IsSome, IsTrue, OnOk};
+ghost use Rattle.std.specs.Prelude.{OnErr, length, map};
 ghost use Rattle.std.specs.Option.{option_map};
 ghost use Rattle.std.specs.FinMap.{find as value_under};
 ghost use Rattle.std.specs.List.{AllByRecursion};
@@ -11,15 +12,16 @@ ghost use Rattle.deb_syntax.specs.Meaning.{byte_order};
 ghost use Rattle.deb_syntax.specs.Paragraphs.{seen_of};
 ghost use Rattle.deb_syntax.specs.Raw.{fields_of};
 ghost use Rattle.deb_field.specs.ValueMeanings.{value_meaning};
+ghost use Rattle.deb_control.specs.CanonTexts.{picked};
 ghost use Rattle.deb_control.specs.Checking.{is_judged, text_built};
 ghost use Rattle.deb_control.specs.Documents.{rules_of};
 ghost use Rattle.deb_control.specs.Refusals.{built, value_refusal_of};
 ghost use Rattle.deb_control.specs.Paragraphs.{field_in, values_in, text_of_values, IsTypedField, AreValuesOf};
 
-use crate::canon_text::CanonText;
+use crate::canon_text::{CanonText, sort_fields};
 use crate::checker::ParagraphChecker;
 use crate::paragraph_check::value_of;
-use crate::typed_field::{TypedField, sort};
+use crate::typed_field::TypedField;
 use deb_base::{Fault, same_name};
 use deb_field::{Doc, Value};
 use deb_syntax::Raw;
@@ -122,7 +124,7 @@ fn canonical_text(alloc: Global, doc: Doc, paragraph: &Raw<'_>) -> Result<Vec<u8
 
 /// Returns the fields of a paragraph with their values, in ascending order of the canonical
 /// spellings of their names.
-fn read_fields<'a>(
+pub(crate) fn read_fields<'a>(
     alloc: Global,
     doc: Doc,
     paragraph: &Raw<'a>,
@@ -133,28 +135,31 @@ fn read_fields<'a>(
         (λ fields. IsPermutation (fields_of paragraph.now) (map field_in fields.items)) }
     ensures fault { IfErr result
         (λ fault. RefusedOrMemory fault
-        (λ refusal. built (rules_of doc) (seen_of paragraph.now) ≡ Err refusal)) }
+        (λ refusal. IsSome (value_refusal_of (rules_of doc) (fields_of paragraph.now)))) }
 {
-    let mut fields = fields_with_values(alloc, doc, paragraph)?;
-    sort(&mut fields);
-    Ok(fields)
+    let mut order = Vec::new(alloc);
+    sort_fields(alloc, paragraph, &mut order)?;
+    fields_in_order(alloc, doc, paragraph, &order)
 }
 
-/// Returns the fields of a paragraph with their values, in file order.
-fn fields_with_values<'a>(
+/// Returns the fields of these numbers with their values.
+fn fields_in_order<'a>(
     alloc: Global,
     doc: Doc,
     paragraph: &Raw<'a>,
+    order: &[usize],
 ) -> Result<Vec<TypedField<'a>>, Fault>
-    ensures fields { IfOk result (λ fields. map field_in fields.items ≡ fields_of paragraph.now) }
+    requires { AllByRecursion (λ k. k < length (fields_of paragraph.now)) order.now }
+    ensures fields { IfOk result
+        (λ fields. map field_in fields.items ≡ picked (fields_of paragraph.now) order.now) }
     ensures values { IfOk result (λ fields. AllByRecursion (IsTypedField doc) fields.items) }
     ensures fault { IfErr result
         (λ fault. RefusedOrMemory fault
-        (λ refusal. value_refusal_of (rules_of doc) (fields_of paragraph.now) ≡ Some refusal)) }
+        (λ refusal. IsSome (value_refusal_of (rules_of doc) (fields_of paragraph.now)))) }
 {
-    let mut fields = Vec::with_capacity(alloc, paragraph.len())?;
-    for index in 0..paragraph.len() {
-        if let Some(raw) = paragraph.field(index) {
+    let mut fields = Vec::with_capacity(alloc, order.len())?;
+    for number in order {
+        if let Some(raw) = paragraph.field(*number) {
             let value = value_of(alloc, doc, &raw)?;
             fields.push(TypedField { raw, value })?;
         }

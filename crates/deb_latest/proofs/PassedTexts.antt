@@ -1,5 +1,6 @@
 -- What was written of a file while its paragraphs passed one after another, and where that ends.
-use Rattle.std.proofs.Common.{◌≡◌, ℕ, ◌+◌, ◌⊎◌, inl, inr, Bool, true, false, List, [], ◌∷◌, ◌++◌, length, Option, None, Some, IfSome, IfNone, option_map, slice_get, Ok, Err, refl, sym, ap, ◌∙◌, subst, append-nil, append_assoc, arith}
+use Rattle.std.proofs.Common.{◌≡◌, ℕ, ◌+◌, ◌⊎◌, inl, inr, Bool, true, false, List, [], ◌∷◌, ◌++◌, length, Option, None, Some, IfNone, IsTrue, IsSome, ◌↔◌, option_map, Ok, Err, refl, sym, ap, ◌∙◌, subst, append-nil, append_assoc, arith, rules}
+use Rattle.std.proofs.lemmas.Bool.{false≢true}
 use Rattle.std.specs.Io.KnownBytes.{Appends}
 use Rattle.std.proofs.KnownBytes.{Appends-nil, Appends-trans}
 use Rattle.deb_base.specs.Bodies.{Line, file_limit}
@@ -9,11 +10,10 @@ use Rattle.deb_base.specs.Reading.{TakesNoMore}
 use Rattle.deb_base.proofs.Writes.{AppendsFront-then, AppendsFront-more}
 use Rattle.deb_base.specs.declared.fault.Fault.{Fault}
 use Rattle.deb_base.specs.declared.fault.Fault.TheVariants.{Refused, Memory, Read, Write}
-use Rattle.deb_syntax.specs.Answers.{Seen, next_answer}
-use Rattle.deb_syntax.specs.Judged.{ShowsJudged, judged_behind, judged_by}
+use Rattle.deb_syntax.specs.Answers.{next_answer}
 use Rattle.deb_syntax.specs.Lines.{IsClosed, Paragraph, lines_of, paragraphs_from, paragraphs_of}
-use Rattle.deb_syntax.specs.Paragraphs.{advance_answer}
-use Rattle.deb_syntax.specs.Reading.{Advances, Answers, Fits, KeepsErrors, Moment, State, passed_count}
+use Rattle.deb_syntax.specs.Passing.{AnswersPass, Passes, pass_answer}
+use Rattle.deb_syntax.specs.Reading.{Fits, KeepsErrors, Moment, State, passed_count}
 use Rattle.deb_syntax.specs.Resuming.{HasPassed}
 use Rattle.deb_syntax.proofs.Boundaries.{lines_of-append}
 use Rattle.deb_syntax.proofs.Callers.{sound-from_passes}
@@ -64,45 +64,29 @@ none_shown None is = refl
 none_shown (Some p) is = absurd (cc)
 
 -- a clause for a reader without an error
-pub advanced : (P : Type 0) (fault : Option Fault) → fault ≡ None → IfNone fault P → P
-advanced P fault sound clause = subst (λ f. IfNone f P) sound clause
+pub unfailed : {P : Type 0} (fault : Option Fault) → fault ≡ None → IfNone fault P → P
+unfailed {P} fault sound clause = subst (λ f. IfNone f P) sound clause
 
-pub some_passed : (text passed : List ℕ) (before new : State) (last : Option Paragraph) {left left_next : Option (List ℕ)} → before.fault ≡ None
-    → IfNone before.fault ((text passed : List ℕ) → Fits text passed before left → IfSome last (λ p. HasPassed text passed p new left_next))
-    → Fits text passed before left → (p : Paragraph) → last ≡ Some p → HasPassed text passed p new left_next
-some_passed text passed before new last {left} {left_next} sound clause fits p is =
-    subst (λ o. IfSome o (λ p. HasPassed text passed p new left_next)) is (advanced _ before.fault sound clause text passed fits)
+-- where none has passed without an error, no paragraph follows
+pub all_passed : (text passed : List ℕ) (found : Bool) (new : State) (left : Option (List ℕ)) (last : Option Paragraph) → AnswersPass text passed (pass_answer last (Ok found)) new left → last ≡ None → paragraphs_of text ≡ paragraphs_of passed
+all_passed text passed false new left last answers none = answers.passes
+all_passed text passed true new left None answers none = answers.passes
+all_passed text passed true new left (Some p) answers none = absurd cc
 
-seam : {X : Type 0} (xs : List X) (x : X) (ys : List X) → slice_get (xs ++ x ∷ ys) (length xs) ≡ Some x
-seam [] x ys = refl
-seam (y ∷ xs) x ys = seam xs x ys
-
--- where none were judged without an error, no paragraph follows
-all_passed : (text passed : List ℕ) (answer : Option Seen) (new : State) (left : Option (List ℕ)) (last : Option Paragraph) → Answers text passed (Ok answer) new left → ShowsJudged text (passed_count passed) (Ok answer) last → last ≡ None
-    → paragraphs_of text ≡ paragraphs_of passed
-all_passed text passed None new left last answers shows none = answers.passes
-all_passed text passed (Some seen) new left last answers shows none =
-    let n = passed_count passed in
-    let at : judged_behind text n ≡ Some answers.paragraph =
-    ap (λ ps. judged_by (next_answer text n) (slice_get ps n)) answers.next
-    ∙ ap (λ a. judged_by a (slice_get (paragraphs_of passed ++ answers.paragraph ∷ answers.more) n)) answers.answer
-    ∙ seam (paragraphs_of passed) answers.paragraph answers.more in
-    let bad : None ≡ Some answers.paragraph = sym none ∙ shows ∙ at in
-    absurd (cc)
-
-pub all_advanced : (text passed : List ℕ) (found : Bool) (new : State) (left : Option (List ℕ)) (last : Option Paragraph) → Answers text passed (advance_answer new (Ok found)) new left
-    → ShowsJudged text (passed_count passed) (advance_answer new (Ok found)) last → last ≡ None → paragraphs_of text ≡ paragraphs_of passed
-all_advanced text passed true new left last answers shows none = all_passed text passed new.current new left last answers shows none
-all_advanced text passed false new left last answers shows none = all_passed text passed None new left last answers shows none
+-- one that has passed, if there is one
+pub one_answered : (text passed : List ℕ) (found : Bool) (new : State) (left : Option (List ℕ)) (last : Option Paragraph) → IsTrue found ↔ IsSome last → (p : Paragraph) → last ≡ Some p → AnswersPass text passed (pass_answer last (Ok found)) new left → HasPassed text passed p new left
+one_answered text passed found new left None iff p is answers = absurd cc
+one_answered text passed true new left (Some q) iff p is answers = let same : q ≡ p = cc in subst (λ r. HasPassed text passed r new left) same answers
+one_answered text passed false new left (Some q) iff p is answers = absurd (false≢true (iff.1 (search rules)))
 
 -- without an error none is kept, and no read failed
-pub sound_after : (found : Bool) (new : State) (before after : Moment) → before.state.fault ≡ None → KeepsErrors Advances before (advance_answer new (Ok found)) after → after.state.fault ≡ None
-sound_after true new before after sound passes = sound-from_passes Advances before after new.current sound passes
-sound_after false new before after sound passes = sound-from_passes Advances before after None sound passes
+pub sound_after : (found : Bool) (last : Option Paragraph) (before after : Moment) → before.state.fault ≡ None → KeepsErrors Passes before (pass_answer last (Ok found)) after → after.state.fault ≡ None
+sound_after true last before after sound passes = sound-from_passes Passes before after last sound passes
+sound_after false last before after sound passes = sound-from_passes Passes before after None sound passes
 
-pub counted_after : (found : Bool) (new : State) (n m : ℕ) → n ≡ read_failures_after m (advance_answer new (Ok found)) → n ≡ m
-counted_after true new n m counted = counted
-counted_after false new n m counted = counted
+pub counted_after : (found : Bool) (last : Option Paragraph) (n m : ℕ) → n ≡ read_failures_after m (pass_answer last (Ok found)) → n ≡ m
+counted_after true last n m counted = counted
+counted_after false last n m counted = counted
 
 module _ {text : List ℕ} {old now : Winners} {held held_now : Option (List ℕ)} {state : State} {left : Option (List ℕ)} (so_far : PassedOn text old now held held_now state left) where
   -- one more paragraph

@@ -9,8 +9,8 @@ ghost use Rattle.deb_base.specs.Devices.{read_failures_after, write_failures_aft
 ghost use Rattle.deb_base.specs.Reading.{TakesNoMore};
 ghost use Rattle.deb_control.specs.Calls.{IfRefused, IfCutOff, IfWriteFailed};
 ghost use Rattle.deb_latest.specs.Written.{gap, text_after};
+ghost use Rattle.deb_syntax.specs.Judged.{IsRefusalOfLength};
 ghost use Rattle.deb_syntax.specs.Lines.{Paragraph, paragraphs_of};
-ghost use Rattle.deb_syntax.specs.Reading.{IsRefusalOfText};
 
 use deb_base::{Fault, Sink, Source, put_all};
 use deb_syntax::Paragraphs;
@@ -57,16 +57,16 @@ impl Winners {
     /// them that have the numbers: their lines as they are in the file, each ended by a newline,
     /// after an empty line if a paragraph was written before.
     ///
-    /// The file is read as text alone: its fields aren't checked. One paragraph at a time is held
+    /// The file is read as text alone: its lines aren't checked. One paragraph at a time is held
     /// in memory. At most 4,295,032,831 bytes are read: a file of the most bytes, and one piece.
     /// Promises about the text of the file hold for a reader whose bytes are known, and if no
     /// earlier call returned an error.
     ///
     /// # Errors
     ///
-    /// - `Fault::Refused`: the lines of a paragraph, or their number of bytes, or that of the file,
-    ///   are refused, with a code from 1 to 9 and a line of the file, counted from 1. Those of the
-    ///   paragraphs before it were written.
+    /// - `Fault::Refused`: the lines of a paragraph, or the file, have too many bytes. This has the
+    ///   code 8 or 9 and a line of the file, counted from 1. Those of the paragraphs before it were
+    ///   written.
     /// - `Fault::Memory`: a growth of memory was refused, or there are 2^64 paragraphs.
     ///   `Fault::Read`: a read failed in this call. Those of the first paragraphs were written.
     /// - `Fault::Write`: a write failed in this call. A prefix of the output was written.
@@ -91,7 +91,7 @@ impl Winners {
             → TakesNoMore text file_limit (R.left reader.new) }
 
         // Whether or not the reader's bytes are known.
-        ensures refusal { IfRefused result IsRefusalOfText }
+        ensures refusal { IfRefused result IsRefusalOfLength }
         ensures counts_read_failure { R.failures reader.new ≡ read_failures_after
             (R.failures reader.old) result }
         ensures counts_write_failure { W.failures writer.new ≡ write_failures_after
@@ -103,11 +103,11 @@ impl Winners {
     {
         let mut paragraphs = Paragraphs::new(self.alloc);
         for _ in 0..u64::MAX {
-            paragraphs.advance(reader)?;
+            paragraphs.pass(reader)?;
             let Some(text) = paragraphs.text() else {
                 return Ok(());
             };
-            self.pass(text, writer)?;
+            self.write_next(text, writer)?;
         }
         // No file has so many paragraphs.
         Err(Fault::Memory)
@@ -127,7 +127,7 @@ impl Winners {
     /// # Errors
     ///
     /// Out of memory: nothing was written; or `Fault::Write`: a prefix was.
-    fn pass<W: Sink>(&mut self, text: &[u8], writer: &mut W) -> Result<(), Fault>
+    fn write_next<W: Sink>(&mut self, text: &[u8], writer: &mut W) -> Result<(), Fault>
         ensures puts { (numbers : List ℕ) (count : ℕ) (before : List Paragraph) (p : Paragraph)
             → HasWritten numbers count before self.old → pieces_of text.now ≡ p.lines
             → PutsParagraph numbers count before p result self.new (W.held writer.old)

@@ -1,12 +1,9 @@
 -- What the calls of a reader of paragraphs say of a text that fits, from what its walk finds ahead.
-use Rattle.deb_syntax.proofs.Common.{seen_from, ◌≡◌, ℕ, ◌+◌, ◌<◌, ◌≤◌, ◌&&◌, Bool, false, List, [], ◌∷◌, ◌++◌, Option, Some, None, Result, Ok, Err, length, take, refl, sym, ap, ◌∙◌, subst, arith, rules, IsTrue, length-append, IfNone, IfSome, IsSome, Shown, lt-leb, and_from, Line, pieces_of, is_blank, is_all_blank, line_length, ParagraphTooLong, Fault, Refused, Memory, Read, Write, Refusal, Extent, IsNear, TakesNoMore, IsExtentOf, Seen, next_answer, next_begin, CursorState, cursor_state, buffer_of, start_of, piece_limit, left_count, Takes, are_fields, are_numbered, FileCursor, FieldSpan, list_all, judged, paragraphs_of, State, state_from, Fits, passed_count, GivesLine, BeginsHere, Answers, IsRefusalOfText, Moment, Advances, Begins, KeepsErrors, tells_end, IsReadersFault, IsFaultOf, fields_at, lies_within, stands_within, HidesLong}
+use Rattle.deb_syntax.proofs.Common.{seen_from, ◌≡◌, ℕ, ◌+◌, ◌<◌, ◌≤◌, ◌&&◌, Bool, false, List, [], ◌++◌, Option, Some, None, Ok, Err, length, take, refl, sym, ap, ◌∙◌, subst, arith, rules, length-append, IfNone, IfSome, IsSome, Shown, lt-leb, Line, is_blank, is_all_blank, line_length, ParagraphTooLong, Fault, Refused, Memory, Read, Write, Refusal, Extent, IsNear, TakesNoMore, IsExtentOf, Seen, next_answer, next_begin, CursorState, cursor_state, buffer_of, start_of, piece_limit, left_count, Takes, FileCursor, FieldSpan, judged, paragraphs_of, State, state_from, Fits, passed_count, GivesLine, BeginsHere, IsRefusalOfText, Moment, Advances, Begins, KeepsErrors, IsReadersFault, IsFaultOf, HidesLong}
 use Rattle.deb_base.specs.Bodies.{paragraph_limit, file_limit}
 use Rattle.std.specs.List.{slice_range}
-use Rattle.deb_syntax.proofs.CursorLemmas.{front_of_unread, unread_within}
-use Rattle.deb_syntax.proofs.FieldTests.{are_fields-judged, are_numbered-judged}
-use Rattle.deb_syntax.proofs.SpansWithin.{within_test}
+use Rattle.deb_syntax.proofs.CursorLemmas.{front_of_unread}
 use Rattle.deb_syntax.proofs.JudgingLawsRefusals.{judged-refusal}
-use Rattle.deb_syntax.proofs.Faults.{readers_fault}
 use Rattle.deb_syntax.proofs.NextLines.{near-short}
 
 -- a line as long as a paragraph may be isn't blank
@@ -16,25 +13,6 @@ long_not_blank line long = ap (λ t. ◌&&◌ t (is_all_blank line)) (lt-leb (li
 -- the same number of paragraphs have passed
 pub same_count : (text passed passed_now : List ℕ) → paragraphs_of passed_now ≡ paragraphs_of passed → (next_answer text (passed_count passed_now) ≡ next_answer text (passed_count passed)) × (next_begin text (passed_count passed_now) ≡ next_begin text (passed_count passed))
 same_count text passed passed_now e = (ap (λ ps. next_answer text (length ps)) e, ap (λ ps. next_begin text (length ps)) e)
-
--- an answer after blank lines that have passed is the answer before them
-pub answers_behind : (text passed passed_now : List ℕ) (answer : Result (Option Seen) Fault) (new : State) (left : Option (List ℕ)) → paragraphs_of passed_now ≡ paragraphs_of passed → Answers text passed_now answer new left → Answers text passed answer new left
-answers_behind text passed passed_now (Ok None) new left same a = record { answer = sym (same_count text passed passed_now same).0 ∙ a.answer; begin = sym (same_count text passed passed_now same).1 ∙ a.begin; again = a.again; passes = a.passes ∙ same; finished = a.finished }
-answers_behind text passed passed_now (Ok (Some seen)) new left same a = record {
-  answer = sym (same_count text passed passed_now same).0 ∙ a.answer;
-  paragraph = a.paragraph;
-  more = a.more;
-  next = a.next ∙ ap (λ ps. ps ++ a.paragraph ∷ a.more) same;
-  first = a.first;
-  fields = a.fields;
-  short = a.short;
-  passed_now = a.passed_now;
-  again = a.again;
-  passes = a.passes ∙ ap (λ ps. ps ++ a.paragraph ∷ []) same;
-  ends = a.ends;
-  near = a.near;
-}
-answers_behind text passed passed_now (Err fault) new left same a = readers_fault fault (λ refusal is. sym (same_count text passed passed_now same).0 ∙ is) a
 
 -- a refusal of a line of a paragraph is one of a text
 judged_refusal_is : (n : ℕ) (lines : List Line) (refusal : Refusal) → 1 ≤ n → judged n lines ≡ Err refusal → IsRefusalOfText refusal
@@ -59,14 +37,6 @@ judged_fault text passed n lines Write answer is = absurd is
 module _ (mid : FileCursor) (buffer : List ℕ) (e : Extent) (from : ℕ) (spans : List FieldSpan) (same : buffer ≡ buffer_of mid) (at : from ≡ start_of mid) (x : IsExtentOf e (cursor_state mid)) where
   pub standing_bytes : slice_range buffer from (from + e.end) ≡ take e.end (cursor_state mid).unread
   standing_bytes = ap (λ zs. slice_range zs from (from + e.end)) same ∙ ap (λ k. slice_range (buffer_of mid) k (k + e.end)) at ∙ front_of_unread mid e.end x.end_within
-
-  pub stands_test : (n : ℕ) → 1 ≤ n → judged n (pieces_of (take e.end (cursor_state mid).unread)) ≡ Ok (fields_at (take e.end (cursor_state mid).unread) spans) → IsTrue (list_all (lies_within (take e.end (cursor_state mid).unread)) spans) → IsTrue (stands_within buffer spans (Some (record { from = from; to = from + e.end; first_line = n })))
-  stands_test n some judges within =
-      let room : from + e.end ≤ length buffer = omega (arith, at, x.end_within, unread_within mid, ap length same) in
-      let fields = are_fields-judged n (take e.end (cursor_state mid).unread) (fields_at (take e.end (cursor_state mid).unread) spans) x.not_blank x.short judges in
-      let numbered = are_numbered-judged n (take e.end (cursor_state mid).unread) (fields_at (take e.end (cursor_state mid).unread) spans) some x.not_blank x.short judges in
-      within_test from (from + e.end) buffer (take e.end (cursor_state mid).unread) spans _ (omega arith) room standing_bytes within
-      (ap (λ zs. are_fields (fields_at zs spans) && are_numbered n (fields_at zs spans)) standing_bytes ∙ and_from _ _ fields numbered)
 
 -- nothing is near where nothing is unread
 pub near_nothing : (bytes : List ℕ) → bytes ≡ [] → IsNear bytes
@@ -95,18 +65,9 @@ pub if_none : (o : Option Fault) (P : Type 0) → P → IfNone o P
 if_none None P p = p
 if_none (Some f) P p = tt
 
-if_some : (o : Option Fault) (P : Fault → Type 0) → ((f : Fault) → o ≡ Some f → ⊥) → IfSome o P
+pub if_some : (o : Option Fault) (P : Fault → Type 0) → ((f : Fault) → o ≡ Some f → ⊥) → IfSome o P
 if_some None P none = tt
 if_some (Some f) P none = absurd (none f refl)
-
--- where there is a paragraph, the answer is no end
-pub some_no_end : (seen : Option Seen) → IsSome seen → tells_end {A = Seen} (Ok seen) ≡ false
-some_no_end None some = absurd cc
-some_no_end (Some s) some = refl
-
-pub if_seen : (seen : Option Seen) (P : Type 0) → P → IfSome seen (λ _. P)
-if_seen None P p = tt
-if_seen (Some s) P p = p
 
 -- a call that fails keeps its error
 pub advance_err : (before : Moment) (after other : State) (source : Shown) (e : Fault) → ((f : Fault) → before.state.fault ≡ Some f → ⊥) → Advances before (Err e) (record { state = after; source = source }) → other.fault ≡ Some e → other.current ≡ after.current → other.finished ≡ after.finished → KeepsErrors Advances before (Err e) (record { state = other; source = source })

@@ -1,8 +1,12 @@
 -- The paragraph that was judged last is the next one of a text, where its lines are judged.
-use Rattle.deb_syntax.proofs.Common.{IfSome, take, ◌≡◌, ℕ, ◌+◌, ◌≤◌, cond-true, cond-false, List, [], ◌∷◌, ◌++◌, Option, Some, None, Result, Ok, Err, length, refl, sym, ap, ◌∙◌, subst, arith, IsTrue, leb, le-leb, lt-leb, pieces_of, ParagraphTooLong, Fault, Refused, Memory, Read, Write, Extent, IsExtentOf, Seen, next_answer, paragraphs_within, cursor_state, buffer_of, start_of, FileCursor, judged, Paragraph, paragraphs_of, State, passed_count, IsReadersFault, IsFaultOf, IsRefusalOfText, stands_within}
+use Rattle.deb_syntax.proofs.Common.{take, ◌≡◌, ℕ, ◌+◌, ◌≤◌, cond-true, cond-false, List, [], ◌∷◌, ◌++◌, Option, Some, None, Ok, Err, length, refl, sym, ap, ◌∙◌, subst, arith, IsTrue, leb, le-leb, lt-leb, pieces_of, ParagraphTooLong, Fault, Refused, Memory, Read, Write, Extent, IsExtentOf, Seen, next_answer, paragraphs_within, cursor_state, buffer_of, start_of, FileCursor, judged, Paragraph, paragraphs_of, State, passed_count, IsReadersFault, IsFaultOf, IsRefusalOfText, stands_within}
 use Rattle.std.specs.Prelude.{slice_get}
 use Rattle.deb_base.specs.Codes.{number_of}
-use Rattle.deb_syntax.specs.Judged.{judged_by, lines_standing, ShowsJudged, IsRefusalOfLength, JudgesLines}
+use Rattle.deb_syntax.specs.Judged.{judged_by, lines_standing, ShowsJudged, IsRefusalOfLength}
+use Rattle.deb_base.specs.Bodies.{paragraph_limit}
+use Rattle.deb_syntax.specs.Extents.{AreNotBlank}
+use Rattle.deb_syntax.specs.Lines.{total_length}
+use Rattle.deb_syntax.specs.Passing.{CanBeJudged}
 use Rattle.deb_syntax.specs.Resuming.{HasPassed}
 use Rattle.deb_syntax.specs.declared.paragraphs.CurrentParagraph.{CurrentParagraph}
 use Rattle.deb_syntax.proofs.Advancing.{standing_bytes}
@@ -38,6 +42,17 @@ module _ (mid : FileCursor) (buffer : List ℕ) (e : Extent) (from n : ℕ) (sam
       let room : from + e.end ≤ length buffer = omega (arith, at, x.end_within, unread_within mid, ap length same) in
       rw (le-leb from (from + e.end) (omega arith), le-leb (from + e.end) (length buffer) room, le-leb 1 n some) refl
 
+  -- they can be judged
+  pub standing_judgeable : 1 ≤ n → n + length (pieces_of (take e.end (cursor_state mid).unread)) ≤ 4294967296 → CanBeJudged (lines_standing buffer standing)
+  standing_judgeable some few =
+      let is : (lines_standing buffer standing).lines ≡ pieces_of (take e.end (cursor_state mid).unread) = ap pieces_of (standing_bytes mid buffer e from [] same at x) in
+      record {
+        not_blank = subst AreNotBlank (sym is) x.not_blank;
+        short = subst (λ ls. total_length ls ≤ paragraph_limit) (sym is) x.short;
+        first = some;
+        numbered = omega (arith, few, ap length is);
+      }
+
   -- they are those of the paragraph that was found
   pub standing_passed : (text passed : List ℕ) (new : State) (left : Option (List ℕ)) (first : ℕ) → n ≡ first → HasPassed text passed (record { first = first; lines = pieces_of (take e.end (cursor_state mid).unread) }) new left → HasPassed text passed (lines_standing buffer standing) new left
   standing_passed text passed new left first is h =
@@ -53,14 +68,12 @@ module _ (text passed : List ℕ) where
   shows_found seen p new left answer h =
       sym (ap (λ a. judged_by a (slice_get (paragraphs_within text) (passed_count passed))) answer ∙ next_found p new left h)
 
-  pub shows_refused : (T : Type 0) (fault : Fault) (last : Option Paragraph) (new : State) (left : Option (List ℕ)) → IsReadersFault fault (λ refusal. next_answer text (passed_count passed) ≡ Err refusal) → JudgesLines {T = T} (Err fault) last → IfSome last (λ p. HasPassed text passed p new left) → ShowsJudged text (passed_count passed) (Err fault) last
-  shows_refused T Memory last new left answers lines h = tt
-  shows_refused T Read last new left answers lines h = tt
-  shows_refused T Write last new left answers lines h = absurd answers
-  shows_refused T (Refused refusal) None new left answers lines h =
-      sym (ap (λ answer. judged_by answer (slice_get (paragraphs_within text) (passed_count passed))) answers ∙ cond-false (leb (number_of refusal.code) 7) _ _ (lt-leb (number_of refusal.code) 7 (omega (arith, lines.least))))
-  shows_refused T (Refused refusal) (Some p) new left answers lines h =
-      sym (ap (λ answer. judged_by answer (slice_get (paragraphs_within text) (passed_count passed))) answers ∙ cond-true (leb (number_of refusal.code) 7) _ _ (le-leb (number_of refusal.code) 7 lines) ∙ next_found p new left h)
+  pub shows_refused : (fault : Fault) (p : Paragraph) (new : State) (left : Option (List ℕ)) → IsReadersFault fault (λ refusal. next_answer text (passed_count passed) ≡ Err refusal) → IsReadersFault fault (λ refusal. number_of refusal.code ≤ 7) → HasPassed text passed p new left → ShowsJudged text (passed_count passed) (Err fault) (Some p)
+  shows_refused Memory p new left answers of_line h = tt
+  shows_refused Read p new left answers of_line h = tt
+  shows_refused Write p new left answers of_line h = absurd answers
+  shows_refused (Refused refusal) p new left answers of_line h =
+      sym (ap (λ answer. judged_by answer (slice_get (paragraphs_within text) (passed_count passed))) answers ∙ cond-true (leb (number_of refusal.code) 7) _ _ (le-leb (number_of refusal.code) 7 of_line) ∙ next_found p new left h)
 
 -- where nothing was judged
 pub shows_none : (text passed : List ℕ) (fault : Fault) (last : Option Paragraph) → last ≡ None → IsReadersFault fault (λ refusal. next_answer text (passed_count passed) ≡ Err refusal) → IsReadersFault fault IsRefusalOfLength → ShowsJudged text (passed_count passed) (Err fault) last
@@ -72,7 +85,3 @@ shows_none text passed Write last none answer is = absurd is
 
 pub shows_end : (text passed : List ℕ) (last : Option Paragraph) → last ≡ None → next_answer text (passed_count passed) ≡ Ok None → ShowsJudged text (passed_count passed) (Ok None) last
 shows_end text passed last none answer = none ∙ sym (ap (λ a. judged_by a (slice_get (paragraphs_within text) (passed_count passed))) answer)
-
--- the same after blank lines that have passed
-pub shows_behind : (text passed passed_now : List ℕ) (answer : Result (Option Seen) Fault) (last : Option Paragraph) → paragraphs_of passed_now ≡ paragraphs_of passed → ShowsJudged text (passed_count passed_now) answer last → ShowsJudged text (passed_count passed) answer last
-shows_behind text passed passed_now answer last same shows = subst (λ n. ShowsJudged text n answer last) (ap length same) shows

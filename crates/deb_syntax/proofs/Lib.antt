@@ -37,6 +37,7 @@ pub mod NextParagraph
 pub mod ParagraphLines
 pub mod Parts
 pub mod Passing
+pub mod PassingOn
 pub mod Positions
 pub mod FieldSpanLemmas
 pub mod SpansWithin

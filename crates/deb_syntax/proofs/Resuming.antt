@@ -27,10 +27,6 @@ passed_behind text passed passed_now p new left same h = record {
   near = h.near;
 }
 
-pub judged_behind_blanks : (text passed passed_now : List ℕ) (last : Option Paragraph) (new : State) (left : Option (List ℕ)) → paragraphs_of passed_now ≡ paragraphs_of passed → IfSome last (λ p. HasPassed text passed_now p new left) → IfSome last (λ p. HasPassed text passed p new left)
-judged_behind_blanks text passed passed_now None new left same h = tt
-judged_behind_blanks text passed passed_now (Some p) new left same h = passed_behind text passed passed_now p new left same h
-
 -- what has passed is that of a reader with another current paragraph and error too
 pub passed_any : (text passed : List ℕ) (p : Paragraph) (new : State) (current : Option Seen) (fault : Option Fault) (left : Option (List ℕ)) → HasPassed text passed p new left → HasPassed text passed p (record new { current = current; fault = fault }) left
 passed_any text passed p new current fault left h = record {

@@ -1,6 +1,6 @@
 -- The paragraph whose lines were judged last, and its lines by their numbers. Debian Policy 5.1;
 -- the limits and the order of the refusals are this project's own.
-use Rattle.std.specs.Prelude.{◌≡◌, ℕ, ◌-◌, ◌≤◌, Bool, true, false, cond, List, [], ◌∷◌, nat_le, slice_get, slice_range, Option, Some, None, Result, Ok, Err, IfErr, codes, refl}
+use Rattle.std.specs.Prelude.{◌≡◌, ℕ, ◌-◌, ◌≤◌, Bool, true, false, cond, List, [], ◌∷◌, nat_le, slice_get, slice_range, Option, Some, None, Result, Ok, Err, codes, refl}
 use Rattle.std.specs.Str.{is_utf8, chars}
 use lib.Utf8.{encode}
 use Rattle.std.proofs.Common.{arith}
@@ -12,10 +12,7 @@ use Rattle.deb_base.specs.declared.code.Code.TheVariants.{NoColon, DuplicateFiel
 use Rattle.deb_base.specs.declared.fault.Fault.{Fault}
 use Rattle.deb_base.specs.declared.refusal.Refusal.{Refusal}
 use Rattle.deb_syntax.specs.Answers.{Seen, next_answer, paragraphs_within}
-use Rattle.deb_syntax.specs.FieldSpans.{fields_at}
-use Rattle.deb_syntax.specs.Judging.{judged}
 use Rattle.deb_syntax.specs.Lines.{Paragraph}
-use Rattle.deb_syntax.specs.declared.field_span.FieldSpan.{FieldSpan}
 use Rattle.deb_syntax.specs.declared.paragraphs.CurrentParagraph.{CurrentParagraph}
 
 -- whether a refusal with the code is one of a line: its number is from 1 to 7
@@ -59,24 +56,6 @@ pub record IsRefusalOfLength (refusal : Refusal) : Type 0 where
   pub least : 8 ≤ number_of refusal.code
   pub most : number_of refusal.code ≤ 9
   pub line : 1 ≤ refusal.line
-
-abbrev pub IsErrOfLength : {T : Type 0} → Result T Fault → Type 0
-IsErrOfLength (Ok answer) = ⊥
-IsErrOfLength (Err fault) = IsReadersFault fault IsRefusalOfLength
-
--- where lines were judged, an error is of a line, and else it is of a length
-abbrev pub JudgesLines : {T : Type 0} → Result T Fault → Option Paragraph → Type 0
-JudgesLines result None = IsErrOfLength result
-JudgesLines result (Some p) =
-    IfErr result (λ fault. IsReadersFault fault (λ refusal. number_of refusal.code ≤ 7))
-
--- where lines were judged without error, they are those of the paragraph, and have these fields
-abbrev pub JudgesFields : List ℕ → List FieldSpan → CurrentParagraph → Option CurrentParagraph
-    → Type 0
-JudgesFields buffer spans at last =
-    (last ≡ Some at)
-    × (judged at.first_line (lines_standing buffer at).lines
-    ≡ Ok (fields_at (slice_range buffer at.from at.to) spans))
 
 codes_of_lines : (is_of_line DuplicateField ≡ true) × (is_of_line NoColon ≡ true)
     × (is_of_line ParagraphTooLong ≡ false) × (is_of_line FileTooLong ≡ false)

@@ -11,6 +11,7 @@ pub mod Lines
 pub mod Meaning
 pub mod NextLines
 pub mod Paragraphs
+pub mod Passing
 pub mod FieldSpans
 pub mod Raw
 pub mod Reading

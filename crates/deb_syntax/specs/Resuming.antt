@@ -1,20 +1,19 @@
 -- How a reader of paragraphs goes on after a paragraph with a refused line. Debian Policy
 -- 5.1; this project's own.
-use Rattle.std.specs.Prelude.{◌≡◌, ◌≢◌, ℕ, ◌+◌, ◌≤◌, Bool, true, false, List, [], ◌∷◌, ◌++◌, length, take, Option, Some, None, IfSome, Result, Ok, Err, codes, refl}
+use Rattle.std.specs.Prelude.{◌≡◌, ◌≢◌, ℕ, ◌+◌, ◌≤◌, Bool, true, false, List, [], ◌∷◌, ◌++◌, length, take, Option, Some, None, Result, Ok, Err, codes, refl}
 use Rattle.deb_base.specs.Bodies.{Line, paragraph_limit, pieces_of, file_limit}
 use Rattle.deb_base.specs.Faults.{IsReadersFault}
 use Rattle.deb_base.specs.Reading.{piece_limit}
 use Rattle.deb_base.specs.declared.fault.Fault.{Fault}
 use Rattle.deb_base.specs.declared.fault.Fault.TheVariants.{Refused, Memory, Read, Write}
 use Rattle.deb_syntax.specs.Ahead.{passed_of}
-use Rattle.deb_syntax.specs.Answers.{Seen, line_beyond, next_answer, paragraphs_within, seen_from}
+use Rattle.deb_syntax.specs.Answers.{line_beyond, next_answer, paragraphs_within, seen_from}
 use Rattle.deb_syntax.specs.Cursors.{CursorState, PassesOn}
 use Rattle.deb_syntax.specs.Extents.{AreBlank}
 use Rattle.deb_syntax.specs.Fields.{IsShort}
-use Rattle.deb_syntax.specs.Judged.{ShowsJudged}
 use Rattle.deb_syntax.specs.Judging.{judged}
 use Rattle.deb_syntax.specs.Lines.{Paragraph, IsClosed, lines_of, paragraphs_of}
-use Rattle.deb_syntax.specs.Reading.{Answers, Fits, State, passed_count, state_from}
+use Rattle.deb_syntax.specs.Reading.{Fits, State, passed_count, state_from}
 use Rattle.deb_syntax.specs.declared.ending.Extent.{Extent}
 use Rattle.deb_base.specs.declared.code.Code.TheVariants.{Comment, ParagraphTooLong}
 
@@ -61,14 +60,6 @@ pub record IsWithout (text : List ℕ) (count : ℕ) (p : Paragraph) (other : Li
   pub beyond : line_beyond 1 file_limit other ≡ line_beyond 1 file_limit text
   pub lines : length (lines_of other) ≡ length (lines_of text)
   pub bytes : length other ≡ length text
-
--- What is said of the next paragraph of a text: the answer, which lines were judged, and that they
--- have passed.
-pub record TellsNext (text passed : List ℕ) (answer : Result (Option Seen) Fault)
-    (last : Option Paragraph) (new : State) (left : Option (List ℕ)) : Type 0 where
-  pub answers : Answers text passed answer new left
-  pub judged : ShowsJudged text (passed_count passed) answer last
-  pub judged_passed : IfSome last (λ p. HasPassed text passed p new left)
 
 -- the answer on a text is this error, where it is a refusal
 abbrev pub AnswersFault : List ℕ → CursorState → Fault → Type 0

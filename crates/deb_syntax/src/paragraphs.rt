@@ -1,13 +1,15 @@
 //! The reader of paragraphs (Debian Policy 5.1; deb822(5)).
 
-ghost use Rattle.std.specs.Prelude.{◌≡◌, ◌+◌, ◌≤◌, ◌⊎◌, ℕ, List, [], Some, None, true, false, length, option_map, Option, IsTrue, IfErr, IfOk, IfSome, OnOk};
+ghost use Rattle.std.specs.Prelude.{◌≡◌, ◌+◌, ◌≤◌, ◌⊎◌, ℕ, List, [], Some, None, Err, true, false, length, option_map, Option, IsTrue, IfErr, IfOk, IfSome, OnOk};
 ghost use Rattle.deb_base.specs.Bodies.{file_limit, pieces_of};
 ghost use Rattle.deb_base.specs.Reading.{piece_limit};
 ghost use Rattle.deb_syntax.specs.Ahead.{At, KeepsLine, passed_of};
 ghost use Rattle.deb_syntax.specs.NextLines.{IsNear};
 ghost use Rattle.deb_syntax.specs.Cursors.{cursor_state, buffer_of, had, Takes};
-ghost use Rattle.deb_syntax.specs.Judged.{lines_standing, IsRefusalOfLength, JudgesFields, JudgesLines};
-ghost use Rattle.deb_syntax.specs.Resuming.{AnswersFault, HasPassed, TellsNext, is_resumable};
+ghost use Rattle.deb_syntax.specs.Answers.{next_answer};
+ghost use Rattle.deb_syntax.specs.Judged.{lines_standing, IsRefusalOfLength};
+ghost use Rattle.deb_syntax.specs.Passing.{CanBeJudged, EndsLines};
+ghost use Rattle.deb_syntax.specs.Resuming.{AnswersFault, HasPassed, is_resumable};
 ghost use Rattle.deb_syntax.specs.CurrentParagraphs.{HidesLong, stands_within};
 ghost use Rattle.deb_base.specs.Devices.{read_failures_after};
 ghost use Rattle.deb_base.specs.Faults.{IsReadersFault};
@@ -68,9 +70,10 @@ impl Paragraphs {
     ghost use Rattle.std.specs.Io.BufRead.{Rests};
     ghost use Rattle.deb_syntax.specs.contracts.paragraphs.Paragraphs.{the_row};
     ghost use Rattle.deb_syntax.specs.Reading.{moment_of, Fits, FindsFirst, KeepsErrors};
+    ghost use Rattle.deb_syntax.specs.Passing.{JudgesPassed, Passes, pass_answer};
     ghost use Rattle.deb_syntax.specs.Reading.{Advances, Begins, passed_count};
     ghost use Rattle.deb_syntax.specs.Paragraphs.{state_of, seen_of, answer_of, advance_answer};
-    ghost use Rattle.deb_syntax.specs.Paragraphs.{end_answer, ShowsFirst, IsQuiet};
+    ghost use Rattle.deb_syntax.specs.Paragraphs.{ShowsFirst, IsQuiet};
     ghost use Rattle.deb_syntax.specs.Judged.{line_judged, ShowsJudged};
     ghost use Rattle.deb_syntax.specs.Paragraphs.{judged_last};
 
@@ -142,8 +145,8 @@ impl Paragraphs {
     }
 
     /// Returns the lines of the paragraph that the last `advance` or `next` found or refused a line
-    /// of, as they are in the file, with the newlines between them. `None` if there is no such
-    /// paragraph.
+    /// of, or that the last `pass` passed, as they are in the file, with the newlines between them.
+    /// `None` if there is no such paragraph.
     pub fn text(&self) -> Option<&[u8]>
         ensures { option_map (λ text. pieces_of text.now) result
             ≡ option_map (λ p. p.lines) (judged_last self.now) }
@@ -261,6 +264,39 @@ impl Paragraphs {
         answer
     }
 
+    /// Passes the next paragraph without judging its lines, and returns whether there is one.
+    /// `text` then returns its lines, and `current` returns `None`.
+    ///
+    /// # Errors
+    ///
+    /// After an error every later call returns the same error, and reads nothing.
+    ///
+    /// - `Fault::Refused`: the paragraph's lines are too long (`ParagraphTooLong`, at the line that
+    ///   takes them past the limit), or the file is too long, and no blank line after the
+    ///   paragraph was found before that (`FileTooLong`, at the line that is cut off). After the
+    ///   last paragraph: the file is too long.
+    /// - `Fault::Memory`: a growth of memory was refused.
+    /// - `Fault::Read`: a read of `reader` failed in this call.
+    #[tactic(auto, using(crate::proofs::PassingOn::pass_err))]
+    pub fn pass<R: Source>(&mut self, reader: &mut R) -> Result<bool, Fault>
+        ensures passes { KeepsErrors Passes (moment_of (state_of self.old) (R.left reader.old)
+            (R.failures reader.old)) (pass_answer (judged_last self.new) result)
+            (moment_of (state_of self.new) (R.left reader.new) (R.failures reader.new)) }
+        ensures found { IfNone (state_of self.old).fault
+            (IfOk result (λ found. IsTrue found ↔ IsSome (judged_last self.new))) }
+        ensures repeats { IsSome (state_of self.old).fault → self.new ≡ self.old }
+        ensures source_untouched { IsQuiet (state_of self.old) → reader.new ≡ reader.old }
+    {
+        if let Some(fault) = self.fault {
+            return Err(fault);
+        }
+        let answer = self.pass_on(reader);
+        if let Err(fault) = answer {
+            self.fault = Some(fault);
+        }
+        answer
+    }
+
     /// Forgets the error if `advance` or `next` refused a line of a paragraph, so that the next
     /// call reads on. Returns whether there was such an error. After `advance` the next call
     /// returns what follows that paragraph (`judged_passed` there); no clause of `next` says so.
@@ -344,16 +380,67 @@ impl Paragraphs {
             → reader.new ≡ reader.old }
         ensures kept { self.new.fault ≡ self.old.fault }
     {
+        match self.pass_on(reader) {
+            Ok(true) => self.judge_passed(),
+            Ok(false) => Ok(false),
+            Err(fault) => Err(fault),
+        }
+    }
+
+    /// Passes the next paragraph.
+    fn pass_on<R: Source>(&mut self, reader: &mut R) -> Result<bool, Fault>
+        ensures passes { Passes (moment_of (state_of self.old) (R.left reader.old)
+            (R.failures reader.old)) (pass_answer (judged_last self.new) result)
+            (moment_of (state_of self.new) (R.left reader.new) (R.failures reader.new)) }
+        ensures found { IfOk result (λ found. IsTrue found ↔ IsSome (judged_last self.new)) }
+        ensures none { IfErr result (λ _. judged_last self.new ≡ None) }
+        ensures judgeable { IfSome (judged_last self.new) CanBeJudged }
+        ensures ends { EndsLines self.new.ends.items (buffer_of self.new.cursor) self.new.judged }
+        ensures source_untouched { IsTrue (state_of self.old).ended ⊎ IsTrue
+            (state_of self.old).finished
+            → reader.new ≡ reader.old }
+        ensures kept { self.new.fault ≡ self.old.fault }
+    {
         match self.find_first(reader) {
             Ok(FirstLine::NoMore) => Ok(false),
             Ok(FirstLine::TooLong { .. }) => Err(Fault::Refused(Refusal {
                 code: Code::ParagraphTooLong,
                 line: self.cursor.lines() + 1,
             })),
-            Ok(FirstLine::Buffered { end, next }) => match self.find_end(end, next, reader) {
+            Ok(FirstLine::Buffered { end, next }) => match self.pass_end(end, next, reader) {
                 Ok(()) => Ok(true),
                 Err(fault) => Err(fault),
             },
+            Err(fault) => Err(fault),
+        }
+    }
+
+    /// Judges the paragraph that has passed, if there is one. Without a refusal it is then the
+    /// current one.
+    fn judge_passed(&mut self) -> Result<bool, Fault>
+        requires judgeable { IfSome (judged_last self.old) CanBeJudged }
+        requires ends { EndsLines self.old.ends.items (buffer_of self.old.cursor) self.old.judged }
+        requires none { (state_of self.old).current ≡ None }
+        ensures judges { JudgesPassed (state_of self.old) (judged_last self.old) result
+            (state_of self.new) }
+        ensures judged { judged_last self.new ≡ judged_last self.old }
+    {
+        let Some(at) = self.judged else {
+            return Ok(false);
+        };
+        let text = self.cursor.slice(at.from, at.to);
+        let alloc = *self.spans.allocator();
+        match judge(
+            alloc,
+            text,
+            self.ends.as_slice(),
+            at.first_line,
+            &mut self.spans,
+        ) {
+            Ok(()) => {
+                self.current = Some(at);
+                Ok(true)
+            }
             Err(fault) => Err(fault),
         }
     }
@@ -407,104 +494,85 @@ impl Paragraphs {
         }
     }
 
-    /// Finds the end of the paragraph that begins the unread bytes, judges it and passes it.
-    fn find_end<R: Source>(&mut self, end: usize, next: usize, reader: &mut R) -> Result<(), Fault>
+    /// Finds the end of the paragraph that begins the unread bytes, and passes it.
+    fn pass_end<R: Source>(&mut self, end: usize, next: usize, reader: &mut R) -> Result<(), Fault>
         requires no_overlong { self.old.overlong_len ≡ 0 }
         requires unfinished { self.old.finished ≡ false }
         requires none { self.old.current ≡ None }
         requires unjudged { self.old.judged ≡ None }
         requires line { KeepsLine end next (cursor_state self.old.cursor) }
-        ensures tells { (text passed : List ℕ)
+        ensures passes { OnOk result ((text passed : List ℕ)
             → Fits text passed (state_of self.old) (R.left reader.old)
-            → TellsNext text passed (end_answer (state_of self.new) result)
-            (judged_last self.new) (state_of self.new) (R.left reader.new) }
-        ensures found { OnOk result (IsSome (state_of self.new).current) }
+            → IfSome (judged_last self.new)
+            (λ p. HasPassed text passed p (state_of self.new) (R.left reader.new))) }
+        ensures refused { (text passed : List ℕ)
+            → Fits text passed (state_of self.old) (R.left reader.old)
+            → IfErr result (λ fault. IsReadersFault fault
+            (λ refusal. next_answer text (passed_count passed) ≡ Err refusal)) }
+        ensures found { OnOk result (IsSome (judged_last self.new)) }
+        ensures judgeable { IfSome (judged_last self.new) CanBeJudged }
+        ensures ends { EndsLines self.new.ends.items (buffer_of self.new.cursor) self.new.judged }
+        ensures unjudged { IfErr result (λ _. self.new.judged ≡ None) }
+        ensures none { self.new.current ≡ None }
         ensures unfinished { self.new.finished ≡ false }
         ensures no_overlong { self.new.overlong_len ≡ 0 }
-        ensures none { IfErr result (λ _. (state_of self.new).current ≡ None) }
         ensures reads_at_most { Takes (had (cursor_state self.old.cursor) + self.old.overlong_len)
             (R.left reader.old) (file_limit + piece_limit) (R.left reader.new) }
-        ensures fault { IfErr result (λ fault. IsReadersFault fault IsRefusalOfText) }
+        ensures fault { IfErr result (λ fault. IsReadersFault fault IsRefusalOfLength) }
         ensures fault_iff_device_failed { R.failures reader.new
             ≡ read_failures_after (R.failures reader.old) result }
         ensures source_untouched { IsTrue (state_of self.old).ended → reader.new ≡ reader.old }
         ensures kept { self.new.fault ≡ self.old.fault }
     {
-        let (spans, ends) = (&mut self.spans, &mut self.ends);
-        match pass_paragraph(
-            &mut self.cursor,
-            end,
-            next,
-            reader,
-            spans,
-            ends,
-            &mut self.judged,
-        ) {
+        match pass_paragraph(&mut self.cursor, end, next, reader, &mut self.ends) {
             Ok(paragraph) => {
-                self.current = Some(paragraph);
+                self.judged = Some(paragraph);
                 Ok(())
             }
             Err(fault) => {
-                if self.judged.is_none() {
-                    // Nothing that is unread is asked for again.
-                    self.cursor.truncate(0);
-                }
+                // Nothing that is unread is asked for again.
+                self.cursor.truncate(0);
                 Err(fault)
             }
         }
     }
 }
 
-/// Finds the end of the paragraph that begins the unread bytes, judges it and passes it. If its end
-/// was found, `judged` is where its lines are, and it has passed, also if a line of it is refused.
+/// Finds the end of the paragraph that begins the unread bytes, and passes it. Then `ends` holds
+/// where its lines end.
 fn pass_paragraph<R: Source>(
     cursor: &mut FileCursor,
     end: usize,
     next: usize,
     reader: &mut R,
-    spans: &mut Vec<FieldSpan>,
     ends: &mut Vec<u32>,
-    judged: &mut Option<CurrentParagraph>,
 ) -> Result<CurrentParagraph, Fault>
-    requires unjudged { judged.old ≡ None }
     requires line { KeepsLine end next (cursor_state cursor.old) }
-    ensures stands { IfOk result (λ at. IsTrue (stands_within (buffer_of cursor.new) spans.new.items
+    ensures stands { IfOk result (λ at. IsTrue (stands_within (buffer_of cursor.new) []
         (Some at))) }
-    ensures judges { IsTrue (stands_within (buffer_of cursor.new) [] judged.new) }
-    ensures lines { JudgesLines result (option_map (lines_standing (buffer_of cursor.new))
-        judged.new) }
-    ensures fields { IfOk result (λ at. JudgesFields (buffer_of cursor.new) spans.new.items at
-        judged.new) }
-    ensures judged_near { IfSome judged.new
-        (λ _. length (cursor_state cursor.new).unread ≤ piece_limit) }
+    ensures judgeable { IfOk result (λ at. CanBeJudged (lines_standing (buffer_of cursor.new)
+        at)) }
+    ensures ends { IfOk result (λ at. EndsLines ends.new.items (buffer_of cursor.new) (Some at)) }
+    ensures near { OnOk result (length (cursor_state cursor.new).unread ≤ piece_limit) }
     ensures passes { (text : List ℕ) → At text [] (cursor_state cursor.old) (R.left reader.old)
-        → IfSome judged.new (λ at. HasPassed text (passed_of text (cursor_state cursor.old))
+        → IfOk result (λ at. HasPassed text (passed_of text (cursor_state cursor.old))
         (lines_standing (buffer_of cursor.new) at) (state_from (cursor_state cursor.new) 0 false
         None None) (R.left reader.new)) }
     ensures refused { (text : List ℕ) → At text [] (cursor_state cursor.old) (R.left reader.old)
         → IfErr result (AnswersFault text (cursor_state cursor.old)) }
     ensures reads_at_most { Takes (had (cursor_state cursor.old)) (R.left reader.old)
         (file_limit + piece_limit) (R.left reader.new) }
-    ensures fault { IfErr result (λ fault. IsReadersFault fault IsRefusalOfText) }
+    ensures fault { IfErr result (λ fault. IsReadersFault fault IsRefusalOfLength) }
     ensures fault_iff_device_failed { R.failures reader.new
         ≡ read_failures_after (R.failures reader.old) result }
     ensures source_untouched { IsTrue (cursor_state cursor.old).ended → reader.new ≡ reader.old }
 {
     let extent = paragraph_extent(cursor, end, next, reader, ends)?;
     let (from, first_line) = (cursor.start(), cursor.lines() + 1);
-    let current = CurrentParagraph {
+    cursor.consume(extent.skip, extent.bytes, extent.lines);
+    Ok(CurrentParagraph {
         from,
         to: from + extent.end,
         first_line,
-    };
-    *judged = Some(current);
-    let paragraph = &cursor.unread()[..extent.end];
-    let alloc = *spans.allocator();
-    let answer = judge(alloc, paragraph, ends.as_slice(), first_line, spans);
-    // It passes also if one of its lines is refused: `resume` then goes on after it.
-    cursor.consume(extent.skip, extent.bytes, extent.lines);
-    match answer {
-        Ok(()) => Ok(current),
-        Err(fault) => Err(fault),
-    }
+    })
 }

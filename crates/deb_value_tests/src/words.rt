@@ -153,6 +153,28 @@ const LINES: &str = "\
     latest --by arch x => Err(Usage(\"usage: latest takes --by name or name,arch\"))\n\
     latest x - => Err(Usage(\"usage: latest reads its files twice, so it can't read standard \
     input\"))\n\
+    select => Ok(Select(SelectOf { kind: Packages, conditions: [], picks: Matching, on_refusal: \
+    Stop, fields: [], form: Control, strict: false, count: false, paths: [] }))\n\
+    select -f a,b --format table --where x --where=y --not --accepted --strict x - => \
+    Ok(Select(SelectOf { kind: Packages, conditions: [\"x\", \"y\"], picks: Others, on_refusal: \
+    Continue, fields: [\"a\", \"b\"], form: Table, strict: true, count: false, paths: [\"x\", \
+    \"-\"] }))\n\
+    select -k any --count x => Ok(Select(SelectOf { kind: Any, conditions: [], picks: Matching, \
+    on_refusal: Stop, fields: [], form: Control, strict: false, count: true, paths: [\"x\"] \
+    }))\n\
+    select --format=jsonl --where= => Ok(Select(SelectOf { kind: Packages, conditions: [\"\"], \
+    picks: Matching, on_refusal: Stop, fields: [], form: Jsonl, strict: false, count: false, \
+    paths: [] }))\n\
+    select --count --format control => Err(Usage(\"usage: select takes --count without -f and \
+    --format\"))\n\
+    select --format json => Err(Usage(\"usage: select takes --format control, table or \
+    jsonl\"))\n\
+    select --format table => Err(Usage(\"usage: select takes --format table only with -f\"))\n\
+    select -f a --format jsonl => Err(Usage(\"usage: select takes no -f with --format jsonl\"))\n\
+    select --strict -f a => Err(Usage(\"usage: select takes --strict only with --format \
+    table\"))\n\
+    select --fields a,,b => Err(Usage(\"usage: -f takes names of fields\"))\n\
+    select - x - => Err(Usage(\"usage: standard input twice\"))\n\
     compare 1 xx 2 => Err(Usage(\"usage: unknown operator\"))\n\
     check --kind foo => Err(Usage(\"usage: unknown kind\"))\n\
     explain --kind source x => Ok(Explain(File { doc: Source, path: Some(\"x\") }))\n\
@@ -169,10 +191,20 @@ const LINES: &str = "\
     Newline, demands: Demands { complete: false, least: 0 } }))\n\
     explain --relation aa| => Ok(Explain(Relation(\"aa|\")))\n\
     explain --version-text=1- => Ok(Explain(Version(\"1-\")))\n\
-    explain --relation aa --code 1 => Err(Usage(\"usage: explain takes one file, code, relation \
-    or version\"))\n\
-    explain --all --code 1 => Err(Usage(\"usage: explain takes one file, code, relation or \
-    version\"))\n\
+    explain --where Package => Ok(Explain(Condition { doc: Packages, text: \"Package\" }))\n\
+    explain -k any --where=Depends~x => Ok(Explain(Condition { doc: Any, text: \"Depends~x\" \
+    }))\n\
+    explain --where= --kind foo => Err(Usage(\"usage: unknown kind\"))\n\
+    explain --where Package x => Err(Usage(\"usage: explain takes one file, code, relation, \
+    version or condition\"))\n\
+    explain --where Package --all => Err(Usage(\"usage: explain takes one file, code, relation, \
+    version or condition\"))\n\
+    explain --version-text 1 --where Package => Err(Usage(\"usage: explain takes one file, code, \
+    relation, version or condition\"))\n\
+    explain --relation aa --code 1 => Err(Usage(\"usage: explain takes one file, code, relation, \
+    version or condition\"))\n\
+    explain --all --code 1 => Err(Usage(\"usage: explain takes one file, code, relation, version \
+    or condition\"))\n\
     explain --code 24 => Err(Usage(\"usage: unknown code\"))\n\
     audit => Err(Usage(\"usage: audit takes paths, or --files0-from\"))";
 

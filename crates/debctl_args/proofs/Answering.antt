@@ -15,7 +15,7 @@ use Rattle.clap.specs.declared.error.kind.ErrorKind.{ErrorKind}
 use Rattle.clap.specs.declared.error.kind.ErrorKind.TheVariants.{OutOfMemory}
 use Rattle.debctl_args.specs.Commands.{debctl_app}
 use Rattle.debctl_args.specs.Requests.{Request, request_of}
-use Rattle.debctl_args.specs.Asked.{Asked, all_for_of_sources, all_sources_of_packages, asked_in, asked_of, asks, asks_help, unknown_kind, unknown_operator, unknown_command, unknown_code, standard_input_twice, explain_takes_one, paths_or_list, relation_or_file, no_names, no_relations, no_recommends, no_status, kind_of_path, other_by, other_kind, other_latest_kind, reads_twice, index_of_packages, profiles_of_packages, only_or_witness, sources_recommend, names_of_sources, index_and_path, no_number, no_budget, first_or_whole}
+use Rattle.debctl_args.specs.Asked.{Asked, all_for_of_sources, all_sources_of_packages, asked_in, asked_of, asks, asks_help, unknown_kind, unknown_operator, unknown_command, unknown_code, standard_input_twice, explain_takes_one, paths_or_list, relation_or_file, no_names, no_relations, no_recommends, no_status, kind_of_path, count_alone, other_format, table_of_fields, fields_of_jsonl, strict_of_table, no_field_name, other_by, other_kind, other_latest_kind, reads_twice, index_of_packages, profiles_of_packages, only_or_witness, sources_recommend, names_of_sources, index_and_path, no_number, no_budget, first_or_whole}
 use Rattle.debctl_args.specs.Fitting.{has_mistake, has_request, is_request_kind, Answers, AreMistakes, AreRequests, AnswersMet, MeansError, FitsKind}
 use Rattle.debctl_args.specs.declared.jobs.Task.{Task}
 use Rattle.debctl_args.specs.declared.arguments.UsageFault.{UsageFault}
@@ -76,6 +76,12 @@ asked_is_met (Some asked) request (Err (Usage text)) answers is = go asked answe
     go other_latest_kind answers is = cc
     go other_by answers is = cc
     go reads_twice answers is = cc
+    go count_alone answers is = cc
+    go other_format answers is = cc
+    go table_of_fields answers is = cc
+    go fields_of_jsonl answers is = cc
+    go strict_of_table answers is = cc
+    go no_field_name answers is = cc
     go index_of_packages answers is = cc
     go profiles_of_packages answers is = cc
     go only_or_witness answers is = cc

@@ -1,188 +1,32 @@
 -- What the program's words ask, as a function of what `clap` makes of them. (The words are this
 -- project's own.)
-use Rattle.std.specs.Prelude.{ℕ, ◌^◌, ◌==◌, ◌&&◌, ◌++◌, Bool, true, false, not, List, [], ◌∷◌, ◌||◌, is_some, find, nat_lt, count_by, map, Option, Some, None, unwrap_or, option_map, if◌then◌else◌, codes, bytes_eq}
-use Rattle.std.specs.Fmt.{decimal}
-use Rattle.std.specs.Str.Parse.{digits_value}
-use Rattle.std.specs.List.{list_any, slice_split}
+use Rattle.std.specs.Prelude.{ℕ, ◌&&◌, ◌++◌, Bool, false, not, List, [], ◌∷◌, ◌||◌, is_some, nat_lt, count_by, Option, Some, None, unwrap_or, option_map, if◌then◌else◌, codes, bytes_eq}
+use Rattle.std.specs.List.{list_any}
 use Rattle.std.specs.Option.{option_map_or}
 use Rattle.clap.specs.Simple.{subcommand_of}
 use Rattle.clap.specs.Walk.{Row, Text, all_of, first_of}
 use Rattle.debctl_args.specs.Commands.{debctl_app, has_help}
-use Rattle.debctl_args.specs.Requests.{Audited, AskedFiles, AskedQuery, AskedRelation, AskedTerms, AskedUnmet, Request, Wanted, audits, canonicalises, checks, checks_all, checks_health, checks_whole, compares, compares_files, explains, explains_all, explains_relation, explains_rule, explains_version, finds_changes, finds_latest, finds_unbuildable, finds_uninstallable, finds_unmet, finds_witness, keys, listed, normalises, of_file, of_text, paths, queries, queries_from, queries_over, sorts, wants}
-use Rattle.deb_base.specs.Codes.{name_of, number_of}
-use Rattle.deb_base.specs.declared.code.Code.{Code}
-use Rattle.deb_base.specs.declared.code.Code.TheVariants as code
-use Rattle.deb_base.specs.Docs.{doc_named}
+use Rattle.debctl_args.specs.Requests.{Audited, AskedFiles, AskedQuery, AskedRelation, AskedSelect, AskedTerms, AskedUnmet, Request, Wanted, audits, canonicalises, checks, checks_all, checks_health, checks_whole, compares, compares_files, explains, explains_all, explains_condition, explains_relation, explains_rule, explains_version, finds_changes, finds_latest, finds_unbuildable, finds_uninstallable, finds_unmet, finds_witness, keys, listed, normalises, of_file, of_text, paths, queries, queries_from, queries_over, selects, sorts, wants}
 use Rattle.deb_base.specs.declared.doc.Doc.{Doc}
 use Rattle.deb_base.specs.declared.doc.Doc.TheVariants.{Packages, Binary, Sources, Source, Status, Any}
-use Rattle.deb_base.specs.declared.version_text.VersionText.{VersionText}
-use Rattle.deb_base.specs.declared.version_text.VersionText.TheVariants.{Canonical, Spelled}
-use Rattle.debctl_args.specs.declared.jobs.Cmp.{Cmp}
-use Rattle.debctl_args.specs.declared.jobs.Cmp.TheVariants as cmp
 use Rattle.debctl_args.specs.declared.jobs.Demands.{Demands}
 use Rattle.debctl_args.specs.declared.jobs.Dependents.{Dependents}
 use Rattle.debctl_args.specs.declared.jobs.Dependents.TheVariants as dependents
-use Rattle.debctl_args.specs.declared.jobs.Detail.{Detail}
-use Rattle.debctl_args.specs.declared.jobs.Detail.TheVariants.{Verdicts, Reasons}
-use Rattle.debctl_args.specs.declared.jobs.DiffDetail.{DiffDetail}
-use Rattle.debctl_args.specs.declared.jobs.DiffDetail.TheVariants.{Fields, Values}
 use Rattle.debctl_args.specs.declared.jobs.DiffKind.{DiffKind}
 use Rattle.debctl_args.specs.declared.jobs.DiffKind.TheVariants as diffed
 use Rattle.debctl_args.specs.declared.jobs.Extent.{Extent}
 use Rattle.debctl_args.specs.declared.jobs.Extent.TheVariants.{First, All}
 use Rattle.debctl_args.specs.declared.jobs.LatestBy.{LatestBy}
-use Rattle.debctl_args.specs.declared.jobs.LatestBy.TheVariants.{Name, NameAndArchitecture}
 use Rattle.debctl_args.specs.declared.jobs.LatestKind.{LatestKind}
 use Rattle.debctl_args.specs.declared.jobs.LatestKind.TheVariants as latest
 use Rattle.debctl_args.specs.declared.jobs.LineEnd.{LineEnd}
-use Rattle.debctl_args.specs.declared.jobs.LineEnd.TheVariants.{Newline, Nul}
 use Rattle.debctl_args.specs.declared.jobs.Members.{Members}
-use Rattle.debctl_args.specs.declared.jobs.Members.TheVariants as members
+use Rattle.debctl_args.specs.declared.jobs.SelectForm.{SelectForm}
 use Rattle.debctl_args.specs.declared.jobs.SourceKind.{SourceKind}
 use Rattle.debctl_args.specs.declared.jobs.SourceKind.TheVariants as sources
 use Rattle.debctl_args.specs.declared.jobs.SourcesTried.{SourcesTried}
-use Rattle.debctl_args.specs.declared.jobs.SourcesTried.TheVariants as tried
 use Rattle.debctl_args.specs.declared.jobs.Strength.{Strength}
-use Rattle.debctl_args.specs.declared.jobs.Strength.TheVariants.{Depends, Recommends}
-
--- ---- words
-
--- the kind that is asked for: a list of packages where no word names one
-unfoldable pub kind_asked : Option Text → Option Doc
-kind_asked None = Some Packages
-kind_asked (Some word) = doc_named word
-
--- the operator that a word names, also as it stands in a relation
-abbrev pub operator_named : Text → Option Cmp
-operator_named word =
-    if bytes_eq word (codes "lt") then Some cmp.Less
-    else if bytes_eq word (codes "<<") then Some cmp.Less
-    else if bytes_eq word (codes "le") then Some cmp.LessOrEqual
-    else if bytes_eq word (codes "<=") then Some cmp.LessOrEqual
-    else if bytes_eq word (codes "eq") then Some cmp.Equal
-    else if bytes_eq word (codes "=") then Some cmp.Equal
-    else if bytes_eq word (codes "ne") then Some cmp.NotEqual
-    else if bytes_eq word (codes "ge") then Some cmp.GreaterOrEqual
-    else if bytes_eq word (codes ">=") then Some cmp.GreaterOrEqual
-    else if bytes_eq word (codes "gt") then Some cmp.Greater
-    else if bytes_eq word (codes ">>") then Some cmp.Greater
-    else None
-
--- the number that a word is, in decimal and without zeros before it; below 2 ^ 64
-abbrev pub number_named : Text → Option ℕ
-number_named word =
-    if bytes_eq word (decimal (digits_value 10 word))
-    && nat_lt (digits_value 10 word) (2 ^ 64) then Some (digits_value 10 word)
-    else None
-
--- the codes, by their numbers
-abbrev pub all_codes : List Code
-all_codes =
-    code.NotUtf8 ∷ code.Armour ∷ code.Comment ∷ code.StrayContinuation ∷ code.BadFieldName
-    ∷ code.NoColon ∷ code.DuplicateField ∷ code.ParagraphTooLong ∷ code.FileTooLong
-    ∷ code.NoParagraph ∷ code.TooManyParagraphs ∷ code.MissingField ∷ code.NotOneLine
-    ∷ code.BadName ∷ code.BadNumber ∷ code.BadWord ∷ code.BadArchitecture ∷ code.BadVersion
-    ∷ code.BadRelation ∷ code.AlternativesNotAllowed ∷ code.ProvidesBound ∷ code.Wildcard
-    ∷ code.BadEnvironment ∷ []
-
--- a word is the number of a code, in decimal as it is printed, or its name
-abbrev pub names_code : Text → Code → Bool
-names_code word code =
-    bytes_eq word (decimal (number_of code)) || bytes_eq word (name_of code)
-
--- the code that a word names so
-abbrev pub code_named : Text → Option Code
-code_named word = find (names_code word) all_codes
-
--- the fewest paragraphs that are demanded: 0 without a word
-abbrev pub least_asked : Option Text → Option ℕ
-least_asked None = Some 0
-least_asked (Some word) = number_named word
-
--- a search may take so many steps
-abbrev pub is_budget : ℕ → Bool
-is_budget steps = nat_lt 0 steps && not (nat_lt 1000000000 steps)
-
--- the steps of a search that a word allows: such a number, from 1 to 1000000000
-abbrev pub budget_named : Text → Option ℕ
-budget_named word =
-    option_map_or (λ steps. if is_budget steps then Some steps else None) (number_named word) None
-
--- the most steps of the search for one package: 100000 without a word
-abbrev pub budget_asked : Option Text → Option ℕ
-budget_asked None = Some 100000
-budget_asked (Some word) = budget_named word
-
--- what stands between the commas (44) of a text
-abbrev pub comma_pieces : Text → List Text
-comma_pieces text = slice_split (λ b. b == 44) text
-
--- the profiles or the names between the commas of a word: none without a word
-abbrev pub pieces_asked : Option Text → List Text
-pieces_asked None = []
-pieces_asked (Some word) = comma_pieces word
-
--- whether a flag is given: `clap` reads one that is given as `true`
-abbrev pub flag_asked : Option Text → Bool
-flag_asked None = false
-flag_asked (Some word) = bytes_eq word (codes "true")
-
--- which refusals of a file are reported: every one if that is asked for
-abbrev pub extent_asked : Bool → Extent
-extent_asked false = First
-extent_asked true = All
-
--- what ends each record of an audit: a byte 0 where that is asked for
-abbrev pub end_asked : Bool → LineEnd
-end_asked false = Newline
-end_asked true = Nul
-
--- what a query prints of each group: reasons too where that is asked for
-abbrev pub detail_asked : Bool → Detail
-detail_asked false = Verdicts
-detail_asked true = Reasons
-
--- which packages an index has: the installed ones of a status file where that is asked for
-abbrev pub members_asked : Bool → Members
-members_asked false = members.All
-members_asked true = members.Installed
-
--- which text of each version is printed: the one of its file where that is asked for
-abbrev pub versions_asked : Bool → VersionText
-versions_asked false = Canonical
-versions_asked true = Spelled
-
--- what `diff` prints of each paragraph that changed: values too if they are asked for
-abbrev pub diff_detail_asked : Bool → DiffDetail
-diff_detail_asked false = Fields
-diff_detail_asked true = Values
-
--- which fields of binary packages are tried: Recommends too where that is asked for
-abbrev pub strength_asked : Bool → Strength
-strength_asked false = Depends
-strength_asked true = Recommends
-
--- which source packages are tried: all where that is asked for
-abbrev pub tried_asked : Bool → SourcesTried
-tried_asked false = tried.OfTarget
-tried_asked true = tried.All
-
--- which paragraphs are of one package for `latest`: those with one name, or with one architecture
--- too
-abbrev pub by_named : Text → Option LatestBy
-by_named word =
-    if bytes_eq word (codes "name") then Some Name
-    else if bytes_eq word (codes "name,arch") then Some NameAndArchitecture
-    else None
-
--- the same: those with one name without a word
-abbrev pub by_asked : Option Text → Option LatestBy
-by_asked None = Some Name
-by_asked (Some word) = by_named word
-
--- the texts that are given for an argument that takes any number
-abbrev pub texts_asked : Option (List Text) → List Text
-texts_asked given = unwrap_or given []
+use Rattle.debctl_args.specs.AskedWords.{kind_asked, operator_named, code_named, least_asked, budget_asked, comma_pieces, pieces_asked, flag_asked, extent_asked, end_asked, detail_asked, members_asked, versions_asked, diff_detail_asked, strength_asked, tried_asked, by_asked, form_asked, is_empty, is_jsonl, is_table, on_refusal_asked, picks_asked, texts_asked}
 
 -- ---- what is asked
 
@@ -216,6 +60,12 @@ pub data Asked : Type 0 where
   other_latest_kind : Asked
   other_by : Asked
   reads_twice : Asked
+  count_alone : Asked
+  other_format : Asked
+  table_of_fields : Asked
+  fields_of_jsonl : Asked
+  strict_of_table : Asked
+  no_field_name : Asked
   no_number : Asked
   no_budget : Asked
   first_or_whole : Asked
@@ -319,29 +169,42 @@ abbrev pub diff_asked : List Row → Asked
 diff_asked rows =
     option_map_or (diff_of_kind rows) (kind_asked (first_of (codes "kind") rows)) unknown_kind
 
--- a kind, `--all` or a path is given: the words of `explain` are about a file
+-- `--all` or a path is given: `explain` reads a file
+abbrev pub reads_file : List Row → Bool
+reads_file rows =
+    flag_asked (first_of (codes "all") rows) || is_some (first_of (codes "path") rows)
+
+-- the same, or a kind is given: the words of `explain` are about a kind of file
 abbrev pub names_file : List Row → Bool
-names_file rows =
-    is_some (first_of (codes "kind") rows) || flag_asked (first_of (codes "all") rows)
-    || is_some (first_of (codes "path") rows)
+names_file rows = is_some (first_of (codes "kind") rows) || reads_file rows
+
+-- `explain --where`, with a text and at most a kind
+abbrev pub condition_asked : List Row → Text → Asked
+condition_asked rows text =
+    if reads_file rows then explain_takes_one
+    else option_map_or
+    (λ kind. asks (wants (explains_condition kind text)))
+    (kind_asked (first_of (codes "kind") rows)) unknown_kind
 
 -- `explain --version-text`, with a text and nothing else
 abbrev pub version_asked : List Row → Text → Asked
 version_asked rows text =
-    if names_file rows then explain_takes_one
+    if names_file rows || is_some (first_of (codes "where") rows) then explain_takes_one
     else asks (wants (explains_version text))
 
 -- `explain --relation`, with a text and nothing else
 abbrev pub relation_asked : List Row → Text → Asked
 relation_asked rows text =
-    if names_file rows || is_some (first_of (codes "version-text") rows) then explain_takes_one
+    if names_file rows || is_some (first_of (codes "version-text") rows)
+    || is_some (first_of (codes "where") rows) then explain_takes_one
     else asks (wants (explains_relation text))
 
 -- `explain --code`, with the word for a code and nothing else
 abbrev pub rule_asked : List Row → Text → Asked
 rule_asked rows word =
     if names_file rows || is_some (first_of (codes "relation") rows)
-    || is_some (first_of (codes "version-text") rows) then explain_takes_one
+    || is_some (first_of (codes "version-text") rows)
+    || is_some (first_of (codes "where") rows) then explain_takes_one
     else option_map_or
     (λ code. asks (wants (explains_rule code)))
     (code_named word) unknown_code
@@ -351,12 +214,13 @@ abbrev pub file_explained : List Row → Asked
 file_explained rows =
     document_asked (explains_to (extent_asked (flag_asked (first_of (codes "all") rows)))) rows
 
--- `explain`, of a relation, of a version or of a file
+-- `explain`, of a relation, of a version, of a condition or of a file
 abbrev pub text_asked : List Row → Asked
 text_asked rows =
     option_map_or (relation_asked rows) (first_of (codes "relation") rows)
     (option_map_or (version_asked rows) (first_of (codes "version-text") rows)
-    (file_explained rows))
+    (option_map_or (condition_asked rows) (first_of (codes "where") rows)
+    (file_explained rows)))
 
 -- `explain`, of a code or of what else it tells of
 abbrev pub explain_asked : List Row → Asked
@@ -724,6 +588,54 @@ abbrev pub latest_asked : List Row → Asked
 latest_asked rows =
     option_map_or (latest_of_kind rows) (kind_asked (first_of (codes "kind") rows)) unknown_kind
 
+-- what `select` of files of this kind wants, in this form
+abbrev pub select_in : List Row → Doc → SelectForm → AskedSelect
+select_in rows kind form = record {
+  kind = kind;
+  conditions = texts_asked (all_of (codes "where") rows);
+  picks = picks_asked (flag_asked (first_of (codes "not") rows));
+  on_refusal = on_refusal_asked (flag_asked (first_of (codes "accepted") rows));
+  fields = pieces_asked (first_of (codes "fields") rows);
+  form = form;
+  strict = flag_asked (first_of (codes "strict") rows);
+  count = flag_asked (first_of (codes "count") rows);
+  paths = texts_asked (all_of (codes "path") rows);
+}
+
+-- the same: none of the names of fields is empty, and at most one of the files is standard input
+abbrev pub select_of_files : List Row → Doc → SelectForm → Asked
+select_of_files rows kind form =
+    if list_any is_empty (pieces_asked (first_of (codes "fields") rows)) then no_field_name
+    else if is_standard_input_twice (texts_asked (all_of (codes "path") rows))
+    then standard_input_twice
+    else asks (wants (selects (select_in rows kind form)))
+
+-- the same: a table is of fields, an object of JSON of all fields, and only a table is strict
+abbrev pub select_in_form : List Row → Doc → SelectForm → Asked
+select_in_form rows kind form =
+    if is_table form && not (is_some (first_of (codes "fields") rows)) then table_of_fields
+    else if is_jsonl form && is_some (first_of (codes "fields") rows) then fields_of_jsonl
+    else if flag_asked (first_of (codes "strict") rows) && not (is_table form)
+    then strict_of_table
+    else select_of_files rows kind form
+
+-- fields or a form are asked for
+abbrev pub names_output : List Row → Bool
+names_output rows =
+    is_some (first_of (codes "fields") rows) || is_some (first_of (codes "format") rows)
+
+-- `select` of files of this kind: of a count there are neither fields nor another form
+abbrev pub select_of_kind : List Row → Doc → Asked
+select_of_kind rows kind =
+    if flag_asked (first_of (codes "count") rows) && names_output rows then count_alone
+    else option_map_or (select_in_form rows kind) (form_asked (first_of (codes "format") rows))
+    other_format
+
+-- `select`
+abbrev pub select_asked : List Row → Asked
+select_asked rows =
+    option_map_or (select_of_kind rows) (kind_asked (first_of (codes "kind") rows)) unknown_kind
+
 abbrev pub help_asked : Option Text → Asked
 help_asked None = asks_help
 help_asked (Some word) = if has_help word then asks_help else unknown_command
@@ -737,6 +649,7 @@ asked_by name rows =
     else if bytes_eq name (codes "normalise") then document_asked normalises rows
     else if bytes_eq name (codes "same") then same_asked rows
     else if bytes_eq name (codes "diff") then diff_asked rows
+    else if bytes_eq name (codes "select") then select_asked rows
     else if bytes_eq name (codes "compare") then compare_asked rows
     else if bytes_eq name (codes "canon-version") then canon_version_asked rows
     else if bytes_eq name (codes "version-key") then version_key_asked rows

@@ -6,7 +6,8 @@ use Rattle.clap.specs.Faults.{fault_of}
 use Rattle.clap.specs.Takes.{takes}
 use Rattle.clap.specs.Walk.{Text}
 use Rattle.clap.specs.declared.error.kind.ErrorKind.TheVariants as kind
-use Rattle.debctl_args.specs.Asked.{asked_of, asks, asks_help, comma_pieces, first_or_whole, kind_asked, no_names, no_number, number_named, pieces_asked, unknown_command, unknown_kind, unknown_operator, standard_input_twice, operator_named, Asked}
+use Rattle.debctl_args.specs.Asked.{asked_of, asks, asks_help, first_or_whole, no_names, no_number, unknown_command, unknown_kind, unknown_operator, standard_input_twice, Asked}
+use Rattle.debctl_args.specs.AskedWords.{comma_pieces, kind_asked, number_named, pieces_asked, operator_named}
 use Rattle.debctl_args.specs.Commands.{debctl_app}
 use Rattle.deb_base.specs.declared.doc.Doc.TheVariants.{Any, Binary, Packages, Source, Sources, Status}
 use Rattle.deb_base.specs.declared.version_text.VersionText.TheVariants.{Canonical, Spelled}
@@ -461,9 +462,9 @@ help_on_kinds = refl
 
 help_on_each_command : map (λ word. asked_of (line (codes "help" ∷ word ∷ [])))
     (codes "normalise" ∷ codes "same" ∷ codes "compare" ∷ codes "canon-version" ∷ codes "sort"
-    ∷ codes "version-key" ∷ codes "unmet" ∷ codes "diff" ∷ codes "latest" ∷ [])
+    ∷ codes "version-key" ∷ codes "unmet" ∷ codes "diff" ∷ codes "latest" ∷ codes "select" ∷ [])
     ≡ Some asks_help ∷ Some asks_help ∷ Some asks_help ∷ Some asks_help ∷ Some asks_help
-    ∷ Some asks_help ∷ Some asks_help ∷ Some asks_help ∷ Some asks_help ∷ []
+    ∷ Some asks_help ∷ Some asks_help ∷ Some asks_help ∷ Some asks_help ∷ Some asks_help ∷ []
 unfolding clap_on_literals
 help_on_each_command = refl
 

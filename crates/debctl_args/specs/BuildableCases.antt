@@ -5,7 +5,8 @@ use Rattle.clap.proofs.OnLiterals.{clap_on_literals}
 use Rattle.clap.specs.Faults.{fault_of}
 use Rattle.clap.specs.Walk.{Text}
 use Rattle.clap.specs.declared.error.kind.ErrorKind.TheVariants as kind
-use Rattle.debctl_args.specs.Asked.{asked_of, asks, index_and_path, index_of_packages, kind_asked, names_of_sources, no_budget, other_kind, profiles_of_packages, sources_recommend, standard_input_twice, unknown_kind, Asked}
+use Rattle.debctl_args.specs.Asked.{asked_of, asks, index_and_path, index_of_packages, names_of_sources, no_budget, other_kind, profiles_of_packages, sources_recommend, standard_input_twice, unknown_kind, Asked}
+use Rattle.debctl_args.specs.AskedWords.{kind_asked}
 use Rattle.debctl_args.specs.Commands.{debctl_app}
 use Rattle.debctl_args.specs.Requests.{finds_unbuildable, finds_uninstallable, AskedTerms}
 use Rattle.debctl_args.specs.declared.jobs.Members.{Members}

@@ -131,6 +131,41 @@ by_rule = record (new_rule (codes "by")) { long = Some (codes "by"); value_names
 abbrev pub before_rule : Rule
 before_rule = record (new_rule (codes "before")) { long = Some (codes "before"); value_names = 1 }
 
+-- `--where COND`, any number of times
+abbrev pub where_rule : Rule
+where_rule =
+    record (new_rule (codes "where"))
+    { long = Some (codes "where"); action = Some Append; value_names = 1 }
+
+-- `--not`, which takes no value
+abbrev pub not_rule : Rule
+not_rule = record (new_rule (codes "not")) { long = Some (codes "not"); action = Some SetTrue }
+
+-- `--accepted`, which takes no value
+abbrev pub accepted_rule : Rule
+accepted_rule =
+    record (new_rule (codes "accepted")) { long = Some (codes "accepted"); action = Some SetTrue }
+
+-- `--fields FIELD,FIELD`, or `-f FIELD,FIELD` (f is 102)
+abbrev pub fields_rule : Rule
+fields_rule =
+    record (new_rule (codes "fields"))
+    { short = Some 102; long = Some (codes "fields"); value_names = 1 }
+
+-- `--format F`
+abbrev pub format_rule : Rule
+format_rule = record (new_rule (codes "format")) { long = Some (codes "format"); value_names = 1 }
+
+-- `--strict`, which takes no value
+abbrev pub strict_rule : Rule
+strict_rule =
+    record (new_rule (codes "strict")) { long = Some (codes "strict"); action = Some SetTrue }
+
+-- `--count`, which takes no value
+abbrev pub count_rule : Rule
+count_rule =
+    record (new_rule (codes "count")) { long = Some (codes "count"); action = Some SetTrue }
+
 -- `--relation-from PATH`
 abbrev pub relation_file_rule : Rule
 relation_file_rule =
@@ -151,6 +186,10 @@ abbrev pub version_rule : Rule
 version_rule =
     record (new_rule (codes "version-text"))
     { long = Some (codes "version-text"); value_names = 1 }
+
+-- `--where TEXT` of `explain`
+abbrev pub condition_rule : Rule
+condition_rule = record (new_rule (codes "where")) { long = Some (codes "where"); value_names = 1 }
 
 -- `--files0-from PATH`
 abbrev pub list_rule : Rule
@@ -265,10 +304,10 @@ file_commands =
     -- `check [--kind K] [--all] [--complete] [--least N] [PATH]`
     row (codes "check") (kind_rule ∷ all_rule ∷ complete_rule ∷ least_rule
     ∷ optional_rule (codes "path") ∷ [])
-    -- `explain [--kind K] [--all] [PATH]`, `explain --code N`, `explain --relation TEXT` and
-    -- `explain --version-text TEXT`
+    -- `explain [--kind K] [--all] [PATH]`, `explain --code N`, `explain --relation TEXT`,
+    -- `explain --version-text TEXT` and `explain [--kind K] --where TEXT`
     ∷ row (codes "explain") (kind_rule ∷ all_rule ∷ code_rule ∷ relation_rule ∷ version_rule
-    ∷ optional_rule (codes "path") ∷ [])
+    ∷ condition_rule ∷ optional_rule (codes "path") ∷ [])
     -- `audit [--kind K] [--all] [--complete] [--least N] [--null] PATH ..` and
     -- `audit [--kind K] [--all] [--complete] [--least N] [--null] --files0-from PATH`
     ∷ row (codes "audit") (kind_rule ∷ all_rule ∷ complete_rule ∷ least_rule ∷ list_rule
@@ -281,6 +320,10 @@ file_commands =
     -- `diff [--kind K] [--values] [--spelled] OLD NEW`
     ∷ row (codes "diff") (kind_rule ∷ values_rule ∷ spelled_rule ∷ required_rule (codes "old")
     ∷ required_rule (codes "new") ∷ [])
+    -- `select [--kind K] [--where COND].. [--not] [--accepted] [--fields FIELD,FIELD] [--format F]
+    -- [--strict] [--count] [PATH ..]`
+    ∷ row (codes "select") (kind_rule ∷ where_rule ∷ not_rule ∷ accepted_rule ∷ fields_rule
+    ∷ format_rule ∷ strict_rule ∷ count_rule ∷ words_rule (codes "path") ∷ [])
     -- `compare V OP V`
     ∷ row (codes "compare") (required_rule (codes "left") ∷ required_rule (codes "operator")
     ∷ required_rule (codes "right") ∷ [])

@@ -3,10 +3,11 @@ use Rattle.std.specs.Fmt.{digits}
 use Rattle.std.specs.Prelude.{◌≡◌, List, [], map, ◌∷◌, Option, Some, None, true, false, codes, refl}
 use Rattle.clap.proofs.OnLiterals.{clap_on_literals}
 use Rattle.clap.specs.Walk.{Text}
-use Rattle.debctl_args.specs.Asked.{asked_of, asks, code_named, explain_takes_one, paths_or_list, unknown_code, kind_asked, no_number, unknown_kind, standard_input_twice, Asked}
+use Rattle.debctl_args.specs.Asked.{asked_of, asks, explain_takes_one, paths_or_list, unknown_code, no_number, unknown_kind, standard_input_twice, Asked}
+use Rattle.debctl_args.specs.AskedWords.{code_named, kind_asked}
 use Rattle.deb_base.specs.declared.code.Code.TheVariants as code
 use Rattle.deb_base.specs.declared.doc.Doc.TheVariants.{Any, Packages, Source, Sources}
-use Rattle.debctl_args.specs.Requests.{audits, explains, explains_all, explains_relation, explains_version, listed, paths, explains_rule}
+use Rattle.debctl_args.specs.Requests.{audits, explains, explains_all, explains_condition, explains_relation, explains_version, listed, paths, explains_rule}
 use Rattle.debctl_args.specs.declared.jobs.Demands.{Demands}
 use Rattle.debctl_args.specs.declared.jobs.Extent.TheVariants.{First, All}
 use Rattle.debctl_args.specs.declared.jobs.LineEnd.TheVariants.{Newline, Nul}
@@ -107,6 +108,35 @@ explain_a_version : asked_of (line (codes "explain" ∷ codes "--version-text=-1
     ≡ Some (asks (record { wanted = explains_version (codes "-1"); first = None; second = None }))
 unfolding clap_on_literals
 explain_a_version = refl
+
+-- a condition is one on documents of a kind: of packages where none is named
+explain_a_condition : map (λ words. asked_of (line (codes "explain" ∷ words)))
+    ((codes "--where" ∷ codes "Package" ∷ []) ∷ (codes "--where=" ∷ codes "-k" ∷ codes "any" ∷ [])
+    ∷ (codes "--where=Package" ∷ codes "--kind=foo" ∷ []) ∷ [])
+    ≡ Some (asks (record {
+      wanted = explains_condition Packages (codes "Package");
+      first = None;
+      second = None;
+    }))
+    ∷ Some (asks (record {
+      wanted = explains_condition Any [];
+      first = None;
+      second = None;
+    }))
+    ∷ Some unknown_kind ∷ []
+unfolding clap_on_literals kind_asked
+explain_a_condition = refl
+
+-- no file is read for it, and nothing else is explained beside it
+condition_beside_another : map
+    (λ words. asked_of (line (codes "explain" ∷ codes "--where=aa" ∷ words)))
+    ((codes "x" ∷ []) ∷ (codes "--all" ∷ []) ∷ (codes "--code=1" ∷ [])
+    ∷ (codes "--relation=aa" ∷ []) ∷ (codes "--version-text=1" ∷ [])
+    ∷ (codes "--kind=foo" ∷ codes "x" ∷ []) ∷ [])
+    ≡ Some explain_takes_one ∷ Some explain_takes_one ∷ Some explain_takes_one
+    ∷ Some explain_takes_one ∷ Some explain_takes_one ∷ Some explain_takes_one ∷ []
+unfolding clap_on_literals
+condition_beside_another = refl
 
 -- each of the three is given alone
 relation_beside_a_path : asked_of

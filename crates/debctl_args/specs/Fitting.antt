@@ -10,7 +10,7 @@ use Rattle.debctl_args.specs.declared.jobs.Task.{Task}
 use Rattle.debctl_args.specs.declared.arguments.UsageFault.{UsageFault}
 use Rattle.debctl_args.specs.declared.arguments.UsageFault.TheVariants.{Usage, Help, Memory}
 use Rattle.debctl_args.specs.Requests.{request_of}
-use Rattle.debctl_args.specs.Asked.{all_for_of_sources, all_sources_of_packages, asks, asks_help, explain_takes_one, first_or_whole, index_and_path, index_of_packages, kind_of_path, no_budget, no_names, no_number, no_recommends, no_relations, no_status, names_of_sources, only_or_witness, other_by, other_kind, other_latest_kind, paths_or_list, profiles_of_packages, reads_twice, relation_or_file, sources_recommend, standard_input_twice, unknown_code, unknown_command, unknown_kind, unknown_operator, Asked}
+use Rattle.debctl_args.specs.Asked.{all_for_of_sources, all_sources_of_packages, asks, asks_help, count_alone, explain_takes_one, fields_of_jsonl, first_or_whole, index_and_path, index_of_packages, kind_of_path, names_of_sources, no_budget, no_field_name, no_names, no_number, no_recommends, no_relations, no_status, only_or_witness, other_by, other_format, other_kind, other_latest_kind, paths_or_list, profiles_of_packages, reads_twice, relation_or_file, sources_recommend, standard_input_twice, strict_of_table, table_of_fields, unknown_code, unknown_command, unknown_kind, unknown_operator, Asked}
 
 -- the text names what isn't known, what stands twice, or what doesn't go together
 abbrev pub IsUsage : Asked → Text → Type 0
@@ -20,7 +20,7 @@ IsUsage unknown_command text = text ≡ codes "usage: unknown command"
 IsUsage unknown_code text = text ≡ codes "usage: unknown code"
 IsUsage standard_input_twice text = text ≡ codes "usage: standard input twice"
 IsUsage explain_takes_one text =
-    text ≡ codes "usage: explain takes one file, code, relation or version"
+    text ≡ codes "usage: explain takes one file, code, relation, version or condition"
 IsUsage paths_or_list text = text ≡ codes "usage: audit takes paths, or --files0-from"
 IsUsage relation_or_file text = text ≡ codes "usage: query takes a relation, or --relation-from"
 IsUsage no_names text = text ≡ codes "usage: diff takes no --kind any"
@@ -50,6 +50,13 @@ IsUsage other_latest_kind text = text ≡ codes "usage: latest takes --kind pack
 IsUsage other_by text = text ≡ codes "usage: latest takes --by name or name,arch"
 IsUsage reads_twice text =
     text ≡ codes "usage: latest reads its files twice, so it can't read standard input"
+IsUsage count_alone text = text ≡ codes "usage: select takes --count without -f and --format"
+IsUsage other_format text = text ≡ codes "usage: select takes --format control, table or jsonl"
+IsUsage table_of_fields text = text ≡ codes "usage: select takes --format table only with -f"
+IsUsage fields_of_jsonl text = text ≡ codes "usage: select takes no -f with --format jsonl"
+IsUsage strict_of_table text =
+    text ≡ codes "usage: select takes --strict only with --format table"
+IsUsage no_field_name text = text ≡ codes "usage: -f takes names of fields"
 IsUsage no_number text = text ≡ codes "usage: --least takes a number"
 IsUsage no_budget text = text ≡ codes "usage: --budget takes a number from 1 to 1000000000"
 IsUsage first_or_whole text = text ≡ codes "usage: --all takes neither --complete nor --least"

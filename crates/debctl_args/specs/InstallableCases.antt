@@ -6,7 +6,8 @@ use Rattle.clap.specs.Faults.{fault_of}
 use Rattle.clap.specs.Takes.{takes}
 use Rattle.clap.specs.Walk.{Text}
 use Rattle.clap.specs.declared.error.kind.ErrorKind.TheVariants as kind
-use Rattle.debctl_args.specs.Asked.{asked_of, asks, asks_help, budget_named, index_of_packages, kind_asked, no_budget, only_or_witness, pieces_asked, profiles_of_packages, Asked}
+use Rattle.debctl_args.specs.Asked.{asked_of, asks, asks_help, index_of_packages, no_budget, only_or_witness, profiles_of_packages, Asked}
+use Rattle.debctl_args.specs.AskedWords.{budget_named, kind_asked, pieces_asked}
 use Rattle.debctl_args.specs.Commands.{debctl_app}
 use Rattle.debctl_args.specs.Requests.{finds_uninstallable, finds_witness, AskedTerms}
 use Rattle.debctl_args.specs.declared.jobs.Members.TheVariants as members

@@ -4,7 +4,8 @@ use Rattle.clap.proofs.OnLiterals.{clap_on_literals}
 use Rattle.clap.specs.Faults.{fault_of}
 use Rattle.clap.specs.Walk.{Text}
 use Rattle.clap.specs.declared.error.kind.ErrorKind.TheVariants as kind
-use Rattle.debctl_args.specs.Asked.{asked_of, asks, by_asked, kind_asked, other_by, other_latest_kind, reads_twice, unknown_kind, Asked}
+use Rattle.debctl_args.specs.Asked.{asked_of, asks, other_by, other_latest_kind, reads_twice, unknown_kind, Asked}
+use Rattle.debctl_args.specs.AskedWords.{by_asked, kind_asked}
 use Rattle.debctl_args.specs.Commands.{debctl_app}
 use Rattle.debctl_args.specs.Requests.{finds_latest, wants}
 use Rattle.debctl_args.specs.declared.jobs.LatestBy.{LatestBy}

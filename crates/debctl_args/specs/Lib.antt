@@ -1,5 +1,6 @@
 pub mod Asked
 pub mod AskedCases
+pub mod AskedWords
 pub mod BuildableCases
 pub mod Commands
 pub mod ExplainAuditCases
@@ -10,4 +11,5 @@ pub mod LatestCases
 pub mod QueryCases
 pub mod RequestCases
 pub mod Requests
+pub mod SelectCases
 pub mod UnmetCases

@@ -4,9 +4,9 @@ use Rattle.std.specs.Prelude.{◌≡◌, ℕ, [], ◌∷◌, map, Option, Some, 
 use Rattle.std.specs.declared.alloc.Global.{Global}
 use Rattle.clap.specs.declared.error.kind.ErrorKind.TheVariants as kind
 use Rattle.deb_base.specs.declared.code.Code.TheVariants as code
-use Rattle.debctl_args.specs.Asked.{all_for_of_sources, all_sources_of_packages, explain_takes_one, first_or_whole, index_and_path, index_of_packages, kind_of_path, names_of_sources, no_budget, no_names, no_number, no_recommends, no_relations, no_status, only_or_witness, other_by, other_kind, other_latest_kind, paths_or_list, profiles_of_packages, reads_twice, relation_or_file, sources_recommend, standard_input_twice, unknown_code, unknown_command, unknown_kind, unknown_operator}
+use Rattle.debctl_args.specs.Asked.{all_for_of_sources, all_sources_of_packages, count_alone, explain_takes_one, fields_of_jsonl, first_or_whole, index_and_path, index_of_packages, kind_of_path, names_of_sources, no_budget, no_field_name, no_names, no_number, no_recommends, no_relations, no_status, only_or_witness, other_by, other_format, other_kind, other_latest_kind, paths_or_list, profiles_of_packages, reads_twice, relation_or_file, sources_recommend, standard_input_twice, strict_of_table, table_of_fields, unknown_code, unknown_command, unknown_kind, unknown_operator}
 use Rattle.debctl_args.specs.Fitting.{has_mistake, has_request, is_request_kind, IsUsage, FitsKind}
-use Rattle.debctl_args.specs.Requests.{audits, canonicalises, checks, checks_all, checks_health, checks_whole, compares, document_of, explains, explains_all, explains_relation, explains_version, finds_changes, finds_latest, finds_unbuildable, finds_uninstallable, finds_unmet, finds_witness, keys, listed, normalises, of_file, of_text, paths, queries, queries_from, queries_over, reads_of, request_of, sorts, explains_rule, compares_files, wanted_of, wants, AskedTerms, Request, Wanted}
+use Rattle.debctl_args.specs.Requests.{audits, canonicalises, checks, checks_all, checks_health, checks_whole, compares, document_of, explains, explains_all, explains_relation, explains_version, finds_changes, finds_latest, finds_unbuildable, finds_uninstallable, finds_unmet, finds_witness, keys, listed, normalises, of_file, of_text, paths, queries, queries_from, queries_over, reads_of, request_of, selects, sorts, explains_rule, compares_files, wanted_of, wants, AskedTerms, Request, Wanted}
 use Rattle.debctl_args.specs.declared.jobs.Demands.{Demands}
 use Rattle.debctl_args.specs.declared.jobs.Explain.TheVariants as explain
 use Rattle.debctl_args.specs.declared.jobs.Files.{Files}
@@ -27,7 +27,10 @@ use Rattle.debctl_args.specs.declared.jobs.Extent.TheVariants as extents
 use Rattle.debctl_args.specs.declared.jobs.LatestBy.TheVariants as latest_by
 use Rattle.debctl_args.specs.declared.jobs.LatestKind.TheVariants as latest_kinds
 use Rattle.debctl_args.specs.declared.jobs.LineEnd.TheVariants as line_ends
+use Rattle.debctl_args.specs.declared.jobs.OnRefusal.TheVariants.{Stop, Continue}
+use Rattle.debctl_args.specs.declared.jobs.Picks.TheVariants.{Matching, Others}
 use Rattle.debctl_args.specs.declared.jobs.RelationArgument.TheVariants as relation
+use Rattle.debctl_args.specs.declared.jobs.SelectForm.TheVariants.{Control, Table}
 use Rattle.debctl_args.specs.declared.jobs.Detail.TheVariants.{Reasons, Verdicts}
 use Rattle.debctl_args.specs.declared.jobs.SourceKind.TheVariants as sources
 use Rattle.debctl_args.specs.declared.jobs.SourcesTried.TheVariants as tried
@@ -304,6 +307,55 @@ latest_of_tasks : map request_of
 unfolding one other
 latest_of_tasks = refl
 
+-- a list of words keeps its order, and each of them its place
+selects_of_tasks : map request_of
+    (task.Select (record {
+      kind = docs.Status;
+      conditions = vector (other ∷ one ∷ other ∷ []) refl;
+      picks = Others;
+      on_refusal = Continue;
+      fields = vector (one ∷ other ∷ []) refl;
+      form = Table;
+      strict = true;
+      count = false;
+      paths = vector (other ∷ one ∷ []) refl;
+    })
+    ∷ task.Select (record {
+      kind = docs.Any;
+      conditions = vector [] refl;
+      picks = Matching;
+      on_refusal = Stop;
+      fields = vector [] refl;
+      form = Control;
+      strict = false;
+      count = true;
+      paths = vector (one ∷ []) refl;
+    }) ∷ [])
+    ≡ wants (selects (record {
+      kind = docs.Status;
+      conditions = codes "b-" ∷ codes "amd64" ∷ codes "b-" ∷ [];
+      picks = Others;
+      on_refusal = Continue;
+      fields = codes "amd64" ∷ codes "b-" ∷ [];
+      form = Table;
+      strict = true;
+      count = false;
+      paths = codes "b-" ∷ codes "amd64" ∷ [];
+    }))
+    ∷ wants (selects (record {
+      kind = docs.Any;
+      conditions = [];
+      picks = Matching;
+      on_refusal = Stop;
+      fields = [];
+      form = Control;
+      strict = false;
+      count = true;
+      paths = codes "amd64" ∷ [];
+    })) ∷ []
+unfolding one other
+selects_of_tasks = refl
+
 -- ---- mistakes
 
 requests : (is_request_kind kind.DisplayHelp ≡ true) × (is_request_kind kind.DisplayVersion ≡ true)
@@ -338,7 +390,7 @@ texts_of_mistakes : IsUsage unknown_kind (codes "usage: unknown kind")
     × IsUsage unknown_code (codes "usage: unknown code")
     × IsUsage standard_input_twice (codes "usage: standard input twice")
     × IsUsage explain_takes_one
-    (codes "usage: explain takes one file, code, relation or version")
+    (codes "usage: explain takes one file, code, relation, version or condition")
     × IsUsage paths_or_list (codes "usage: audit takes paths, or --files0-from")
     × IsUsage relation_or_file (codes "usage: query takes a relation, or --relation-from")
     × IsUsage no_names (codes "usage: diff takes no --kind any")
@@ -353,6 +405,13 @@ texts_of_mistakes : IsUsage unknown_kind (codes "usage: unknown kind")
     × IsUsage other_by (codes "usage: latest takes --by name or name,arch")
     × IsUsage reads_twice
     (codes "usage: latest reads its files twice, so it can't read standard input")
+    × IsUsage count_alone (codes "usage: select takes --count without -f and --format")
+    × IsUsage other_format (codes "usage: select takes --format control, table or jsonl")
+    × IsUsage table_of_fields (codes "usage: select takes --format table only with -f")
+    × IsUsage fields_of_jsonl (codes "usage: select takes no -f with --format jsonl")
+    × IsUsage strict_of_table
+    (codes "usage: select takes --strict only with --format table")
+    × IsUsage no_field_name (codes "usage: -f takes names of fields")
     × IsUsage other_kind (codes "usage: installable takes --kind packages, sources or source")
     × IsUsage index_of_packages
     (codes "usage: installable takes --index only for source packages")
@@ -369,6 +428,12 @@ texts_of_mistakes : IsUsage unknown_kind (codes "usage: unknown kind")
     × IsUsage no_budget (codes "usage: --budget takes a number from 1 to 1000000000")
     × IsUsage first_or_whole (codes "usage: --all takes neither --complete nor --least")
 texts_of_mistakes = (
+  refl,
+  refl,
+  refl,
+  refl,
+  refl,
+  refl,
   refl,
   refl,
   refl,

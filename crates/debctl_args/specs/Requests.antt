@@ -22,11 +22,15 @@ use Rattle.debctl_args.specs.declared.jobs.LatestKind.{LatestKind}
 use Rattle.debctl_args.specs.declared.jobs.LatestOf.{LatestOf}
 use Rattle.debctl_args.specs.declared.jobs.LineEnd.{LineEnd}
 use Rattle.debctl_args.specs.declared.jobs.Members.{Members}
+use Rattle.debctl_args.specs.declared.jobs.OnRefusal.{OnRefusal}
+use Rattle.debctl_args.specs.declared.jobs.Picks.{Picks}
 use Rattle.debctl_args.specs.declared.jobs.QueryOver.{QueryOver}
 use Rattle.debctl_args.specs.declared.jobs.Reads.{Reads}
 use Rattle.debctl_args.specs.declared.jobs.Reads.TheVariants.{Nothing, OneFile, Paths}
 use Rattle.debctl_args.specs.declared.jobs.RelationArgument.{RelationArgument}
 use Rattle.debctl_args.specs.declared.jobs.RelationArgument.TheVariants as relation
+use Rattle.debctl_args.specs.declared.jobs.SelectForm.{SelectForm}
+use Rattle.debctl_args.specs.declared.jobs.SelectOf.{SelectOf}
 use Rattle.debctl_args.specs.declared.jobs.SourceKind.{SourceKind}
 use Rattle.debctl_args.specs.declared.jobs.Strength.{Strength}
 use Rattle.debctl_args.specs.declared.jobs.Task.{Task}
@@ -84,6 +88,18 @@ pub record AskedLatest : Type 0 where
   pub before : Option Text
   pub paths : List Text
 
+-- what `select` picks, from which files, and what it writes, with the bytes of its words
+pub record AskedSelect : Type 0 where
+  pub kind : Doc
+  pub conditions : List Text
+  pub picks : Picks
+  pub on_refusal : OnRefusal
+  pub fields : List Text
+  pub form : SelectForm
+  pub strict : Bool
+  pub count : Bool
+  pub paths : List Text
+
 -- a task, with the bytes of its words
 pub data Wanted : Type 0 where
   checks : Doc → Wanted
@@ -101,6 +117,7 @@ pub data Wanted : Type 0 where
   queries_over : AskedQuery → Wanted
   finds_unmet : AskedUnmet → Wanted
   finds_latest : AskedLatest → Wanted
+  selects : AskedSelect → Wanted
   checks_health : Text → Members → Strength → Wanted
   finds_uninstallable : Text → Members → Strength → AskedTerms → List Text → ℕ → Bool → Wanted
   finds_witness : Text → Members → Strength → AskedTerms → List Text → ℕ → Bool → Wanted
@@ -110,6 +127,7 @@ pub data Wanted : Type 0 where
   explains_rule : Code → Wanted
   explains_relation : Text → Wanted
   explains_version : Text → Wanted
+  explains_condition : Doc → Text → Wanted
   audits : Doc → Audited → Extent → LineEnd → Demands → Wanted
 
 -- what is wanted, and the paths of the files, two at most, that a job or an explanation reads; the
@@ -224,6 +242,19 @@ latest_of latest = record {
   paths = map string_bytes latest.paths.items;
 }
 
+abbrev pub select_of : SelectOf → AskedSelect
+select_of select = record {
+  kind = select.kind;
+  conditions = map string_bytes select.conditions.items;
+  picks = select.picks;
+  on_refusal = select.on_refusal;
+  fields = map string_bytes select.fields.items;
+  form = select.form;
+  strict = select.strict;
+  count = select.count;
+  paths = map string_bytes select.paths.items;
+}
+
 -- a request whose files are in what is wanted, or that has none
 abbrev pub wants : Wanted → Request
 wants wanted = record { wanted = wanted; first = None; second = None }
@@ -238,6 +269,7 @@ request_of (task.Run call) =
 request_of (task.Query query) = wants (queries_over (query_of query))
 request_of (task.Unmet unmet) = wants (finds_unmet (unmet_of unmet))
 request_of (task.Latest latest) = wants (finds_latest (latest_of latest))
+request_of (task.Select select) = wants (selects (select_of select))
 request_of (task.Explain (explain.File kind path)) =
     record { wanted = explains kind; first = option_map string_bytes path; second = None }
 request_of (task.Explain (explain.All kind path)) =
@@ -247,5 +279,7 @@ request_of (task.Explain (explain.Relation text)) =
     wants (explains_relation (string_bytes text))
 request_of (task.Explain (explain.Version text)) =
     wants (explains_version (string_bytes text))
+request_of (task.Explain (explain.Condition kind text)) =
+    wants (explains_condition kind (string_bytes text))
 request_of (task.Audit audit) =
     wants (audits audit.doc (audited_of audit.files) audit.extent audit.end audit.demands)

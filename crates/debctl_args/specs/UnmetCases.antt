@@ -4,7 +4,8 @@ use Rattle.clap.proofs.OnLiterals.{clap_on_literals}
 use Rattle.clap.specs.Faults.{fault_of}
 use Rattle.clap.specs.Walk.{Text}
 use Rattle.clap.specs.declared.error.kind.ErrorKind.TheVariants as kind
-use Rattle.debctl_args.specs.Asked.{all_for_of_sources, all_sources_of_packages, asked_of, asks, kind_asked, kind_of_path, no_recommends, no_relations, no_status, standard_input_twice, unknown_kind, Asked}
+use Rattle.debctl_args.specs.Asked.{all_for_of_sources, all_sources_of_packages, asked_of, asks, kind_of_path, no_recommends, no_relations, no_status, standard_input_twice, unknown_kind, Asked}
+use Rattle.debctl_args.specs.AskedWords.{kind_asked}
 use Rattle.debctl_args.specs.Commands.{debctl_app}
 use Rattle.debctl_args.specs.Requests.{finds_unmet, wants, AskedFiles, AskedUnmet}
 use Rattle.deb_base.specs.declared.version_text.VersionText.TheVariants.{Canonical, Spelled}

@@ -50,7 +50,8 @@ impl From<AllocError> for UsageFault {
 /// The profiles of `query`, `unmet` and `installable` are the texts between the commas of P,P, and
 /// the names of `--only`, `--witness` and `--without` those between the commas of NAME,NAME; there
 /// are none if the option is missing. A name may be any text. So may a version, an architecture, a
-/// profile or a relation here: the command checks it. The path `-` is returned as it is; the
+/// profile, a relation or a condition here: the command checks it. The names of `-f` are those
+/// between the commas of FIELD,FIELD, and none is empty. The path `-` is returned as it is; the
 /// program reads standard input for it. A `query` over at most one index is a job; with
 /// `--relation-from` all its words are indexes, and without one it reads standard input. The
 /// indexes of `unmet` are those of `--index`, in their order, and then INDEX. After `--code` N is
@@ -63,28 +64,34 @@ impl From<AllocError> for UsageFault {
 /// - `UsageFault::Usage`: an argument is wrong or missing. The text is `usage: unknown kind`,
 ///   `usage: unknown operator`, `usage: unknown command` or `usage: unknown code` for a K, an OP, a
 ///   COMMAND or an N that isn't known; `usage: standard input twice` for `same - -`, for `diff - -`
-///   of a kind other than `any`, and for an `audit`, a `query`, an `unmet` or an `installable` that
-///   would read it for two of its files; `usage: explain takes one file, code, relation or version`
-///   for an `explain` with two of these, where a kind, `--all` or a path names a file; `usage:
-///   audit takes paths, or --files0-from` for an audit with neither paths nor a list, or with both;
-///   `usage: query takes a relation, or --relation-from` for a query with neither; `usage: diff
-///   takes no --kind any`; `usage: unmet takes no --kind any`; `usage: unmet takes no --kind
-///   status`; `usage: unmet takes --all-sources only for source packages` for the kinds `packages`
-///   and `binary` with `--all-sources`; `usage: unmet takes --recommends only for binary packages`
-///   and `usage: unmet takes --all-for only for binary packages` for the kinds `sources` and
-///   `source` with these options; `usage: unmet takes another --kind only with a second path` for
-///   one of the kinds `binary`, `sources` and `source` without PATH; `usage: installable takes
-///   --kind packages, sources or source` for another kind that is known; `usage: installable takes
-///   --index only for source packages` and `usage: installable takes --profiles only for source
-///   packages` for these options with packages; `usage: installable takes --only or --witness` for
-///   both of these; `usage: installable takes --recommends only for binary packages` and `usage:
-///   installable takes --only and --witness only for binary packages` for these options with source
-///   packages; `usage: installable takes source packages only with --index and PATH` if one of both
-///   is missing; `usage: latest takes --kind packages or sources` for another kind that is known;
-///   `usage: latest takes --by name or name,arch` for another B; `usage: latest reads its files
-///   twice, so it can't read standard input` for a path `-` of `latest`; `usage: --least takes a
-///   number` and `usage: --budget takes a number from 1 to 1000000000` for another N; `usage: --all
-///   takes neither --complete nor --least` for either with `--all`; otherwise that of `clap`.
+///   of a kind other than `any`, and for an `audit`, a `query`, an `unmet`, an `installable` or a
+///   `select` that would read it for two of its files; `usage: explain takes one file, code,
+///   relation, version or condition` for an `explain` with two of these, where a kind, `--all` or a
+///   path names a file, but a kind may be that of a condition; `usage: audit takes paths, or
+///   --files0-from` for an audit with neither paths nor a list, or with both; `usage: query takes a
+///   relation, or --relation-from` for a query with neither; `usage: diff takes no --kind any`;
+///   `usage: unmet takes no --kind any`; `usage: unmet takes no --kind status`; `usage: unmet takes
+///   --all-sources only for source packages` for the kinds `packages` and `binary` with
+///   `--all-sources`; `usage: unmet takes --recommends only for binary packages` and `usage: unmet
+///   takes --all-for only for binary packages` for the kinds `sources` and `source` with these
+///   options; `usage: unmet takes another --kind only with a second path` for one of the kinds
+///   `binary`, `sources` and `source` without PATH; `usage: installable takes --kind packages,
+///   sources or source` for another kind that is known; `usage: installable takes --index only for
+///   source packages` and `usage: installable takes --profiles only for source packages` for these
+///   options with packages; `usage: installable takes --only or --witness` for both of these;
+///   `usage: installable takes --recommends only for binary packages` and `usage: installable takes
+///   --only and --witness only for binary packages` for these options with source packages; `usage:
+///   installable takes source packages only with --index and PATH` if one of both is missing;
+///   `usage: latest takes --kind packages or sources` for another kind that is known; `usage:
+///   latest takes --by name or name,arch` for another B; `usage: latest reads its files twice, so
+///   it can't read standard input` for a path `-` of `latest`; `usage: select takes --count without
+///   -f and --format` for `--count` with one of these; `usage: select takes --format control, table
+///   or jsonl` for another F; `usage: select takes --format table only with -f` for a table without
+///   fields; `usage: select takes no -f with --format jsonl` for fields of objects; `usage: select
+///   takes --strict only with --format table` for `--strict` without a table; `usage: -f takes
+///   names of fields` if one of these is empty; `usage: --least takes a number` and `usage:
+///   --budget takes a number from 1 to 1000000000` for another N; `usage: --all takes neither
+///   --complete nor --least` for either with `--all`; otherwise that of `clap`.
 /// - `UsageFault::Help`: the arguments ask for help or for the version.
 /// - `UsageFault::Memory`: a growth of memory was refused.
 pub fn job_of(alloc: Global, words: &[String]) -> Result<Task, UsageFault>

@@ -4,7 +4,7 @@ ghost use Rattle.std.specs.Fmt.{decimal};
 ghost use Rattle.std.specs.Prelude.{◌≡◌};
 ghost use Rattle.std.specs.Str.{bytes_eq};
 ghost use Rattle.deb_base.specs.Codes.{name_of, number_of};
-ghost use Rattle.debctl_args.specs.Asked.{code_named, names_code};
+ghost use Rattle.debctl_args.specs.AskedWords.{code_named, names_code};
 
 use deb_base::Code;
 use itoa::Buffer;

@@ -5,8 +5,9 @@ ghost use Rattle.clap.specs.Simple.{new_app};
 ghost use Rattle.clap.specs.Words.{rule_of};
 ghost use Rattle.debctl_args.specs.Commands.{app_of_row, commands, debctl_app, has_row, program_of, program_with, row_in, rule_in, CommandRow, IsShaped};
 
+use crate::command_help::help_after;
 use crate::options::{Argument, Form};
-use crate::rows::{Row, file_commands, help_after, package_commands};
+use crate::rows::{Row, file_commands, package_commands};
 use clap::{Arg, ArgAction, Command};
 use deb_base::{Doc, is_single};
 use std::alloc::{AllocError, Global};
@@ -17,12 +18,13 @@ Exit statuses:
   0  success, or the answer is yes
   1  the answer is no; for `diff`: the files differ; for `query`: a group is unmet;
      for `unmet`: a group is `unmet` or `unsure`; for `healthy`: the set isn't healthy;
-     for `installable`: a package may not be installable, or a source not built
+     for `installable`: a package may not be installable, or a source not built;
+     for `select`: no paragraph is picked, or one lacks a field
   2  a file, a version, a relation, an architecture or a profile is refused:
      standard error has `line N: CODE NAME`. Line 0 means a command-line
      argument. `same`, `diff`, `unmet` and `installable` of sources write
      `first: ` or `second: ` before the line of a file, and commands on several
-     indexes `index K: `. `explain`, `audit` and `check --all` report errors on
+     files `index K: `. `explain`, `audit` and `check --all` report errors on
      standard output. A file without what `--complete` or `--least` demands is
      refused with a line `incomplete: `
   3  wrong arguments, out of memory, or a failed read or write

@@ -2,7 +2,7 @@
 
 ghost use Rattle.std.specs.Prelude.{◌≡◌, option_map};
 ghost use Rattle.clap.specs.Words.{found_of, rows_of};
-ghost use Rattle.debctl_args.specs.Asked.{audit_asked, check_asked, checks_to, demands_asked, diff_asked, diff_of_files, document_asked, explain_asked, file_explained, is_demanding, relation_asked, rule_asked, same_asked, text_asked, version_asked};
+ghost use Rattle.debctl_args.specs.Asked.{audit_asked, check_asked, checks_to, condition_asked, demands_asked, diff_asked, diff_of_files, document_asked, explain_asked, file_explained, is_demanding, relation_asked, rule_asked, same_asked, text_asked, version_asked};
 ghost use Rattle.debctl_args.specs.Fitting.{Answers};
 ghost use Rattle.debctl_args.specs.Requests.{normalises, wanted_of};
 
@@ -10,7 +10,7 @@ use crate::arguments::{INPUT_TWICE, UsageFault, usage};
 use crate::code_argument::code_named;
 use crate::found_arguments::{
     all_given, diff_detail_in, end_in, extent_in, flag_in, given, is_standard_input_twice, kind_in,
-    least_in, names_file, owned_texts, path_in, version_text_in, word_in,
+    least_in, names_file, owned_texts, path_in, reads_file, version_text_in, word_in,
 };
 use crate::jobs::{Audit, Call, Demands, DiffKind, Explain, Extent, Files, Job, Task};
 use clap::ArgMatches;
@@ -18,7 +18,7 @@ use deb_base::Doc;
 use std::alloc::Global;
 
 /// The text for an `explain` of two things.
-const EXPLAIN_ONE: &str = "usage: explain takes one file, code, relation or version";
+const EXPLAIN_ONE: &str = "usage: explain takes one file, code, relation, version or condition";
 
 /// The text for an audit of neither paths nor a list, and for one of both.
 const PATHS_OR_LIST: &str = "usage: audit takes paths, or --files0-from";
@@ -92,6 +92,9 @@ fn text_task(alloc: Global, found: &ArgMatches<'_>) -> Result<Task, UsageFault>
     if let Some(text) = given(found, "version-text") {
         return version_task(alloc, found, text);
     }
+    if let Some(text) = given(found, "where") {
+        return condition_task(alloc, found, text);
+    }
     file_task(alloc, found)
 }
 
@@ -111,7 +114,10 @@ fn file_task(alloc: Global, found: &ArgMatches<'_>) -> Result<Task, UsageFault>
 fn relation_task(alloc: Global, found: &ArgMatches<'_>, text: &str) -> Result<Task, UsageFault>
     ensures { Answers (relation_asked (rows_of (found_of found.now)) text.now) result }
 {
-    if names_file(found) || given(found, "version-text").is_some() {
+    if names_file(found)
+        || given(found, "version-text").is_some()
+        || given(found, "where").is_some()
+    {
         return Err(usage(alloc, EXPLAIN_ONE));
     }
     Ok(Task::Explain(Explain::Relation(String::from_str(alloc, text)?)))
@@ -121,10 +127,22 @@ fn relation_task(alloc: Global, found: &ArgMatches<'_>, text: &str) -> Result<Ta
 fn version_task(alloc: Global, found: &ArgMatches<'_>, text: &str) -> Result<Task, UsageFault>
     ensures { Answers (version_asked (rows_of (found_of found.now)) text.now) result }
 {
-    if names_file(found) {
+    if names_file(found) || given(found, "where").is_some() {
         return Err(usage(alloc, EXPLAIN_ONE));
     }
     Ok(Task::Explain(Explain::Version(String::from_str(alloc, text)?)))
+}
+
+/// `explain --where`, with the condition.
+fn condition_task(alloc: Global, found: &ArgMatches<'_>, text: &str) -> Result<Task, UsageFault>
+    ensures { Answers (condition_asked (rows_of (found_of found.now)) text.now) result }
+{
+    if reads_file(found) {
+        return Err(usage(alloc, EXPLAIN_ONE));
+    }
+    let doc = kind_in(alloc, found)?;
+    let text = String::from_str(alloc, text)?;
+    Ok(Task::Explain(Explain::Condition { doc, text }))
 }
 
 /// `explain --code`, with the word for the code.
@@ -134,6 +152,7 @@ fn rule_task(alloc: Global, found: &ArgMatches<'_>, word: &str) -> Result<Task, 
     if names_file(found)
         || given(found, "relation").is_some()
         || given(found, "version-text").is_some()
+        || given(found, "where").is_some()
     {
         return Err(usage(alloc, EXPLAIN_ONE));
     }

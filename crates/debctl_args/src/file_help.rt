@@ -56,7 +56,9 @@ lines `KEY: VALUE`; keys that don't apply are left out:
 If the file can't be opened, the lines `file`, `fault: read` and `reason` say why.
 
 With `--relation` or `--version-text` the text is explained like the value of a
-field; `ok` is printed if it is correct.
+field; `ok` is printed if it is correct. With `--where` a condition of `select` is
+explained: `ok`, or lines `place`, `reason`, `value`, `rule`, and `code` and `name`
+where the value is refused.
 
 With `--all` the first error of each paragraph is explained, and an empty line follows
 each explanation. At the end `ok N, M refused` is printed, as `check --all` does.
@@ -200,6 +202,53 @@ Example:
    -Version: 1
    +Version: 2
   1";
+
+pub(crate) const SELECT_HELP: &str = "\
+Example: which packages depend on libc6, and which are large?
+  $ debctl select --where 'Depends names libc6' -f Package --format table examples/Packages
+  exim4-daemon-light
+  hello
+  libgcc-s1
+  postfix
+  vim
+  $ debctl select --where 'Installed-Size >> 9999' -f Package,Installed-Size examples/Packages
+  Package: libc6
+  Installed-Size: 12987
+
+It picks the paragraphs for which each condition holds, or with `--not` the others:
+  FIELD              the paragraph has this field
+  FIELD = VALUE      the field has this value, however both are spelled; also `!=`
+  FIELD >> VALUE     the version is later, or the number larger; also `<<`, `<=` and `>=`
+  FIELD ~ TEXT       the canonical value contains these bytes
+  FIELD names NAME   the value, the list or the relation has this name
+If the paragraph lacks the field, no condition on it holds, not even one with `!=`. The
+value of an unknown field is text, and with `--kind any` that of each field is: text has
+neither an order nor names.
+
+For a text that is no condition, standard error has `usage: --where K, column N: WHY`: it
+is that of the K-th `--where`, and wrong at its N-th byte. `debctl explain --where` says
+more.
+
+The formats are
+  control  the paragraphs byte for byte, or with `-f` the lines of these fields; an
+           empty line is between two paragraphs. One with none of them leaves nothing
+  table    a line for each paragraph: the canonical values of the fields of `-f`, with
+           a tab between two, and control characters escaped, as in `\\n`. The value of
+           a field that the paragraph lacks is empty
+  jsonl    a line for each paragraph: a JSON object with the number of its first line
+           and its fields. A version is `{\"canonical\":..,\"spelled\":..}`
+
+It writes each paragraph before it reads the next one, and ends at the first error. With
+`--accepted` it continues, and prints on standard error what `check --all` prints of
+each file: `line N: CODE NAME` for each refused paragraph, and `ok N, M refused`.
+
+Exit statuses (the highest that fits):
+  0  a paragraph is picked
+  1  no paragraph is picked, or with `--strict` one lacks a field
+  2  a file is refused: standard error has `line N: CODE NAME` for the first error,
+     after `index K: ` if it is in the K-th of several files; or with `--accepted`
+     the lines above
+  3  wrong arguments, out of memory, or a failed read or write";
 
 pub(crate) const COMPARE_HELP: &str = "\
 Prints nothing: the exit status is the answer.

@@ -3,7 +3,8 @@
 ghost use Rattle.std.specs.List.{list_any};
 ghost use Rattle.std.specs.Prelude.{◌≡◌, ◌++◌, ◌∷◌, map, codes, string_bytes, option_map, IfOk, option_copied};
 ghost use Rattle.clap.specs.Words.{all_of, first_of, found_of, rows_of};
-ghost use Rattle.debctl_args.specs.Asked.{budget_asked, by_asked, comma_pieces, detail_asked, diff_detail_asked, end_asked, extent_asked, flag_asked, has_input_beside, indexes_beside, indexes_in, is_standard_input, is_standard_input_twice, kind_asked, least_asked, members_in, names_file, packages_in, paths_in, pieces_asked, strength_in, terms_asked, text_list, texts_asked, tried_in, versions_asked, word_in};
+ghost use Rattle.debctl_args.specs.Asked.{has_input_beside, indexes_beside, indexes_in, is_standard_input, is_standard_input_twice, members_in, names_file, packages_in, paths_in, reads_file, strength_in, terms_asked, text_list, tried_in, word_in};
+ghost use Rattle.debctl_args.specs.AskedWords.{budget_asked, by_asked, comma_pieces, detail_asked, diff_detail_asked, end_asked, extent_asked, flag_asked, kind_asked, least_asked, pieces_asked, texts_asked, versions_asked};
 ghost use Rattle.debctl_args.specs.Fitting.{MeansBudget, MeansKind, MeansLeast};
 ghost use Rattle.debctl_args.specs.Requests.{terms_of};
 
@@ -21,7 +22,7 @@ use std::alloc::{AllocError, Global};
 const NO_BUDGET: &str = "usage: --budget takes a number from 1 to 1000000000";
 
 /// The kind of document that `--kind` names, or a list of packages without it.
-#[tactic(auto, unfolding(crate::specs::Asked::kind_asked))]
+#[tactic(auto, unfolding(crate::specs::AskedWords::kind_asked))]
 pub(crate) fn kind_in(alloc: Global, found: &ArgMatches<'_>) -> Result<Doc, UsageFault>
     ensures { MeansKind (kind_asked (first_of (codes "kind") (rows_of (found_of found.now))))
         result }
@@ -170,7 +171,14 @@ pub(crate) fn packages_in(found: &ArgMatches<'_>) -> Dependents
 pub(crate) fn names_file(found: &ArgMatches<'_>) -> bool
     ensures { result ≡ names_file (rows_of (found_of found.now)) }
 {
-    given(found, "kind").is_some() || flag_in(found, "all") || given(found, "path").is_some()
+    given(found, "kind").is_some() || reads_file(found)
+}
+
+/// Whether `--all` or a path is given.
+pub(crate) fn reads_file(found: &ArgMatches<'_>) -> bool
+    ensures { result ≡ reads_file (rows_of (found_of found.now)) }
+{
+    flag_in(found, "all") || given(found, "path").is_some()
 }
 
 /// What a set has to contain if `--essential` is given, and what it may not by `--without`.

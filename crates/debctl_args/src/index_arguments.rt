@@ -3,7 +3,8 @@
 ghost use Rattle.std.specs.List.{list_any};
 ghost use Rattle.std.specs.Prelude.{◌≡◌, IfOk, codes, map, option_copied};
 ghost use Rattle.clap.specs.Words.{all_of, found_of, rows_of};
-ghost use Rattle.debctl_args.specs.Asked.{is_standard_input, latest_asked, latest_by, latest_of_files, query_asked, query_from_index, query_from_indexes, query_of_file, query_of_index, query_of_indexes, query_of_word, query_over, texts_asked, unmet_asked, unmet_files_in, unmet_in, unmet_of_binary, unmet_of_files, unmet_of_packages, unmet_of_path, unmet_of_sources};
+ghost use Rattle.debctl_args.specs.Asked.{is_standard_input, latest_asked, latest_by, latest_of_files, query_asked, query_from_index, query_from_indexes, query_of_file, query_of_index, query_of_indexes, query_of_word, query_over, unmet_asked, unmet_files_in, unmet_in, unmet_of_binary, unmet_of_files, unmet_of_packages, unmet_of_path, unmet_of_sources};
+ghost use Rattle.debctl_args.specs.AskedWords.{texts_asked};
 ghost use Rattle.debctl_args.specs.Fitting.{Answers};
 ghost use Rattle.debctl_args.specs.Requests.{query_of, relation_of, unmet_files_of, unmet_of};
 

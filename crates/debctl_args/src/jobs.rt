@@ -16,6 +16,8 @@ pub enum Task {
     Unmet(Unmet),
     /// `latest`: write the paragraph with the latest version of each package of some files.
     Latest(LatestOf),
+    /// `select`: write the paragraphs of some files that match conditions, or fields of them.
+    Select(SelectOf),
     /// `explain`: explain the refusal of a file or a text, or an error code.
     Explain(Explain),
     /// `audit`: check each of many files.
@@ -335,6 +337,60 @@ pub enum LatestBy {
     NameAndArchitecture,
 }
 
+/// Which paragraphs `select` picks, from which files, and what it writes of them.
+#[derive(Debug, PartialEq, Eq, Drop)]
+pub struct SelectOf {
+    /// The kind of all files.
+    pub kind: Doc,
+    /// The conditions of `--where`, in their order. A text may be anything.
+    pub conditions: Vec<String>,
+    pub picks: Picks,
+    pub on_refusal: OnRefusal,
+    /// `-f FIELD,FIELD`: the names of the fields that it writes, in this order. No name is empty.
+    /// If there are none, it writes whole paragraphs. There are none for `Jsonl`.
+    pub fields: Vec<String>,
+    /// How it writes them. There are fields for a table.
+    pub form: SelectForm,
+    /// `--strict`: the answer is no if a paragraph that is picked lacks one of the fields. Only for
+    /// a table.
+    pub strict: bool,
+    /// `--count`: it prints only how many paragraphs it picks. The form is then `Control`, and
+    /// there are no fields.
+    pub count: bool,
+    /// The paths of the files, in the order in which they are read. If there are none, it reads
+    /// standard input. At most one is `-`, which is standard input.
+    pub paths: Vec<String>,
+}
+
+/// Which paragraphs `select` picks.
+#[derive(Clone, Copy, Debug, PartialEq, Eq)]
+pub enum Picks {
+    /// Those for which each condition holds.
+    Matching,
+    /// `--not`: the others.
+    Others,
+}
+
+/// What `select` does after a paragraph that is refused.
+#[derive(Clone, Copy, Debug, PartialEq, Eq)]
+pub enum OnRefusal {
+    /// It stops.
+    Stop,
+    /// `--accepted`: it continues with the next paragraph, as `check --all` does.
+    Continue,
+}
+
+/// How `select` writes what it picks.
+#[derive(Clone, Copy, Debug, PartialEq, Eq)]
+pub enum SelectForm {
+    /// `--format control`, or no format: as control data.
+    Control,
+    /// `--format table`: one line for each paragraph, with a tab between two fields.
+    Table,
+    /// `--format jsonl`: one line for each paragraph, which is a JSON object.
+    Jsonl,
+}
+
 /// The fields of a binary package whose groups `unmet`, `healthy` and `installable` try.
 #[derive(Clone, Copy, Debug, PartialEq, Eq)]
 pub enum Strength {
@@ -390,6 +446,9 @@ pub enum Explain {
     Relation(String),
     /// `--version-text TEXT`: the refusal of a version. The text may be anything.
     Version(String),
+    /// `--where TEXT`: the refusal of a condition of `select` on documents of this kind. The text
+    /// may be anything.
+    Condition { doc: Doc, text: String },
 }
 
 /// The files that `audit` reads, each of this kind, which of their refusals it prints, what ends

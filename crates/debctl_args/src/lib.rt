@@ -2,10 +2,11 @@
 //!
 //! - [`job_of`] returns the [`Task`] that the arguments ask for, or why there is none. A task is a
 //!   [`Call`], which is a [`Job`] with the paths of the files that it reads; a [`QueryOver`], an
-//!   [`Unmet`] or a [`LatestOf`] over any number of files; what to [`Explain`]; or an [`Audit`] of
-//!   any number of files. It opens no path.
+//!   [`Unmet`], a [`LatestOf`] or a [`SelectOf`] over any number of files; what to [`Explain`]; or
+//!   an [`Audit`] of any number of files. It opens no path.
 //! - `clap` checks the commands and their options. Kinds of documents, operators, profiles, numbers
-//!   and error codes are checked here; versions, relations and architectures by the job.
+//!   and error codes are checked here; versions, relations, architectures and conditions by the
+//!   job.
 //!
 //! ```text
 //! let task = job_of(rt.alloc(), &words)?; // debctl check --kind source hello.dsc
@@ -15,6 +16,7 @@
 
 mod arguments;
 mod code_argument;
+mod command_help;
 mod commands;
 mod file_arguments;
 mod file_help;
@@ -26,12 +28,14 @@ mod operator_argument;
 mod options;
 mod package_help;
 mod rows;
+mod select_arguments;
 mod set_arguments;
 mod version_arguments;
 
 pub use arguments::{UsageFault, job_of};
 pub use jobs::{
     Audit, Call, Cmp, Demands, Dependents, Detail, DiffDetail, DiffKind, Explain, Extent, Files,
-    Job, LatestBy, LatestKind, LatestOf, LineEnd, Members, QueryOver, Reads, RelationArgument,
-    SourceKind, SourcesTried, Strength, Task, Terms, Unmet, UnmetFiles,
+    Job, LatestBy, LatestKind, LatestOf, LineEnd, Members, OnRefusal, Picks, QueryOver, Reads,
+    RelationArgument, SelectForm, SelectOf, SourceKind, SourcesTried, Strength, Task, Terms, Unmet,
+    UnmetFiles,
 };

@@ -1,7 +1,7 @@
 //! The arguments that are numbers.
 
 ghost use Rattle.std.specs.Prelude.{◌≡◌};
-ghost use Rattle.debctl_args.specs.Asked.{budget_named, number_named};
+ghost use Rattle.debctl_args.specs.AskedWords.{budget_named, number_named};
 
 use itoa::Buffer;
 

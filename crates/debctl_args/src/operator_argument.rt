@@ -1,7 +1,7 @@
 //! The arguments that name operators.
 
 ghost use Rattle.std.specs.Prelude.{◌≡◌};
-ghost use Rattle.debctl_args.specs.Asked.{operator_named};
+ghost use Rattle.debctl_args.specs.AskedWords.{operator_named};
 
 use crate::jobs::Cmp;
 

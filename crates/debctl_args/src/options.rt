@@ -132,6 +132,15 @@ pub(crate) const VERSION_TEXT: Argument = Argument {
     help: Some("Explain a version instead of a file"),
 };
 
+/// `--where TEXT` of `explain`
+pub(crate) const CONDITION_TEXT: Argument = Argument {
+    id: "where",
+    short: None,
+    form: Form::Value,
+    shown: "TEXT",
+    help: Some("Explain a condition of `select` instead of a file"),
+};
+
 /// `--files0-from PATH`
 pub(crate) const LIST: Argument = Argument {
     id: "files0-from",
@@ -294,6 +303,69 @@ pub(crate) const BEFORE: Argument = Argument {
     help: Some("Consider only versions earlier than this one"),
 };
 
+/// `--where COND`, any number of times
+pub(crate) const WHERE: Argument = Argument {
+    id: "where",
+    short: None,
+    form: Form::Values,
+    shown: "COND",
+    help: Some("A condition that has to hold, such as `Depends names libc6`; may be repeated"),
+};
+
+/// `--not`
+pub(crate) const NOT: Argument = Argument {
+    id: "not",
+    short: None,
+    form: Form::Flag,
+    shown: "",
+    help: Some("Pick the paragraphs for which not all conditions hold"),
+};
+
+/// `--accepted`
+pub(crate) const ACCEPTED: Argument = Argument {
+    id: "accepted",
+    short: None,
+    form: Form::Flag,
+    shown: "",
+    help: Some("Continue after a paragraph that is refused"),
+};
+
+/// `--fields FIELD,FIELD` or `-f FIELD,FIELD`
+pub(crate) const FIELDS: Argument = Argument {
+    id: "fields",
+    short: Some('f'),
+    form: Form::Value,
+    shown: "FIELD,FIELD",
+    help: Some("Write only these fields, in this order"),
+};
+
+/// `--format F`
+pub(crate) const FORMAT: Argument = Argument {
+    id: "format",
+    short: None,
+    form: Form::Value,
+    shown: "F",
+    help: Some("The format: control (the default), table or jsonl"),
+};
+
+/// `--strict`
+pub(crate) const STRICT: Argument = Argument {
+    id: "strict",
+    short: None,
+    form: Form::Flag,
+    shown: "",
+    help: Some("Exit with status 1 if a line of the table lacks a field"),
+};
+
+/// `--count`
+pub(crate) const COUNT: Argument = Argument {
+    id: "count",
+    short: None,
+    form: Form::Flag,
+    shown: "",
+    help: Some("Print only how many paragraphs are picked"),
+};
+
 /// `--installed`
 pub(crate) const INSTALLED: Argument = Argument {
     id: "installed",
@@ -373,6 +445,15 @@ pub(crate) const PATHS: Argument = Argument {
     form: Form::Words,
     shown: "PATH",
     help: Some("A file; `-` is standard input and may be given once"),
+};
+
+/// `[PATH ..]` of `select`
+pub(crate) const SELECTED: Argument = Argument {
+    id: "path",
+    short: None,
+    form: Form::Words,
+    shown: "PATH",
+    help: Some("A file; standard input if it is `-` or all are missing"),
 };
 
 /// `PATH ..` of `latest`

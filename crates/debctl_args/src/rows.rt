@@ -1,4 +1,4 @@
-//! The commands: a row for each, with its help, and the task that it asks for.
+//! The commands: a row for each, and the task that it asks for.
 
 ghost use Rattle.std.specs.Prelude.{◌≡◌, map};
 ghost use Rattle.clap.specs.Words.{found_of, rows_of};
@@ -10,28 +10,25 @@ use crate::arguments::{UsageFault, help_on};
 use crate::file_arguments::{
     audit_task, check_task, diff_task, explain_task, normalise_task, same_task,
 };
-use crate::file_help::{
-    AUDIT_HELP, CANON_VERSION_HELP, CHECK_HELP, COMPARE_HELP, DIFF_HELP, EXPLAIN_HELP,
-    NORMALISE_HELP, SAME_HELP, SORT_HELP, VERSION_KEY_HELP,
-};
 use crate::found_arguments::given;
 use crate::index_arguments::{latest_task, query_task, unmet_task};
 use crate::jobs::Task;
 use crate::options::{
-    ALL, ALL_FOR, ALL_SOURCES, ARCH, Argument, BEFORE, BUDGET, BY, CODE, COMMAND, COMPLETE,
-    DEPENDENTS, DIFF_KIND, ESSENTIAL, FIRST, INDEX, INDEX_FILE, INDEX_FILES, INSTALLABLE_KIND,
-    INSTALLABLE_WHY, INSTALLED, KIND, LATEST_KIND, LEAST, LEFT, LIST, NEW, NULL, OLD, ONLY,
-    OPERATOR, PATH, PATHS, PROFILES, QUERIED, RECOMMENDS, RELATION, RELATION_FILE, RELATION_TEXT,
-    REVERSE, RIGHT, SECOND, SPELLED, UNLESS_IN, UNMET_KIND, UNMET_WITHOUT, VALUES, VERSION,
-    VERSION_TEXT, VERSIONS, WHOLE_FILES, WHY, WITHOUT, WITNESS,
+    ACCEPTED, ALL, ALL_FOR, ALL_SOURCES, ARCH, Argument, BEFORE, BUDGET, BY, CODE, COMMAND,
+    COMPLETE, CONDITION_TEXT, COUNT, DEPENDENTS, DIFF_KIND, ESSENTIAL, FIELDS, FIRST, FORMAT,
+    INDEX, INDEX_FILE, INDEX_FILES, INSTALLABLE_KIND, INSTALLABLE_WHY, INSTALLED, KIND,
+    LATEST_KIND, LEAST, LEFT, LIST, NEW, NOT, NULL, OLD, ONLY, OPERATOR, PATH, PATHS, PROFILES,
+    QUERIED, RECOMMENDS, RELATION, RELATION_FILE, RELATION_TEXT, REVERSE, RIGHT, SECOND, SELECTED,
+    SPELLED, STRICT, UNLESS_IN, UNMET_KIND, UNMET_WITHOUT, VALUES, VERSION, VERSION_TEXT, VERSIONS,
+    WHERE, WHOLE_FILES, WHY, WITHOUT, WITNESS,
 };
-use crate::package_help::{HEALTHY_HELP, INSTALLABLE_HELP, LATEST_HELP, QUERY_HELP, UNMET_HELP};
+use crate::select_arguments::select_task;
 use crate::set_arguments::{healthy_task, installable_task};
 use crate::version_arguments::{canon_version_task, compare_task, sort_task, version_key_task};
 use clap::ArgMatches;
 use std::alloc::Global;
 
-/// A command, by which it is parsed and its help is printed; `help_after` has the rest of its help.
+/// A command, by which it is parsed and its help printed; `command_help` has the rest of its help.
 pub(crate) struct Row {
     pub(crate) name: &'static str,
     /// What it does, in one line.
@@ -41,7 +38,7 @@ pub(crate) struct Row {
 }
 
 /// The commands on files and versions, in the order of the program's help.
-static FILE_COMMANDS: [Row; 10] = [
+static FILE_COMMANDS: [Row; 11] = [
     Row {
         name: "check",
         about: "Checks whether a file is well formed",
@@ -50,7 +47,15 @@ static FILE_COMMANDS: [Row; 10] = [
     Row {
         name: "explain",
         about: "Explains why a file is refused",
-        takes: &[KIND, ALL, CODE, RELATION_TEXT, VERSION_TEXT, PATH],
+        takes: &[
+            KIND,
+            ALL,
+            CODE,
+            RELATION_TEXT,
+            VERSION_TEXT,
+            CONDITION_TEXT,
+            PATH,
+        ],
     },
     Row {
         name: "audit",
@@ -71,6 +76,13 @@ static FILE_COMMANDS: [Row; 10] = [
         name: "diff",
         about: "Lists the paragraphs that changed between two files",
         takes: &[DIFF_KIND, VALUES, SPELLED, OLD, NEW],
+    },
+    Row {
+        name: "select",
+        about: "Writes the paragraphs that match conditions, or their fields",
+        takes: &[
+            KIND, WHERE, NOT, ACCEPTED, FIELDS, FORMAT, STRICT, COUNT, SELECTED,
+        ],
     },
     Row {
         name: "compare",
@@ -179,28 +191,6 @@ pub(crate) fn package_commands() -> &'static [Row]
     &PACKAGE_COMMANDS
 }
 
-/// Returns what the help of a command prints after its options.
-pub(crate) fn help_after(name: &str) -> Option<&'static str> {
-    match name {
-        "check" => Some(CHECK_HELP),
-        "explain" => Some(EXPLAIN_HELP),
-        "audit" => Some(AUDIT_HELP),
-        "normalise" => Some(NORMALISE_HELP),
-        "same" => Some(SAME_HELP),
-        "diff" => Some(DIFF_HELP),
-        "compare" => Some(COMPARE_HELP),
-        "canon-version" => Some(CANON_VERSION_HELP),
-        "version-key" => Some(VERSION_KEY_HELP),
-        "sort" => Some(SORT_HELP),
-        "query" => Some(QUERY_HELP),
-        "unmet" => Some(UNMET_HELP),
-        "healthy" => Some(HEALTHY_HELP),
-        "installable" => Some(INSTALLABLE_HELP),
-        "latest" => Some(LATEST_HELP),
-        _ => None,
-    }
-}
-
 /// Returns the task that a command asks for with its words.
 pub(crate) fn task_by(alloc: Global, name: &str, found: &ArgMatches<'_>) -> Result<Task, UsageFault>
     ensures { Answers (asked_by name.now (rows_of (found_of found.now))) result }
@@ -212,6 +202,7 @@ pub(crate) fn task_by(alloc: Global, name: &str, found: &ArgMatches<'_>) -> Resu
         "normalise" => normalise_task(alloc, found),
         "same" => same_task(alloc, found),
         "diff" => diff_task(alloc, found),
+        "select" => select_task(alloc, found),
         "compare" => compare_task(alloc, found),
         "canon-version" => canon_version_task(alloc, found),
         "version-key" => version_key_task(alloc, found),

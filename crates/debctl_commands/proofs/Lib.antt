@@ -16,6 +16,12 @@ pub mod QueryReports
 pub mod RelationFiles
 pub mod Turning
 pub mod SameReports
+pub mod SelectAccepted
+pub mod SelectAcceptedEndings
+pub mod SelectConditionTexts
+pub mod SelectEndings
+pub mod SelectFiles
+pub mod SelectWritten
 pub mod FaultReports
 pub mod HealthReports
 pub mod InstallReports

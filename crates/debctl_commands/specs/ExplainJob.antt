@@ -1,6 +1,6 @@
 -- What the jobs of `explain` answer. The form of what is reported is this project's own.
 use Rattle.std.specs.Prelude.{◌≡◌, ◌⊎◌, ℕ, Bool, true, false, List, [], ◌∷◌, ◌++◌, Option, Some}
-use Rattle.std.specs.Prelude.{None, Result, ⊤, IfOk, IfErr, codes, refl}
+use Rattle.std.specs.Prelude.{None, Result, ⊤, IfOk, IfErr, codes, is_none, refl}
 use Rattle.std.specs.Io.KnownBytes.{Appends}
 use Rattle.std.specs.Fmt.{digits}
 use Rattle.std.specs.Str.{is_utf8, chars}
@@ -26,6 +26,8 @@ use Rattle.deb_explain.specs.declared.cause.Word.{Word}
 use Rattle.deb_explain.specs.declared.cause.Word.TheVariants as words
 use Rattle.deb_base.specs.declared.doc.Doc.{Doc}
 use Rattle.deb_control.specs.Calls.{IfRefused, IfWriteFailed}
+use Rattle.deb_select.specs.Explaining.{WritesLines, condition_lines}
+use Rattle.deb_select.specs.Grammar.{condition_refusal}
 use Rattle.debctl_commands.specs.DocumentJobs.{IfNotWritten, WritesOk, WritesFrontOfOk}
 use Rattle.debctl_commands.specs.Unopened.{unopened_words}
 use Rattle.debctl_commands.specs.declared.unopened.Unopened.{Unopened}
@@ -102,6 +104,16 @@ pub record ExplainsWord {W : Type 0} (kind : Word) (word : List ℕ) (held : W �
       × Appends (held old) (held new) (word_answer kind word (word_cause kind word)))
   pub fault : IfErr answer (IsMemoryOrWrite (new ≡ old)
       (AppendsFront (held old) (held new) (word_answer kind word (word_cause kind word))))
+  pub writes : failures new ≡ write_failures_after (failures old) answer
+
+-- The answer to the text of a condition on documents of a kind, and what it wrote: whether it is
+-- one, and the lines of `deb_select`; a prefix of them before a failed write, and nothing without
+-- memory.
+pub record ExplainsCondition {W : Type 0} (doc : Doc) (text : List ℕ)
+    (held : W → Option (List ℕ)) (failures : W → ℕ) (old new : W) (answer : Result Bool Fault)
+    : Type 0 where
+  pub good : IfOk answer (λ good. good ≡ is_none (condition_refusal doc text))
+  pub written : WritesLines (condition_lines doc text) answer (held old) (held new)
   pub writes : failures new ≡ write_failures_after (failures old) answer
 
 -- what is written of a file that can't be opened

@@ -22,6 +22,9 @@ pub mod QueryJob
 pub mod QueryOver
 pub mod Running
 pub mod SameJob
+pub mod SelectAcceptedJob
+pub mod SelectConditions
+pub mod SelectJob
 pub mod SideAnswers
 pub mod Taking
 pub mod Turns

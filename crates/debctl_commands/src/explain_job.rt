@@ -5,7 +5,8 @@ ghost use Rattle.deb_base.specs.Devices.{write_failures_after, Puts};
 ghost use Rattle.deb_base.specs.declared.fault.Fault.{Fault};
 ghost use Rattle.debctl_commands.specs.DocumentJobs.{WritesOk};
 ghost use Rattle.debctl_commands.specs.ExplainJob.{explain_status, unopened_text, Explains};
-ghost use Rattle.debctl_commands.specs.ExplainJob.{ExplainsWord, WritesExplanation, WritesRule};
+ghost use Rattle.debctl_commands.specs.ExplainJob.{ExplainsCondition, ExplainsWord};
+ghost use Rattle.debctl_commands.specs.ExplainJob.{WritesExplanation, WritesRule};
 ghost use Rattle.debctl_commands.specs.Reporting.{done_status, Reports, ReportsUnopened};
 ghost use Rattle.debctl_commands.specs.Taking.{TakesFile};
 
@@ -17,6 +18,7 @@ use deb_explain::{
     Explained, Word, explain, explain_word, write_file_line, write_refused_word, write_rule_of,
 };
 use deb_field::Doc;
+use deb_select::explain_condition;
 use std::alloc::Global;
 
 /// Writes to `out` that a file is accepted as a document of a kind, or why it is refused, under its
@@ -152,6 +154,45 @@ fn write_word<W: Sink>(alloc: Global, word: Word, text: &[u8], out: &mut W) -> R
             Ok(false)
         }
     }
+}
+
+/// Writes to `out` that a text is a condition of `select` on documents of a kind, or why it isn't,
+/// and returns the status.
+///
+/// - 0: it is one. `ok` with a newline was written.
+/// - 2: it isn't. What is wrong and where was written, in lines `key: value`.
+/// - 3: out of memory, or a write failed. `err` has the fault's line; if a write to `err` failed, a
+///   prefix of it.
+///
+/// Except for status 3, nothing was written to `err`.
+pub fn run_condition<W: Sink, E: Sink>(
+    alloc: Global,
+    doc: Doc,
+    text: &str,
+    out: &mut W,
+    err: &mut E,
+) -> u8
+    ensures reports_answer { (answer : Result Bool Fault)
+        × ExplainsCondition doc text.now W.held W.failures out.old out.new answer
+        × Reports explain_status E.held E.failures err.old err.new answer result }
+{
+    match write_condition(alloc, doc, text.as_bytes(), out) {
+        Ok(true) => 0,
+        Ok(false) => 2,
+        Err(fault) => report_fault(&fault, err),
+    }
+}
+
+/// Writes that a text is a condition, or why it isn't, and returns which of these.
+fn write_condition<W: Sink>(
+    alloc: Global,
+    doc: Doc,
+    text: &[u8],
+    out: &mut W,
+) -> Result<bool, Fault>
+    ensures { ExplainsCondition doc text.now W.held W.failures out.old out.new result }
+{
+    explain_condition(alloc, doc, text, out)
 }
 
 /// Writes to `out` what an error code means, and returns the status.

@@ -4,7 +4,7 @@
 use crate::hints::{About, kind_of_index, put_argument, put_explain, put_unopened, put_version};
 use crate::reader::SystemFiles;
 use deb_base::{Doc, Fault, Sink, put_all};
-use debctl_args::{Dependents, LatestKind, LatestOf, QueryOver, RelationArgument, Unmet};
+use debctl_args::{Dependents, LatestKind, LatestOf, QueryOver, RelationArgument, SelectOf, Unmet};
 
 /// Writes the hint for a `query` over several indexes, if there is one.
 pub(crate) fn put_query_hint<E: Sink>(
@@ -100,6 +100,27 @@ fn kind_of_latest(kind: LatestKind) -> Doc {
     match kind {
         LatestKind::Packages => Doc::Packages,
         LatestKind::Sources => Doc::Sources,
+    }
+}
+
+/// Writes the hint for a `select`, if there is one.
+pub(crate) fn put_select_hint<E: Sink>(
+    select: &SelectOf,
+    files: &SystemFiles<'_>,
+    about: About,
+    err: &mut E,
+) -> Result<(), Fault> {
+    if let Some(why) = files.unopened() {
+        let path = match path_tried(None, &select.paths, None, files.tried()) {
+            Some(path) => path.as_str(),
+            None => "-",
+        };
+        return put_unopened(path, why, err);
+    }
+    match (path_among(&select.paths, about), about) {
+        (Some(path), _) => put_explain(path.as_bytes(), select.kind, err),
+        (None, About::File) => put_explain(b"-", select.kind, err),
+        _ => Ok(()),
     }
 }
 

@@ -5,10 +5,11 @@
 //!   the status. It opens no path and uses no stream of the system.
 //! - [`run_explain`] writes why a file is refused, [`run_explain_all`] what each of its refusals is
 //!   about, [`run_unopened`] why a file can't be opened, [`run_word`] why a text isn't a relation
-//!   or a version, [`run_rule`] what an error code means, [`run_audit`] whether each of many files
-//!   is accepted, and [`run_audit_all`] every refusal of each.
-//! - [`run_query_over`], [`run_unmet`] and [`run_latest`] do jobs over any number of files, which
-//!   they open by their paths.
+//!   or a version, [`run_condition`] why it isn't a condition of `select`, [`run_rule`] what an
+//!   error code means, [`run_audit`] whether each of many files is accepted, and [`run_audit_all`]
+//!   every refusal of each.
+//! - [`run_query_over`], [`run_unmet`], [`run_latest`], [`run_select`] and [`run_select_accepted`]
+//!   do jobs over any number of files, which they open by their paths.
 //! - [`run_program`] runs the task that the program's arguments ask for: it opens the paths, passes
 //!   the files and the standard streams to these functions, and flushes the output.
 #![tactic(auto)]
@@ -38,6 +39,9 @@ mod query_over;
 mod reader;
 mod reporting;
 mod same_job;
+mod select_accepted_job;
+mod select_conditions;
+mod select_job;
 mod sort_job;
 mod streams;
 mod unmet_job;
@@ -53,11 +57,13 @@ pub use all_jobs::run_explain_all;
 pub use audit_all_job::run_audit_all;
 pub use audit_job::{AuditOptions, run_audit};
 pub use command::run;
-pub use explain_job::{run_explain, run_rule, run_unopened, run_word};
+pub use explain_job::{run_condition, run_explain, run_rule, run_unopened, run_word};
 pub use latest_job::run_latest;
 pub use opening::run_call;
 pub use opens::Opens;
 pub use query_over::run_query_over;
+pub use select_accepted_job::run_select_accepted;
+pub use select_job::run_select;
 pub use streams::run_program;
 pub use unmet_job::run_unmet;
 pub use unopened::Unopened;

@@ -3,15 +3,18 @@
 use crate::all_jobs::run_explain_all;
 use crate::audit_all_job::run_audit_all;
 use crate::audit_job::{AuditOptions, record_end, run_audit, run_without_list};
-use crate::explain_job::{run_explain, run_rule, run_unopened, run_word};
-use crate::file_hints::{put_latest_hint, put_query_hint, put_unmet_hint};
+use crate::explain_job::{run_condition, run_explain, run_rule, run_unopened, run_word};
+use crate::file_hints::{put_latest_hint, put_query_hint, put_select_hint, put_unmet_hint};
 use crate::hints::{put_hint, subject_of, wants_hints};
 use crate::latest_job::run_latest;
 use crate::listed::listed_paths;
 use crate::opening::run_call;
+use crate::opens::Opens;
 use crate::query_over::run_query_over;
 use crate::reader::{SystemFiles, opened};
 use crate::reporting::{report_fault, report_usage};
+use crate::select_accepted_job::run_select_accepted;
+use crate::select_job::run_select;
 use crate::unmet_job::run_unmet;
 use crate::unopened::Unopened;
 use crate::usage_hints::{put_usage_hint, usage_hint};
@@ -20,9 +23,10 @@ use deb_base::{FILE_LIMIT, Fault, Input, Output, Sink, read_text};
 use deb_explain::Word;
 use deb_field::Doc;
 use debctl_args::{
-    Audit, Call, Explain, Extent, Files, LatestOf, LineEnd, QueryOver, Task, Unmet, UsageFault,
-    job_of,
+    Audit, Call, Explain, Extent, Files, LatestOf, LineEnd, OnRefusal, QueryOver, SelectOf, Task,
+    Unmet, UsageFault, job_of,
 };
+use std::alloc::Global;
 use std::env;
 use std::fs::File;
 use std::io::{self, ErrorKind};
@@ -91,6 +95,7 @@ fn answer(rt: &HostRuntime, task: &Task) -> u8 {
         Task::Query(query) => query_on_streams(rt, query),
         Task::Unmet(asked) => unmet_on_streams(rt, asked),
         Task::Latest(latest) => latest_on_streams(rt, latest),
+        Task::Select(select) => select_on_streams(rt, select),
         Task::Explain(wanted) => explain_on_streams(rt, wanted),
         Task::Audit(audit) => audit_on_streams(rt, audit),
     };
@@ -173,6 +178,38 @@ fn latest_on_streams(rt: &HostRuntime, latest: &LatestOf) -> Result<u8, Fault> {
     write_out(out, err, status)
 }
 
+/// Does the job of `select` over the files of the system, and writes out what it has written.
+fn select_on_streams(rt: &HostRuntime, select: &SelectOf) -> Result<u8, Fault> {
+    let Streams { mut out, mut err } = Streams::new(rt)?;
+    let mut files = SystemFiles::new(rt);
+    let status = select_by(
+        rt.alloc(),
+        select,
+        &mut files,
+        &mut Output::new(&mut out),
+        &mut Output::new(&mut err),
+    );
+    if status > 1 && wants_hints(rt) {
+        let about = subject_of(err.buffer());
+        let _ = put_select_hint(select, &files, about, &mut Output::new(&mut err));
+    }
+    write_out(out, err, status)
+}
+
+/// Does that job, which stops at a paragraph that is refused or goes on after it.
+fn select_by<F: Opens, W: Sink, E: Sink>(
+    alloc: Global,
+    select: &SelectOf,
+    files: &mut F,
+    out: &mut W,
+    err: &mut E,
+) -> u8 {
+    match select.on_refusal {
+        OnRefusal::Stop => run_select(alloc, select, files, out, err),
+        OnRefusal::Continue => run_select_accepted(alloc, select, files, out, err),
+    }
+}
+
 /// Reports why a file or a word is refused, or what a code means.
 fn explain_on_streams(rt: &HostRuntime, wanted: &Explain) -> Result<u8, Fault> {
     let Streams { mut out, mut err } = Streams::new(rt)?;
@@ -204,6 +241,9 @@ fn explain_by<W: Sink, E: Sink>(
             Ok(run_word(rt.alloc(), Word::Relation, text.as_str(), out, err))
         }
         Explain::Version(text) => Ok(run_word(rt.alloc(), Word::Version, text.as_str(), out, err)),
+        Explain::Condition { doc, text } => {
+            Ok(run_condition(rt.alloc(), *doc, text.as_str(), out, err))
+        }
     }
 }
 

@@ -1,8 +1,8 @@
 -- The files that are read one after another.
-use Rattle.std.proofs.Common.{◌≡◌, ◌<◌, ◌≤◌, ◌+◌, ◌∙◌, ℕ, List, [], ◌∷◌, ◌++◌, drop, get_or, length, map, take, ap, arith, inl, inr, refl, suc, sym, zero}
+use Rattle.std.proofs.Common.{◌≡◌, ◌<◌, ◌≤◌, ◌+◌, ◌∙◌, ℕ, List, [], ◌∷◌, ◌++◌, drop, get_or, length, take, ap, arith, inl, inr, sym}
 use Rattle.std.specs.Borrow.{Bor}
 use Rattle.std.specs.Prelude.{Option}
-use Rattle.std.proofs.lemmas.List.{drop_more, length-map, length-take-le, map-append, map_more, take-append-drop}
+use Rattle.std.proofs.lemmas.List.{drop_more, length-map, length-take-le, map-append, take-append-drop}
 use Rattle.deb_relation.specs.Views.{names_of}
 use Rattle.deb_latest.specs.Reads.{ReadsFile}
 use Rattle.deb_latest.specs.Files.{HasWrittenFiles, paragraphs_in}
@@ -16,23 +16,7 @@ use Rattle.debctl_ffi.specs.Answers.{refusing}
 use Rattle.debctl_ffi.specs.Latest.{HasReadAll, IsNoLimit, StopsAt, StopsReading}
 use Rattle.debctl_ffi.specs.Versions.{IsNoVersion, bad_version}
 use Rattle.debctl_ffi.specs.declared.answer.Answer.{Answer}
-
--- the bytes of the first files
-abbrev pub first_files : ℕ → List (Bor (List ℕ)) → List (List ℕ)
-first_files n texts = names_of (take n texts)
-
-pub one_more : (texts : List (Bor (List ℕ))) (n : ℕ) (d : Bor (List ℕ)) → n < length texts
-    → first_files (n + 1) texts ≡ first_files n texts ++ (get_or texts n d).now ∷ []
-one_more texts n d less = map_more (λ t. t.now) texts n d less
-
-take_long : {X : Type 0} (xs : List X) (n : ℕ) → length xs ≤ n → take n xs ≡ xs
-take_long [] zero long = refl
-take_long [] (suc n) long = refl
-take_long (x ∷ xs) zero long = absurd (omega (arith, long))
-take_long (x ∷ xs) (suc n) long = ap (λ l. x ∷ l) (take_long xs n (omega (arith, long)))
-
-pub all_files : (texts : List (Bor (List ℕ))) (n : ℕ) → length texts ≤ n → first_files n texts ≡ names_of texts
-all_files texts n long = ap names_of (take_long texts n long)
+use Rattle.debctl_ffi.proofs.FirstTexts.{first_texts, one_more}
 
 -- one more file was read
 pub reads_more : (asked : Asked) (texts : List (List ℕ)) (text : List ℕ) (before latest : Latest)
@@ -45,17 +29,17 @@ reads_more asked texts text before latest has reads = record {
 
 -- one is refused, or memory is out
 pub stops_at_one : (asked : Asked) (texts : List (Bor (List ℕ))) (n : ℕ) (d : Bor (List ℕ)) (latest : Latest) (told : Answer) → n < length texts
-    → HasReadAll asked (first_files n texts) latest → StopsAt latest.kind (get_or texts n d).now (n + 1) told
+    → HasReadAll asked (first_texts n texts) latest → StopsAt latest.kind (get_or texts n d).now (n + 1) told
     → StopsReading asked.kind (names_of texts) told
 stops_at_one asked texts n d latest told less has (inl one) =
-    let long : length (first_files n texts) ≡ n = length-map (take n texts) (λ t. t.now) ∙ length-take-le n texts (omega (arith, less)) in
+    let long : length (first_texts n texts) ≡ n = length-map (take n texts) (λ t. t.now) ∙ length-take-le n texts (omega (arith, less)) in
     inl (record {
-      earlier = first_files n texts;
+      earlier = first_texts n texts;
       text = (get_or texts n d).now;
       later = names_of (drop (n + 1) texts);
       whole =
           ap names_of (sym (take-append-drop n texts)) ∙ map-append (λ t. t.now) (take n texts) (drop n texts)
-          ∙ ap (λ l. first_files n texts ++ names_of l) (drop_more texts n d less);
+          ∙ ap (λ l. first_texts n texts ++ names_of l) (drop_more texts n d less);
       meaning = has.meaning;
       means = has.means;
       refuses = rw (long, ← has.has.kind) one;
@@ -71,12 +55,12 @@ no_limit (b ∷ bs) told long both = both
 -- ---- a loop
 
 pub written_more : (numbers : List ℕ) (count : ℕ) (texts : List (Bor (List ℕ))) (n : ℕ) (d : Bor (List ℕ)) (winners next : Winners) (old held new : Option (List ℕ))
-    → n < length texts → HasWrittenFiles numbers count (first_files n texts) winners old held
-    → WritesFile numbers count (paragraphs_in (first_files n texts)) (get_or texts n d).now next held new
-    → HasWrittenFiles numbers count (first_files (n + 1) texts) next old new
+    → n < length texts → HasWrittenFiles numbers count (first_texts n texts) winners old held
+    → WritesFile numbers count (paragraphs_in (first_texts n texts)) (get_or texts n d).now next held new
+    → HasWrittenFiles numbers count (first_texts (n + 1) texts) next old new
 written_more numbers count texts n d winners next old held new less has file =
-    rw (one_more texts n d less) (files_are_written numbers count (first_files n texts) (get_or texts n d).now winners next old held new has file)
+    rw (one_more texts n d less) (files_are_written numbers count (first_texts n texts) (get_or texts n d).now winners next old held new has file)
 
 pub read_more_files : (asked : Asked) (texts : List (Bor (List ℕ))) (n : ℕ) (d : Bor (List ℕ)) (latest : Latest) → n < length texts
-    → HasReadAll asked (first_files n texts ++ (get_or texts n d).now ∷ []) latest → HasReadAll asked (first_files (n + 1) texts) latest
+    → HasReadAll asked (first_texts n texts ++ (get_or texts n d).now ∷ []) latest → HasReadAll asked (first_texts (n + 1) texts) latest
 read_more_files asked texts n d latest less has = rw (one_more texts n d less) has

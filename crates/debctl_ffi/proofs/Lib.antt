@@ -7,7 +7,9 @@ mod RefusalsSoFar
 mod ShownFields
 mod Loading
 mod OneFile
+mod FirstTexts
 mod LatestTexts
+mod SelectTexts
 mod Written
 mod VersionParts
 mod ReadTexts

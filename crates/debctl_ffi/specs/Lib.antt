@@ -26,6 +26,8 @@ pub mod Loans
 pub mod Loads
 pub mod Details
 pub mod Latest
+pub mod Select
+pub mod ExplainedConditions
 pub mod Options
 pub mod Wanting
 pub mod Diffs

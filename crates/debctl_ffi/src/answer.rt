@@ -62,6 +62,13 @@ pub(crate) fn refused(refusal: &Refusal) -> Answer
     }
 }
 
+/// The answer 2: the text isn't what it is read as, without a code.
+pub(crate) fn unread() -> Answer
+    ensures { result ≡ plain 2 }
+{
+    bare(2)
+}
+
 /// The answer 2: some of a file is refused, and so many paragraphs pass.
 pub(crate) fn some_refused(first: &Refusal, passed: u64) -> Answer
     ensures { result ≡ refusing_some first.now passed }
@@ -79,6 +86,16 @@ pub(crate) fn second_refused(refusal: &Refusal) -> Answer
     Answer {
         status: 3,
         ..refused(refusal)
+    }
+}
+
+/// The answer 3: the text at this place is no condition.
+pub(crate) fn no_condition(place: u64) -> Answer
+    ensures { result ≡ counting 3 place }
+{
+    Answer {
+        count: place,
+        ..bare(3)
     }
 }
 

@@ -200,6 +200,40 @@ pub fn latest(
     )
 }
 
+/// `asked` is the kind of the file, whether the others are selected, and the form; the texts are
+/// the conditions and the names of fields.
+pub fn select(
+    asked: (u8, u8, u8),
+    (conditions, names): (&[Text], &[Text]),
+    text: &[u8],
+    out: &mut [u8],
+    length: &mut usize,
+) -> Answer {
+    written!(
+        deb_select(
+            asked.0,
+            asked.1,
+            asked.2,
+            conditions.as_ptr(),
+            conditions.len(),
+            names.as_ptr(),
+            names.len(),
+            text.as_ptr(),
+            text.len()
+        ),
+        out,
+        length
+    )
+}
+
+pub fn explain_condition(kind: u8, text: &[u8], out: &mut [u8], length: &mut usize) -> Answer {
+    written!(
+        deb_explain_condition(kind, text.as_ptr(), text.len()),
+        out,
+        length
+    )
+}
+
 /// `asked` is the kind of the file, and whether Recommends is asked.
 pub fn healthy(
     asked: (u8, u8),

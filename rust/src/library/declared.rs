@@ -450,6 +450,28 @@ extern "C" {
         out_size: usize,
         length: *mut usize,
     ) -> Answer;
+    pub fn deb_select(
+        kind: u8,
+        others: u8,
+        form: u8,
+        conditions: *const Text,
+        condition_count: usize,
+        names: *const Text,
+        name_count: usize,
+        text: *const u8,
+        text_length: usize,
+        out: *mut u8,
+        out_size: usize,
+        length: *mut usize,
+    ) -> Answer;
+    pub fn deb_explain_condition(
+        kind: u8,
+        text: *const u8,
+        text_length: usize,
+        out: *mut u8,
+        out_size: usize,
+        length: *mut usize,
+    ) -> Answer;
     pub fn deb_reader_size() -> usize;
     pub fn deb_reader_start(reader: *mut Room, kind: u8, answer: *mut Answer);
     pub fn deb_reader_feed(

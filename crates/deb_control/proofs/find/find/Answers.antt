@@ -1,7 +1,7 @@
 use Rattle.deb_control.proofs.Common.{◌≡◌, Bool, None, Some, refl, sym, ap, ◌∙◌, err_from_is_err_and, goes-from_passes, state_of, seen_of, Advances}
 use Rattle.deb_syntax.specs.Paragraphs.{judged_last}
 use Rattle.deb_control.proofs.Checks.{few-totals, checks-advance_err, checks-end, says-found, none_found, one_found}
-use Rattle.deb_control.proofs.RefusedLines.{lines_are, lines_none, lines_refused, of_refusal, shown_by_answer, without_error}
+use Rattle.deb_control.proofs.RefusedLines.{lines_are, lines_none, lines_refused, of_ok, of_refusal, shown_by_answer, without_error}
 use Rattle.deb_control.proofs.Resuming.{any_error, error_inside, fits_refused, found_sound, if_error, is_inside-same, unchanged_error}
 use Rattle.deb_control.proofs.find.find.Goals as goal
 
@@ -39,6 +39,10 @@ pub returns-then-is_complete-clause-lines : goal.returns-then-is_complete-clause
 returns-then-is_complete-clause-lines g c = λ shown kept text answered fits.
     of_refusal c.none_follows.result _ (lines_none c.args.doc text answered c.args.totals.now.paragraphs fits.counted (sym c.is_complete.ensures ∙ c.if-is_complete.true) (judged_last c.none_follows.new.paragraphs) c.none_follows.ensures.unjudged)
 
+pub returns-then-is_complete-clause-lines_found : goal.returns-then-is_complete-clause-lines_found
+returns-then-is_complete-clause-lines_found g c = λ shown kept text answered fits.
+    of_ok c.none_follows.result _ (lines_none c.args.doc text answered c.args.totals.now.paragraphs fits.counted (sym c.is_complete.ensures ∙ c.if-is_complete.true) (judged_last c.none_follows.new.paragraphs) c.none_follows.ensures.unjudged)
+
 pub returns-in_err-advance-clause-lines : goal.returns-in_err-advance-clause-lines
 returns-in_err-advance-clause-lines g c = λ shown kept text answered fits.
     let p = err_from_is_err_and c.from_residual.result c.from_residual.ensures.1 in
@@ -51,11 +55,23 @@ returns-in-None-clause-lines g c = λ shown kept text answered fits.
     let last = judged_last c.advance.new.self in
     of_refusal c.end.result _ (lines_are c.args.doc text answered c.args.totals.now.paragraphs fits.counted (sym c.is_complete.ensures ∙ c.if-is_complete.false) fits.passed fits.paragraphs last (shown_by_answer text _ (state_of c.advance.new.self) c.in_ok-advance.field-0 last (judged text fits.passed fits.fits)))
 
+pub returns-in-None-clause-lines_found : goal.returns-in-None-clause-lines_found
+returns-in-None-clause-lines_found g c = λ shown kept text answered fits.
+    let judged = without_error _ _ c.requires.sound c.in_ok-advance.ensures.judged in
+    let last = judged_last c.advance.new.self in
+    of_ok c.end.result _ (lines_are c.args.doc text answered c.args.totals.now.paragraphs fits.counted (sym c.is_complete.ensures ∙ c.if-is_complete.false) fits.passed fits.paragraphs last (shown_by_answer text _ (state_of c.advance.new.self) c.in_ok-advance.field-0 last (judged text fits.passed fits.fits)))
+
 pub returns-in-Some-clause-lines : goal.returns-in-Some-clause-lines
 returns-in-Some-clause-lines g c = λ shown kept text answered fits.
     let judged = without_error _ _ c.requires.sound c.in_ok-advance.ensures.judged in
     let last = judged_last c.advance.new.self in
     of_refusal c.pass.result _ (lines_are c.args.doc text answered c.args.totals.now.paragraphs fits.counted (sym c.is_complete.ensures ∙ c.if-is_complete.false) fits.passed fits.paragraphs last (shown_by_answer text _ (state_of c.advance.new.self) c.in_ok-advance.field-0 last (judged text fits.passed fits.fits)))
+
+pub returns-in-Some-clause-lines_found : goal.returns-in-Some-clause-lines_found
+returns-in-Some-clause-lines_found g c = λ shown kept text answered fits.
+    let judged = without_error _ _ c.requires.sound c.in_ok-advance.ensures.judged in
+    let last = judged_last c.advance.new.self in
+    of_ok c.pass.result _ (lines_are c.args.doc text answered c.args.totals.now.paragraphs fits.counted (sym c.is_complete.ensures ∙ c.if-is_complete.false) fits.passed fits.paragraphs last (shown_by_answer text _ (state_of c.advance.new.self) c.in_ok-advance.field-0 last (judged text fits.passed fits.fits)))
 
 pub returns-then-is_complete-clause-refused : goal.returns-then-is_complete-clause-refused
 returns-then-is_complete-clause-refused g c = λ shown shown_now kept kept_now text answered fits.

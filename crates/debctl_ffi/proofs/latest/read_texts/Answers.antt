@@ -1,6 +1,7 @@
 use Rattle.std.proofs.Common.{refl}
 use Rattle.deb_latest.specs.Requests.{asked_of}
-use Rattle.debctl_ffi.proofs.LatestTexts.{all_files, first_files, read_more_files, stops_at_one}
+use Rattle.debctl_ffi.proofs.FirstTexts.{all_texts, first_texts}
+use Rattle.debctl_ffi.proofs.LatestTexts.{read_more_files, stops_at_one}
 use Rattle.debctl_ffi.proofs.latest.read_texts.Goals as goal
 
 pub loop-place-init : goal.loop-place-init
@@ -14,7 +15,7 @@ returns-in-Err-read_text-clause-fails c =
 pub loop-place-preserved : goal.loop-place-preserved
 loop-place-preserved c =
     read_more_files (asked_of c.args.request.now) c.args.texts.now c.loop-place.place _ _ c.loop-place-test.true
-    (c.in-Ok-read_text.ensures.ok (asked_of c.args.request.now) (first_files c.loop-place.place c.args.texts.now) c.loop-place.invariant)
+    (c.in-Ok-read_text.ensures.ok (asked_of c.args.request.now) (first_texts c.loop-place.place c.args.texts.now) c.loop-place.invariant)
 
 pub returns-clause-ok : goal.returns-clause-ok
-returns-clause-ok c = rw (all_files c.args.texts.now c.loop-place.place c.loop-place-test.false) at c.loop-place.invariant
+returns-clause-ok c = rw (all_texts c.args.texts.now c.loop-place.place c.loop-place-test.false) at c.loop-place.invariant

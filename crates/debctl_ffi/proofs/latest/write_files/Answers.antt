@@ -1,4 +1,5 @@
-use Rattle.debctl_ffi.proofs.LatestTexts.{all_files, written_more}
+use Rattle.debctl_ffi.proofs.FirstTexts.{all_texts}
+use Rattle.debctl_ffi.proofs.LatestTexts.{written_more}
 use Rattle.deb_latest.proofs.FilesWritten.{no_file_is_written}
 use Rattle.debctl_ffi.proofs.latest.write_files.Goals as goal
 
@@ -13,4 +14,4 @@ loop-place-preserved g c = λ numbers count has.
 
 pub returns : goal.returns
 returns g c = λ numbers count has.
-    rw (all_files c.args.texts.now c.loop-place.place c.loop-place-test.false) at (c.loop-place.invariant numbers count has)
+    rw (all_texts c.args.texts.now c.loop-place.place c.loop-place-test.false) at (c.loop-place.invariant numbers count has)

@@ -32,3 +32,6 @@ returns-in-Err-clause-lines g c = rw c.in_default.is (λ text answered fits. c.i
 
 pub returns-in-Err-clause-refused : goal.returns-in-Err-clause-refused
 returns-in-Err-clause-refused g c = rw c.in_default.is (λ text answered fits. c.in-Err.ensures.refused _ _ _ _ text answered fits)
+
+pub returns-in-Ok-clause-lines_found : goal.returns-in-Ok-clause-lines_found
+returns-in-Ok-clause-lines_found g c = rw c.in_default.is (λ text answered fits. c.in-Ok.ensures.lines_found _ _ text answered fits)
