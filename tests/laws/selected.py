@@ -134,7 +134,7 @@ class Selected:
 
     def names(self, paragraphs: List[Paragraph]) -> List[bytes]:
         """Names of fields that are asked for, without a comma."""
-        known = [name for it in paragraphs for name in it.values] + [*NAMES]
+        known = [name for it in paragraphs for name in it.values if b"," not in name] + [*NAMES]
         return [self.case_of(self.random.choice(known)) for _ in range(self.random.randint(1, 4))]
 
     def case_of(self, name: bytes) -> bytes:
