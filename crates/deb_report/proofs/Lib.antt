@@ -1,0 +1,6 @@
+pub mod Cutting
+pub mod GccReading
+pub mod GithubReading
+pub mod JsonReading
+pub mod JsonTrees
+pub mod Pushed

@@ -1,0 +1,7 @@
+pub mod Findings
+pub mod Pieces
+pub mod GccLines
+pub mod GithubLines
+pub mod JsonMembers
+pub mod JsonLines
+pub mod Laws

@@ -1,0 +1,21 @@
+//! Writes why files of Debian control data are refused in forms that other programs read: as lines
+//! of gcc, as workflow commands of GitHub Actions, as lines of JSON and as SARIF.
+//!
+//! ```text
+//! let diagnostic = Diagnostic { path: b"debian/control", line: 3, .. };
+//! write_gcc(&diagnostic, &mut out)?; // debian/control:3: error: NoColon [NoColon]
+//! ```
+#![tactic(auto)]
+
+mod counted;
+mod diagnostic;
+mod gcc;
+mod github;
+mod json_members;
+mod jsonl;
+pub mod laws;
+
+pub use diagnostic::{Diagnostic, Wrong};
+pub use gcc::write_gcc;
+pub use github::write_github;
+pub use jsonl::{write_accepted_jsonl, write_jsonl};
