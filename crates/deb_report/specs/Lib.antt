@@ -4,4 +4,5 @@ pub mod GccLines
 pub mod GithubLines
 pub mod JsonMembers
 pub mod JsonLines
+pub mod Sarif
 pub mod Laws

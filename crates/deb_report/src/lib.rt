@@ -14,8 +14,10 @@ mod github;
 mod json_members;
 mod jsonl;
 pub mod laws;
+mod sarif;
 
 pub use diagnostic::{Diagnostic, Wrong};
 pub use gcc::write_gcc;
 pub use github::write_github;
 pub use jsonl::{write_accepted_jsonl, write_jsonl};
+pub use sarif::{write_sarif_begin, write_sarif_end, write_sarif_result};
