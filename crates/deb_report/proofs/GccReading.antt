@@ -187,7 +187,7 @@ module _ (P D W N : List ℕ) where
   message_lacks mark field own w f n = (
     own.0,
     lacks_both mark W (field ++ (32 ∷ 91 ∷ (N ++ 93 ∷ []))) w
-    (lacks_both mark field (32 ∷ 91 ∷ (N ++ 93 ∷ [])) f (own.0, (own.1.0, lacks_both mark N (93 ∷ []) n own.1.1))),
+        (lacks_both mark field (32 ∷ 91 ∷ (N ++ 93 ∷ [])) f (own.0, (own.1.0, lacks_both mark N (93 ∷ []) n own.1.1))),
   )
 
   whole_lacks : (column field : List ℕ) → Lacks 10 P → Lacks 10 D → Lacks 10 column → Lacks 10 W → Lacks 10 field → Lacks 10 N → Lacks 10 (whole column field)
@@ -269,8 +269,8 @@ line_read path reason name line None field p r n f fits fit =
     let F = gcc_field field in (
       whole_lacks P D W N [] F (text_lacks 10 false (lacks_newline false) path) (lacks_decimal 10 line refl fits) tt (text_lacks 10 true (lacks_newline true) reason) (field_lacks 10 (lacks_clear 10 (codes " in ") refl) (lacks_newline true) field) (text_lacks 10 true (lacks_newline true) name),
       ap gcc_parts (parts_without P D W N F (text_lacks 58 false (lacks_colon false) path) (lacks_decimal 58 line refl fits)
-      (message_lacks P D W N 58 F (lacks_clear 58 (codes " []") refl) (text_lacks 58 true (lacks_colon true) reason) (field_lacks 58 (lacks_clear 58 (codes " in ") refl) (lacks_colon true) field) (text_lacks 58 true (lacks_colon true) name)))
-      ∙ words_told path reason name line None field p r n f fits,
+          (message_lacks P D W N 58 F (lacks_clear 58 (codes " []") refl) (text_lacks 58 true (lacks_colon true) reason) (field_lacks 58 (lacks_clear 58 (codes " in ") refl) (lacks_colon true) field) (text_lacks 58 true (lacks_colon true) name)))
+          ∙ words_told path reason name line None field p r n f fits,
     )
 line_read path reason name line (Some column) field p r n f fits fit =
     let P = gcc_text false path in
@@ -281,9 +281,9 @@ line_read path reason name line (Some column) field p r n f fits fit =
     let F = gcc_field field in (
       whole_lacks P D W N (58 ∷ C) F (text_lacks 10 false (lacks_newline false) path) (lacks_decimal 10 line refl fits) (refl, lacks_decimal 10 column refl fit) (text_lacks 10 true (lacks_newline true) reason) (field_lacks 10 (lacks_clear 10 (codes " in ") refl) (lacks_newline true) field) (text_lacks 10 true (lacks_newline true) name),
       ap gcc_parts (parts_with P D W N C F (text_lacks 58 false (lacks_colon false) path) (lacks_decimal 58 line refl fits) (lacks_decimal 58 column refl fit)
-      (message_lacks P D W N 58 F (lacks_clear 58 (codes " []") refl) (text_lacks 58 true (lacks_colon true) reason) (field_lacks 58 (lacks_clear 58 (codes " in ") refl) (lacks_colon true) field) (text_lacks 58 true (lacks_colon true) name)))
-      ∙ words_told path reason name line (Some (digits_value 10 C)) field p r n f fits
-      ∙ ap (λ x. Some (told_by path line (Some x) name field reason)) (decimal_read column fit),
+          (message_lacks P D W N 58 F (lacks_clear 58 (codes " []") refl) (text_lacks 58 true (lacks_colon true) reason) (field_lacks 58 (lacks_clear 58 (codes " in ") refl) (lacks_colon true) field) (text_lacks 58 true (lacks_colon true) name)))
+          ∙ words_told path reason name line (Some (digits_value 10 C)) field p r n f fits
+          ∙ ap (λ x. Some (told_by path line (Some x) name field reason)) (decimal_read column fit),
     )
 
 -- of a literal by computing

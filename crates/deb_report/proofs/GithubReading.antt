@@ -159,8 +159,8 @@ line_read path name message line fits None fit =
     let M = command_text false message in (
       lacks_newlines P D N M [] (lacks_each 10 (command_byte true) (lacks_newline true) path) (lacks_decimal 10 line refl fits) tt (lacks_each 10 (command_byte true) (lacks_newline true) name) (lacks_each 10 (command_byte false) (lacks_newline false) message),
       parts_read P D N M [] (lacks_each 58 (command_byte true) lacks_colon path) (lacks_decimal 58 line refl fits) tt (lacks_each 58 (command_byte true) lacks_colon name)
-      ∙ ap (λ l. github_parts l M) (without_column P D N M (lacks_each 44 (command_byte true) lacks_comma path) (lacks_decimal 44 line refl fits) (lacks_each 44 (command_byte true) lacks_comma name))
-      ∙ texts_told path name message line None fits,
+          ∙ ap (λ l. github_parts l M) (without_column P D N M (lacks_each 44 (command_byte true) lacks_comma path) (lacks_decimal 44 line refl fits) (lacks_each 44 (command_byte true) lacks_comma name))
+          ∙ texts_told path name message line None fits,
     )
 line_read path name message line fits (Some column) fit =
     let P = command_text true path in
@@ -171,9 +171,9 @@ line_read path name message line fits (Some column) fit =
     let C = codes ",col=" ++ E in (
       lacks_newlines P D N M C (lacks_each 10 (command_byte true) (lacks_newline true) path) (lacks_decimal 10 line refl fits) (lacks_both 10 (codes ",col=") E (lacks_clear 10 (codes ",col=") refl) (lacks_decimal 10 column refl fit)) (lacks_each 10 (command_byte true) (lacks_newline true) name) (lacks_each 10 (command_byte false) (lacks_newline false) message),
       parts_read P D N M C (lacks_each 58 (command_byte true) lacks_colon path) (lacks_decimal 58 line refl fits) (lacks_both 58 (codes ",col=") E (lacks_clear 58 (codes ",col=") refl) (lacks_decimal 58 column refl fit)) (lacks_each 58 (command_byte true) lacks_colon name)
-      ∙ ap (λ l. github_parts l M) (with_column P D N M E (lacks_each 44 (command_byte true) lacks_comma path) (lacks_decimal 44 line refl fits) (lacks_decimal 44 column refl fit) (lacks_each 44 (command_byte true) lacks_comma name))
-      ∙ texts_told path name message line (Some (digits_value 10 E)) fits
-      ∙ ap (λ n. told_by path line (Some n) name message) (decimal_read column fit),
+          ∙ ap (λ l. github_parts l M) (with_column P D N M E (lacks_each 44 (command_byte true) lacks_comma path) (lacks_decimal 44 line refl fits) (lacks_decimal 44 column refl fit) (lacks_each 44 (command_byte true) lacks_comma name))
+          ∙ texts_told path name message line (Some (digits_value 10 E)) fits
+          ∙ ap (λ n. told_by path line (Some n) name message) (decimal_read column fit),
     )
 
 finding_read : (f : Finding) → IsFinding f → Lacks 10 (body f) × (github_read (body f) ≡ github_told f)

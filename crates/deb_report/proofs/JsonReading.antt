@@ -235,30 +235,30 @@ is_bytes (b ∷ bs) all zero = all_first (λ x. x < 256) b bs all
 is_bytes (b ∷ bs) all (suc i) = is_bytes bs (all_rest (λ x. x < 256) b bs all) i
 
 -- a text that is present, and is UTF-8 or not
-abbrev text_told : Bool → List ℕ → Option (List ℕ)
+abbrev pub text_told : Bool → List ℕ → Option (List ℕ)
 text_told true text = Some text
 text_told false text = decoded (decode_of (encode_lower text))
 
-text_back : (utf8 : Bool) (text : List ℕ) → AreBytes text → text_told utf8 text ≡ Some text
+pub text_back : (utf8 : Bool) (text : List ℕ) → AreBytes text → text_told utf8 text ≡ Some text
 text_back true text bytes = refl
 text_back false text bytes = ap decoded (decode_of-encode_lower text (is_bytes text bytes))
 
-abbrev maybe_told : Option Bool → List ℕ → Option (List ℕ)
+abbrev pub maybe_told : Option Bool → List ℕ → Option (List ℕ)
 maybe_told None text = None
 maybe_told (Some utf8) text = text_told utf8 text
 
-abbrev put_maybe_if : List ℕ → List ℕ → Option Bool → List ℕ → Members → Members
+abbrev pub put_maybe_if : List ℕ → List ℕ → Option Bool → List ℕ → Members → Members
 put_maybe_if key bytes_key None text ms = put key null ms
 put_maybe_if key bytes_key (Some utf8) text ms = put_text_if utf8 key bytes_key text ms
 
-abbrev number_told : Data → Option ℕ
+abbrev pub number_told : Data → Option ℕ
 number_told json = option_and_then as_u64 (as_number json)
 
-number_back : (n : Option ℕ) → number_told (maybe_number n) ≡ n
+pub number_back : (n : Option ℕ) → number_told (maybe_number n) ≡ n
 number_back None = refl
 number_back (Some n) = refl
 
-abbrev told_by : List ℕ → ℕ → Option ℕ → List ℕ → Option (List ℕ) → Option (List ℕ) → Option ℕ → Told
+abbrev pub told_by : List ℕ → ℕ → Option ℕ → List ℕ → Option (List ℕ) → Option (List ℕ) → Option ℕ → Told
 told_by path line column name field reason place = record { path = path; line = line; column = column; name = name; field = field; reason = reason; place = place }
 
 abbrev members_by : Bool → Option Bool → Option Bool → List ℕ → List ℕ → List ℕ → ℕ → Data → Data → List ℕ → Data → Members

@@ -4,3 +4,4 @@ pub mod GithubReading
 pub mod JsonReading
 pub mod JsonTrees
 pub mod Pushed
+pub mod SarifReading

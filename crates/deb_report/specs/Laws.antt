@@ -2,11 +2,12 @@
 -- order. No byte of a path or of a field adds a record, takes one away or changes one.
 use Rattle.std.specs.Prelude.{◌≡◌, ◌<◌, ◌^◌, List, Some, map}
 use Rattle.std.specs.List.{All, flat_map}
-use Rattle.deb_report.specs.Findings.{AreBytes, Finding, IsFinding}
+use Rattle.deb_report.specs.Findings.{AreBytes, Finding, IsFinding, told}
 use Rattle.deb_report.specs.GccLines.{gcc_line, gcc_read, gcc_told}
 use Rattle.deb_report.specs.GithubLines.{github_line, github_read, github_told}
 use Rattle.deb_report.specs.JsonLines.{Accepted, Entry, Refused, entry_told, json_line, json_read}
 use Rattle.deb_report.specs.Pieces.{lines_in}
+use Rattle.deb_report.specs.Sarif.{sarif_read, sarif_text}
 
 abbrev pub GccReadsBack : Type 0
 GccReadsBack =
@@ -27,3 +28,7 @@ abbrev pub JsonReadsBack : Type 0
 JsonReadsBack =
     (es : List Entry) → All IsEntry es
     → map json_read (lines_in (flat_map json_line es)) ≡ map (λ e. Some (entry_told e)) es
+
+abbrev pub SarifReadsBack : Type 0
+SarifReadsBack =
+    (fs : List Finding) → All IsFinding fs → sarif_read (sarif_text fs) ≡ Some (map told fs)

@@ -126,10 +126,10 @@ abbrev pub result_told : Data → Told
 result_told result =
     record {
       path = percent_decode
-      (text_or_empty (text_inside (codes "uri") [] (inside (codes "artifactLocation")
-      (place_of result))));
+          (text_or_empty (text_inside (codes "uri") [] (inside (codes "artifactLocation")
+          (place_of result))));
       line = number_or_zero
-      (number_inside (codes "startLine") (inside (codes "region") (place_of result)));
+          (number_inside (codes "startLine") (inside (codes "region") (place_of result)));
       column = number_inside (codes "startColumn") (inside (codes "region") (place_of result));
       name = text_or_empty (string_at (codes "ruleId") result);
       field = text_inside (codes "field") (codes "field_bytes") (get (codes "properties") result);

@@ -53,11 +53,7 @@ fn line_of(alloc: Global, diagnostic: &Diagnostic<'_>) -> Result<Vec<u8>, AllocE
 }
 
 #[tactic(auto, using(deb_base::proofs::Writes::puts))]
-fn write_line<W: Sink>(
-    alloc: Global,
-    diagnostic: &Diagnostic<'_>,
-    out: &mut W,
-) -> Result<(), Fault>
+fn write_line<W: Sink>(alloc: Global, diagnostic: &Diagnostic<'_>, out: &mut W) -> Result<(), Fault>
     ensures { Puts (W.held out.old) (W.held out.new) result (gcc_line (finding_of diagnostic.now)) }
 {
     write_body(alloc, diagnostic, out)?;
@@ -66,11 +62,7 @@ fn write_line<W: Sink>(
 
 /// Writes the line without its newline.
 #[tactic(auto, using(deb_base::proofs::Writes::puts))]
-fn write_body<W: Sink>(
-    alloc: Global,
-    diagnostic: &Diagnostic<'_>,
-    out: &mut W,
-) -> Result<(), Fault>
+fn write_body<W: Sink>(alloc: Global, diagnostic: &Diagnostic<'_>, out: &mut W) -> Result<(), Fault>
     ensures { Puts (W.held out.old) (W.held out.new) result
         (gcc_place (finding_of diagnostic.now) ++ gcc_message (finding_of diagnostic.now)) }
 {

@@ -85,12 +85,7 @@ pub(crate) fn put_text(
 }
 
 /// Writes the hexadecimal digits of bytes.
-fn put_bytes(
-    alloc: Global,
-    out: &mut Writer,
-    name: &str,
-    bytes: &[u8],
-) -> Result<(), AllocError>
+fn put_bytes(alloc: Global, out: &mut Writer, name: &str, bytes: &[u8]) -> Result<(), AllocError>
     ensures tokens { OnOk result (out.new.tokens ≡ out.old.tokens
         ++ string_tokens name.now (encode_lower bytes.now)) }
     ensures before { OnOk result (out.new.before ≡ out.old.before) }

@@ -121,11 +121,7 @@ fn put_members(
 
 /// Writes the path, the line and the column.
 #[tactic(auto, using(crate::proofs::Pushed::pushed))]
-fn put_where(
-    alloc: Global,
-    out: &mut Writer,
-    diagnostic: &Diagnostic<'_>,
-) -> Result<(), AllocError>
+fn put_where(alloc: Global, out: &mut Writer, diagnostic: &Diagnostic<'_>) -> Result<(), AllocError>
     ensures tokens { OnOk result (out.new.tokens ≡ out.old.tokens
         ++ where_tokens (finding_of diagnostic.now)) }
     ensures before { OnOk result (out.new.before ≡ out.old.before) }

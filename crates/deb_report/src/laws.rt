@@ -1,6 +1,6 @@
 //! Laws of what is written. Each function does nothing; its contract is the law.
 
-ghost use Rattle.deb_report.specs.Laws.{GccReadsBack, GithubReadsBack, JsonReadsBack};
+ghost use Rattle.deb_report.specs.Laws.{GccReadsBack, GithubReadsBack, JsonReadsBack, SarifReadsBack};
 
 /// The lines of gcc that are written of diagnostics are read as exactly those diagnostics.
 pub fn gcc_reads_back()
@@ -16,4 +16,9 @@ pub fn github_reads_back()
 /// those.
 pub fn json_reads_back()
     ensures { JsonReadsBack }
+{}
+
+/// The document of SARIF that is written of diagnostics is read as exactly those diagnostics.
+pub fn sarif_reads_back()
+    ensures { SarifReadsBack }
 {}

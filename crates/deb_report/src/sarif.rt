@@ -286,11 +286,7 @@ fn put_physical(
 }
 
 #[tactic(auto, using(crate::proofs::Pushed::pushed))]
-fn put_place(
-    alloc: Global,
-    out: &mut Writer,
-    diagnostic: &Diagnostic<'_>,
-) -> Result<(), AllocError>
+fn put_place(alloc: Global, out: &mut Writer, diagnostic: &Diagnostic<'_>) -> Result<(), AllocError>
     ensures tokens { OnOk result (out.new.tokens ≡ out.old.tokens
         ++ place_tokens (finding_of diagnostic.now)) }
     ensures before { OnOk result (out.new.before ≡ out.old.before) }
