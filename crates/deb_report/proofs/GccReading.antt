@@ -15,7 +15,7 @@ use Rattle.deb_base.specs.declared.code.Code.TheVariants as code
 use Rattle.deb_explain.specs.Escapes.{escaped_byte, hex_digit}
 use Rattle.deb_explain.specs.Paths.{is_plain, path_byte, shown_path}
 use Rattle.deb_report.specs.Findings.{AreBytes, AreBytesIf, Finding, Fits, IsFinding, Told, counted, reason_in}
-use Rattle.deb_report.specs.GccLines.{bracketed, gcc_column, gcc_field, gcc_message, gcc_parts, gcc_place, gcc_read, gcc_reason, gcc_text, gcc_told, gcc_words, marked, unshown, word_after}
+use Rattle.deb_report.specs.Gcc.{bracketed, gcc_column, gcc_field, gcc_message, gcc_parts, gcc_place, gcc_read, gcc_reason, gcc_text, gcc_told, gcc_words, marked, unshown, word_after}
 use Rattle.deb_report.specs.Laws.{GccReadsBack}
 use Rattle.deb_report.specs.Pieces.{pieces}
 use Rattle.deb_report.proofs.Cutting.{Lacks, all_first, all_rest, cut, decimal_read, lacks_both, lacks_clear, lacks_decimal, lacks_each, last_cut, lines_read}

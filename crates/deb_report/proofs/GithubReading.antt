@@ -6,7 +6,7 @@ use Rattle.std.specs.Str.Parse.{digits_value}
 use Rattle.deb_base.specs.Codes.{name_of}
 use Rattle.deb_base.specs.Sentences.{rule_of}
 use Rattle.deb_report.specs.Findings.{Finding, Fits, IsFinding, Told, counted}
-use Rattle.deb_report.specs.GithubLines.{command_byte, command_text, command_value, github_column, github_message, github_parts, github_place, github_read, github_told, keyed}
+use Rattle.deb_report.specs.Github.{command_byte, command_text, command_value, col_text, title_text, github_parts, place_text, github_read, github_told, keyed}
 use Rattle.deb_report.specs.Laws.{GithubReadsBack}
 use Rattle.deb_report.specs.Pieces.{after, before, pieces}
 use Rattle.deb_report.proofs.Cutting.{Lacks, after_cut, before_cut, cut, decimal_read, lacks_both, lacks_clear, lacks_decimal, lacks_each, last_cut, lines_read}
@@ -144,14 +144,14 @@ texts_told path name message line column fits =
     ∙ ap (λ x. told_by path line column name x) (text_read false message)
 
 abbrev body : Finding → List ℕ
-body f = github_place f ++ github_message f
+body f = place_text f ++ title_text f
 
 abbrev line_by : List ℕ → ℕ → List ℕ → List ℕ → List ℕ → List ℕ
 line_by path line column name message = whole (command_text true path) (decimal line) (command_text true name) (command_text false message) column
 
 line_read : (path name message : List ℕ) (line : ℕ) → line < 2 ^ 64 → (column : Option ℕ) → Fits column
-    → Lacks 10 (line_by path line (github_column column) name message) × (github_read (line_by path line (github_column column) name message) ≡ told_by path line column name message)
-unfolding github_column counted
+    → Lacks 10 (line_by path line (col_text column) name message) × (github_read (line_by path line (col_text column) name message) ≡ told_by path line column name message)
+unfolding col_text counted
 line_read path name message line fits None fit =
     let P = command_text true path in
     let D = decimal line in
@@ -177,7 +177,7 @@ line_read path name message line fits (Some column) fit =
     )
 
 finding_read : (f : Finding) → IsFinding f → Lacks 10 (body f) × (github_read (body f) ≡ github_told f)
-unfolding github_place github_message counted keyed
+unfolding place_text title_text counted keyed
 finding_read f is = line_read f.path (name_of f.code) (rule_of f.code) f.line is.line f.column is.column
 
 pub github_reads_back : GithubReadsBack

@@ -5,6 +5,7 @@ use Rattle.std.specs.Prelude.{codes, refl, ⊤}
 use Rattle.std.specs.Option.{option_map}
 use Rattle.std.specs.List.{All}
 use Rattle.deb_base.specs.Codes.{name_of}
+use Rattle.deb_base.specs.Literals.{lent}
 use Rattle.deb_base.specs.declared.code.Code.{Code}
 use Rattle.deb_base.specs.declared.code.Code.TheVariants as code
 use Rattle.deb_base.specs.declared.fault.Fault.{Fault}
@@ -117,6 +118,24 @@ no_paragraph =
       field = None;
       wrong = None;
     }
+
+worked-diagnostic : finding_of (record {
+  path = lent (codes "a");
+  line = 2;
+  column = Some 3;
+  code = code.BadVersion;
+  field = Some (lent (codes "Version"));
+  wrong = Some (record { reason = lent (codes "Empty"); place = 4 });
+})
+    ≡ record {
+      path = codes "a";
+      line = 2;
+      column = Some 3;
+      code = code.BadVersion;
+      field = Some (codes "Version");
+      wrong = Some (codes "Empty", 4);
+    }
+worked-diagnostic = refl
 
 worked-parts : (reason_in bad_version ≡ Some (codes "UpstreamByte"))
     × (place_in bad_version ≡ Some 1) × (reason_in no_paragraph ≡ None)

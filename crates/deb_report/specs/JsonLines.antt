@@ -5,10 +5,12 @@ use Rattle.std.specs.Fmt.{digits}
 use Rattle.std.specs.Str.{is_utf8, chars}
 use lib.Utf8.{encode}
 use Rattle.hex.specs.Hex.{encode_with}
+use Rattle.hex.proofs.OnLiterals.{hex_on_literals}
 use Rattle.json.specs.Token.{Token}
 use Rattle.json.specs.Print.{print, print_from, escape_byte}
 use Rattle.serde_json.specs.Data.{Data, Members, no_members, number, object, put, string, unsigned}
 use Rattle.serde_json.specs.Read.{read}
+use Rattle.serde_json.proofs.OnLiterals.{serde_json_on_literals}
 use Rattle.deb_base.specs.Codes.{name_of, number_of}
 use Rattle.deb_report.specs.Findings.{Finding, Told, bad_version, no_paragraph, told}
 use Rattle.deb_report.specs.JsonMembers.{detail_tokens, maybe_number, maybe_number_tokens}
@@ -126,3 +128,19 @@ worked-answers : (answer_at (entry_json (Accepted (codes "a") 3)) ≡ Passed (co
     × (entry_told (Refused bad_version) ≡ Failed (told bad_version))
 unfolding is_utf8 chars encode
 worked-answers = (refl, refl, refl, refl)
+
+-- members in another order, and a text that is no object
+worked-reading : (json_read (codes "{\"ok\":3,\"path\":\"a\"}") ≡ Some (Passed (codes "a") 3))
+    × (json_read (codes "{\"name\":\"NoColon\",\"line\":2,\"path_bytes\":\"ff\"}")
+    ≡ Some (Failed (record {
+      path = 255 ∷ [];
+      line = 2;
+      column = None;
+      name = codes "NoColon";
+      field = None;
+      reason = None;
+      place = None;
+    })))
+    × (json_read (codes "{") ≡ None)
+unfolding serde_json_on_literals hex_on_literals
+worked-reading = (refl, refl, refl)

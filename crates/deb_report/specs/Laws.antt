@@ -3,8 +3,8 @@
 use Rattle.std.specs.Prelude.{◌≡◌, ◌<◌, ◌^◌, List, Some, map}
 use Rattle.std.specs.List.{All, flat_map}
 use Rattle.deb_report.specs.Findings.{AreBytes, Finding, IsFinding, told}
-use Rattle.deb_report.specs.GccLines.{gcc_line, gcc_read, gcc_told}
-use Rattle.deb_report.specs.GithubLines.{github_line, github_read, github_told}
+use Rattle.deb_report.specs.Gcc.{gcc_line, gcc_read, gcc_told}
+use Rattle.deb_report.specs.Github.{github_line, github_read, github_told}
 use Rattle.deb_report.specs.JsonLines.{Accepted, Entry, Refused, entry_told, json_line, json_read}
 use Rattle.deb_report.specs.Pieces.{lines_in}
 use Rattle.deb_report.specs.Sarif.{sarif_read, sarif_text}

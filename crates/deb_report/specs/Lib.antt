@@ -1,7 +1,7 @@
 pub mod Findings
 pub mod Pieces
-pub mod GccLines
-pub mod GithubLines
+pub mod Gcc
+pub mod Github
 pub mod JsonMembers
 pub mod JsonLines
 pub mod Sarif

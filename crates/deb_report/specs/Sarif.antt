@@ -9,11 +9,13 @@ use Rattle.json.specs.Token.{Token}
 use Rattle.json.specs.Print.{print, print_from, escape_byte}
 use Rattle.percent_encoding.specs.AsciiSet.{should_percent_encode}
 use Rattle.percent_encoding.specs.Percent.{percent_decode, percent_encode, percent_encode_byte}
+use Rattle.percent_encoding.proofs.OnLiterals.{percent_encoding_on_literals}
 use Rattle.percent_encoding.specs.declared.ascii_set.AsciiSet.{AsciiSet}
 use Rattle.serde_json.specs.Data.{Data, Items, item, no_items}
 use Rattle.serde_json.specs.Find.{as_array, at, get}
 use Rattle.serde_json.specs.Read.{read}
-use Rattle.deb_base.specs.Codes.{name_of}
+use Rattle.serde_json.proofs.OnLiterals.{serde_json_on_literals}
+use Rattle.deb_base.specs.Codes.{name_of, number_of}
 use Rattle.deb_base.specs.Sentences.{rule_of}
 use Rattle.deb_base.specs.declared.code.Code.{Code}
 use Rattle.deb_base.specs.declared.code.Code.TheVariants as code
@@ -133,7 +135,8 @@ result_told result =
       column = number_inside (codes "startColumn") (inside (codes "region") (place_of result));
       name = text_or_empty (string_at (codes "ruleId") result);
       field = text_inside (codes "field") (codes "field_bytes") (get (codes "properties") result);
-      reason = text_inside (codes "reason") (codes "reason_bytes") (get (codes "properties") result);
+      reason =
+          text_inside (codes "reason") (codes "reason_bytes") (get (codes "properties") result);
       place = number_inside (codes "place") (get (codes "properties") result);
     }
 
@@ -152,10 +155,10 @@ sarif_read text = option_and_then sarif_told (read text)
 -- ---- worked cases
 
 worked-result : sarif_result false no_paragraph
-    ≡ codes ",{\"ruleId\":\"NoParagraph\",\"level\":\"error\",\"message\":{\"text\":\"A file of this "
-    ++ codes "kind must contain exactly one paragraph (Debian Policy 5.3, 5.4).\"},\"locations\":[{"
-    ++ codes "\"physicalLocation\":{\"artifactLocation\":{\"uri\":\"50%25%2C%0A\"},\"region\":{"
-    ++ codes "\"startLine\":1}}}],\"properties\":{\"field\":null,\"reason\":null,\"place\":null}}"
+    ≡ codes ",{\"ruleId\":\"NoParagraph\",\"level\":\"error\",\"message\":{\"text\":"
+    ++ codes "\"A file of this kind must contain exactly one paragraph (Debian Policy 5.3, 5.4).\"}"
+    ++ codes ",\"locations\":[{\"physicalLocation\":{\"artifactLocation\":{\"uri\":"
+    ++ codes "\"50%25%2C%0A\"},\"region\":{\"startLine\":1}}}],\"properties\":{\"field\":null,\"reason\":null,\"place\":null}}"
 unfolding digits is_utf8 chars encode print_from escape_byte percent_encode percent_encode_byte
     should_percent_encode
 worked-result = refl
@@ -163,3 +166,37 @@ worked-result = refl
 worked-ends : (comma true ≡ []) × (sarif_results true [] ≡ [])
     × (maybe_column (Some 3) ≡ number_tokens (codes "startColumn") 3)
 worked-ends = (refl, refl, refl)
+
+worked-rules : (map number_of all_codes
+    ≡ 1 ∷ 2 ∷ 3 ∷ 4 ∷ 5 ∷ 6 ∷ 7 ∷ 8 ∷ 9 ∷ 10 ∷ 11 ∷ 12 ∷ 13 ∷ 14 ∷ 15 ∷ 16 ∷ 17 ∷ 18 ∷ 19 ∷ 20
+    ∷ 21 ∷ 22 ∷ 23 ∷ [])
+    × (print (rule_tokens code.NoColon)
+    ≡ codes "{\"id\":\"NoColon\",\"shortDescription\":{\"text\":\"The first line of a field must "
+    ++ codes "have a colon after the name (Debian Policy 5.1).\"}}")
+unfolding print_from escape_byte
+worked-rules = (refl, refl)
+
+-- a document without results
+worked-document : sarif_text []
+    ≡ codes "{\"$schema\":\"https://json.schemastore.org/sarif-2.1.0.json\",\"version\":\"2.1.0\","
+    ++ (codes "\"runs\":[{\"tool\":{\"driver\":{\"name\":\"debctl\",\"rules\":"
+    ++ (print rules_tokens ++ codes "}},\"results\":[]}]}"))
+unfolding print_from escape_byte
+worked-document = refl
+
+worked-reading : (sarif_read
+    (codes "{\"runs\":[{\"results\":[{\"ruleId\":\"NoColon\",\"locations\":[{\"physicalLocation\":"
+    ++ (codes "{\"artifactLocation\":{\"uri\":\"a%20b\"},\"region\":{\"startLine\":2,"
+    ++ codes "\"startColumn\":3}}}],\"properties\":{\"field\":\"A\",\"place\":4}}]}]}"))
+    ≡ Some (record {
+      path = codes "a b";
+      line = 2;
+      column = Some 3;
+      name = codes "NoColon";
+      field = Some (codes "A");
+      reason = None;
+      place = Some 4;
+    } ∷ []))
+    × (sarif_read (codes "{}") ≡ None)
+unfolding serde_json_on_literals percent_encoding_on_literals
+worked-reading = (refl, refl)

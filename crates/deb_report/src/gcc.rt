@@ -5,8 +5,8 @@ ghost use Rattle.std.specs.List.{flat_map};
 ghost use Rattle.deb_base.specs.Devices.{write_failures_after, Puts, WriteFaultIffFailed};
 ghost use Rattle.deb_explain.specs.Paths.{shown_path};
 ghost use Rattle.deb_report.specs.Findings.{finding_of, wrong_of, IsMemoryOrWrite};
-ghost use Rattle.deb_report.specs.GccLines.{gcc_column, gcc_field, gcc_line, gcc_message};
-ghost use Rattle.deb_report.specs.GccLines.{gcc_place, gcc_reason, gcc_text, marked, word_after};
+ghost use Rattle.deb_report.specs.Gcc.{gcc_column, gcc_field, gcc_line, gcc_message};
+ghost use Rattle.deb_report.specs.Gcc.{gcc_place, gcc_reason, gcc_text, marked, word_after};
 
 use crate::counted::write_counted;
 use crate::diagnostic::{Diagnostic, Wrong};
@@ -71,7 +71,7 @@ fn write_body<W: Sink>(alloc: Global, diagnostic: &Diagnostic<'_>, out: &mut W) 
 }
 
 /// Writes the path, the line and the column.
-#[tactic(auto, using(deb_base::proofs::Writes::puts), unfolding(crate::specs::GccLines::gcc_place))]
+#[tactic(auto, using(deb_base::proofs::Writes::puts), unfolding(crate::specs::Gcc::gcc_place))]
 fn write_place<W: Sink>(
     alloc: Global,
     diagnostic: &Diagnostic<'_>,
@@ -85,7 +85,7 @@ fn write_place<W: Sink>(
     write_column(diagnostic.column, out)
 }
 
-#[tactic(auto, using(crate::proofs::Pushed::nothing), unfolding(crate::specs::GccLines::gcc_column))]
+#[tactic(auto, using(crate::proofs::Pushed::nothing), unfolding(crate::specs::Gcc::gcc_column))]
 fn write_column<W: Sink>(column: Option<u64>, out: &mut W) -> Result<(), Fault>
     ensures { Puts (W.held out.old) (W.held out.new) result (gcc_column column) }
 {
@@ -96,7 +96,7 @@ fn write_column<W: Sink>(column: Option<u64>, out: &mut W) -> Result<(), Fault>
 }
 
 /// Writes the reason, the field and the name of the code.
-#[tactic(auto, using(deb_base::proofs::Writes::puts), unfolding(crate::specs::GccLines::gcc_message))]
+#[tactic(auto, using(deb_base::proofs::Writes::puts), unfolding(crate::specs::Gcc::gcc_message))]
 fn write_message<W: Sink>(
     alloc: Global,
     diagnostic: &Diagnostic<'_>,
@@ -122,7 +122,7 @@ fn reason<'a>(name: &'a [u8], wrong: Option<Wrong<'a>>) -> &'a [u8]
     }
 }
 
-#[tactic(auto, using(crate::proofs::Pushed::nothing), unfolding(crate::specs::GccLines::gcc_field))]
+#[tactic(auto, using(crate::proofs::Pushed::nothing), unfolding(crate::specs::Gcc::gcc_field))]
 fn write_field<W: Sink>(alloc: Global, field: Option<&[u8]>, out: &mut W) -> Result<(), Fault>
     ensures { Puts (W.held out.old) (W.held out.new) result
         (gcc_field (option_map (λ field. field.now) field.entry)) }
@@ -134,7 +134,7 @@ fn write_field<W: Sink>(alloc: Global, field: Option<&[u8]>, out: &mut W) -> Res
 }
 
 /// Writes a word after its key.
-#[tactic(auto, using(deb_base::proofs::Writes::puts), unfolding(crate::specs::GccLines::word_after))]
+#[tactic(auto, using(deb_base::proofs::Writes::puts), unfolding(crate::specs::Gcc::word_after))]
 fn write_word<W: Sink>(alloc: Global, key: &[u8], word: &[u8], out: &mut W) -> Result<(), Fault>
     ensures { Puts (W.held out.old) (W.held out.new) result (word_after key.now word.now) }
 {
@@ -172,7 +172,7 @@ fn write_marked<W: Sink>(word: bool, shown: &[u8], out: &mut W) -> Result<(), Fa
     Ok(())
 }
 
-#[tactic(auto, unfolding(crate::specs::GccLines::marked))]
+#[tactic(auto, unfolding(crate::specs::Gcc::marked))]
 fn write_byte<W: Sink>(word: bool, byte: u8, out: &mut W) -> Result<(), Fault>
     ensures { Puts (W.held out.old) (W.held out.new) result (marked word byte) }
 {

@@ -4,8 +4,8 @@ ghost use Rattle.std.specs.Prelude.{◌≡◌, ◌++◌, IfErr, codes};
 ghost use Rattle.std.specs.List.{flat_map};
 ghost use Rattle.deb_base.specs.Devices.{write_failures_after, Puts, WriteFaultIffFailed};
 ghost use Rattle.deb_report.specs.Findings.{counted, finding_of};
-ghost use Rattle.deb_report.specs.GithubLines.{command_byte, command_text, github_column};
-ghost use Rattle.deb_report.specs.GithubLines.{github_line, github_message, github_place, keyed};
+ghost use Rattle.deb_report.specs.Github.{command_byte, command_text, col_text};
+ghost use Rattle.deb_report.specs.Github.{github_line, title_text, place_text, keyed};
 
 use crate::counted::write_counted;
 use crate::diagnostic::Diagnostic;
@@ -37,7 +37,7 @@ pub fn write_github<W: Sink>(diagnostic: &Diagnostic<'_>, out: &mut W) -> Result
 #[tactic(auto, using(deb_base::proofs::Writes::puts))]
 fn write_body<W: Sink>(diagnostic: &Diagnostic<'_>, out: &mut W) -> Result<(), Fault>
     ensures written { Puts (W.held out.old) (W.held out.new) result
-        (github_place (finding_of diagnostic.now) ++ github_message (finding_of diagnostic.now)) }
+        (place_text (finding_of diagnostic.now) ++ title_text (finding_of diagnostic.now)) }
     ensures fault { IfErr result (λ fault. fault ≡ Fault.Write) }
     ensures counts_failure { W.failures out.new ≡ write_failures_after (W.failures out.old) result }
 {
@@ -46,10 +46,10 @@ fn write_body<W: Sink>(diagnostic: &Diagnostic<'_>, out: &mut W) -> Result<(), F
 }
 
 /// Writes the path, the line and the column.
-#[tactic(auto, using(deb_base::proofs::Writes::puts), unfolding(crate::specs::GithubLines::github_place))]
+#[tactic(auto, using(deb_base::proofs::Writes::puts), unfolding(crate::specs::Github::place_text))]
 fn write_place<W: Sink>(diagnostic: &Diagnostic<'_>, out: &mut W) -> Result<(), Fault>
     ensures written { Puts (W.held out.old) (W.held out.new) result
-        (github_place (finding_of diagnostic.now)) }
+        (place_text (finding_of diagnostic.now)) }
     ensures fault { IfErr result (λ fault. fault ≡ Fault.Write) }
     ensures counts_failure { W.failures out.new ≡ write_failures_after (W.failures out.old) result }
 {
@@ -61,7 +61,7 @@ fn write_place<W: Sink>(diagnostic: &Diagnostic<'_>, out: &mut W) -> Result<(), 
 #[tactic(auto, using(deb_base::proofs::Writes::puts))]
 fn write_position<W: Sink>(line: u64, column: Option<u64>, out: &mut W) -> Result<(), Fault>
     ensures written { Puts (W.held out.old) (W.held out.new) result
-        (counted (codes ",line=") line ++ github_column column) }
+        (counted (codes ",line=") line ++ col_text column) }
     ensures fault { IfErr result (λ fault. fault ≡ Fault.Write) }
     ensures counts_failure { W.failures out.new ≡ write_failures_after (W.failures out.old) result }
 {
@@ -69,9 +69,9 @@ fn write_position<W: Sink>(line: u64, column: Option<u64>, out: &mut W) -> Resul
     write_column(column, out)
 }
 
-#[tactic(auto, using(deb_base::proofs::Writes::puts), unfolding(crate::specs::GithubLines::github_column))]
+#[tactic(auto, using(deb_base::proofs::Writes::puts), unfolding(crate::specs::Github::col_text))]
 fn write_column<W: Sink>(column: Option<u64>, out: &mut W) -> Result<(), Fault>
-    ensures written { Puts (W.held out.old) (W.held out.new) result (github_column column) }
+    ensures written { Puts (W.held out.old) (W.held out.new) result (col_text column) }
     ensures fault { IfErr result (λ fault. fault ≡ Fault.Write) }
     ensures counts_failure { W.failures out.new ≡ write_failures_after (W.failures out.old) result }
 {
@@ -82,10 +82,10 @@ fn write_column<W: Sink>(column: Option<u64>, out: &mut W) -> Result<(), Fault>
 }
 
 /// Writes the name and the sentence of the code.
-#[tactic(auto, using(deb_base::proofs::Writes::puts), unfolding(crate::specs::GithubLines::github_message))]
+#[tactic(auto, using(deb_base::proofs::Writes::puts), unfolding(crate::specs::Github::title_text))]
 fn write_message<W: Sink>(diagnostic: &Diagnostic<'_>, out: &mut W) -> Result<(), Fault>
     ensures written { Puts (W.held out.old) (W.held out.new) result
-        (github_message (finding_of diagnostic.now)) }
+        (title_text (finding_of diagnostic.now)) }
     ensures fault { IfErr result (λ fault. fault ≡ Fault.Write) }
     ensures counts_failure { W.failures out.new ≡ write_failures_after (W.failures out.old) result }
 {
@@ -94,7 +94,7 @@ fn write_message<W: Sink>(diagnostic: &Diagnostic<'_>, out: &mut W) -> Result<()
 }
 
 /// Writes a text after its key.
-#[tactic(auto, using(deb_base::proofs::Writes::puts), unfolding(crate::specs::GithubLines::keyed))]
+#[tactic(auto, using(deb_base::proofs::Writes::puts), unfolding(crate::specs::Github::keyed))]
 fn write_keyed<W: Sink>(property: bool, key: &[u8], text: &[u8], out: &mut W) -> Result<(), Fault>
     ensures written { Puts (W.held out.old) (W.held out.new) result
         (keyed property key.now text.now) }
@@ -107,7 +107,8 @@ fn write_keyed<W: Sink>(property: bool, key: &[u8], text: &[u8], out: &mut W) ->
 
 /// Writes the value of a property, or a message.
 fn write_text<W: Sink>(property: bool, text: &[u8], out: &mut W) -> Result<(), Fault>
-    ensures written { Puts (W.held out.old) (W.held out.new) result (command_text property text.now) }
+    ensures written { Puts (W.held out.old) (W.held out.new) result
+        (command_text property text.now) }
     ensures fault { IfErr result (λ fault. fault ≡ Fault.Write) }
     ensures counts_failure { W.failures out.new ≡ write_failures_after (W.failures out.old) result }
 {
@@ -117,7 +118,7 @@ fn write_text<W: Sink>(property: bool, text: &[u8], out: &mut W) -> Result<(), F
     Ok(())
 }
 
-#[tactic(auto, unfolding(crate::specs::GithubLines::command_byte))]
+#[tactic(auto, unfolding(crate::specs::Github::command_byte))]
 fn write_byte<W: Sink>(property: bool, byte: u8, out: &mut W) -> Result<(), Fault>
     ensures written { Puts (W.held out.old) (W.held out.new) result (command_byte property byte) }
     ensures fault { IfErr result (λ fault. fault ≡ Fault.Write) }

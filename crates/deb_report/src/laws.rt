@@ -1,6 +1,7 @@
 //! Laws of what is written. Each function does nothing; its contract is the law.
 
-ghost use Rattle.deb_report.specs.Laws.{GccReadsBack, GithubReadsBack, JsonReadsBack, SarifReadsBack};
+ghost use Rattle.deb_report.specs.Laws.{GccReadsBack, GithubReadsBack, JsonReadsBack};
+ghost use Rattle.deb_report.specs.Laws.{SarifReadsBack};
 
 /// The lines of gcc that are written of diagnostics are read as exactly those diagnostics.
 pub fn gcc_reads_back()

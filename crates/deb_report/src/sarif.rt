@@ -220,7 +220,8 @@ fn put_members(
     diagnostic: &Diagnostic<'_>,
 ) -> Result<(), AllocError>
     ensures tokens { OnOk result (out.new.tokens ≡ out.old.tokens
-        ++ (kind_tokens (finding_of diagnostic.now).code ++ (location_tokens (finding_of diagnostic.now)
+        ++ (kind_tokens (finding_of diagnostic.now).code
+        ++ (location_tokens (finding_of diagnostic.now)
         ++ nested (codes "properties") (detail_tokens (finding_of diagnostic.now))))) }
     ensures before { OnOk result (out.new.before ≡ out.old.before) }
 {

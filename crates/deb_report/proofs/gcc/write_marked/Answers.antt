@@ -1,6 +1,6 @@
 use Rattle.std.proofs.lemmas.Result.{err_from_is_err_and}
 use Rattle.deb_base.proofs.Writes.{AppendsFront-pieces}
-use Rattle.deb_report.specs.GccLines.{marked}
+use Rattle.deb_report.specs.Gcc.{marked}
 use Rattle.deb_report.proofs.gcc.write_marked.Goals as goal
 
 pub returns-in_err-write_byte : goal.returns-in_err-write_byte

@@ -1,6 +1,6 @@
 use Rattle.std.proofs.lemmas.Result.{err_from_is_err_and}
 use Rattle.deb_base.proofs.Writes.{AppendsFront-pieces}
-use Rattle.deb_report.specs.GithubLines.{command_byte}
+use Rattle.deb_report.specs.Github.{command_byte}
 use Rattle.deb_report.proofs.github.write_text.Goals as goal
 
 pub returns-in_err-write_byte-clause-written : goal.returns-in_err-write_byte-clause-written

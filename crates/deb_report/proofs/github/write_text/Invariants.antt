@@ -1,7 +1,7 @@
 use Rattle.std.proofs.Common.{◌≡◌, take}
 use Rattle.std.specs.List.{flat_map}
 use Rattle.std.specs.Io.KnownBytes.{Appends}
-use Rattle.deb_report.specs.GithubLines.{command_byte}
+use Rattle.deb_report.specs.Github.{command_byte}
 use Rattle.deb_report.proofs.github.write_text.Given as goal
 
 abbrev pub invariant-loop-byte : goal.invariant-loop-byte

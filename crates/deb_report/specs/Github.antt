@@ -30,21 +30,21 @@ command_text property text = flat_map (command_byte property) text
 unfoldable pub keyed : Bool → List ℕ → List ℕ → List ℕ
 keyed property key text = key ++ command_text property text
 
-unfoldable pub github_column : Option ℕ → List ℕ
-github_column None = []
-github_column (Some column) = counted (codes ",col=") column
+unfoldable pub col_text : Option ℕ → List ℕ
+col_text None = []
+col_text (Some column) = counted (codes ",col=") column
 
-unfoldable pub github_place : Finding → List ℕ
-github_place f =
+unfoldable pub place_text : Finding → List ℕ
+place_text f =
     keyed true (codes "::error file=") f.path
-    ++ (counted (codes ",line=") f.line ++ github_column f.column)
+    ++ (counted (codes ",line=") f.line ++ col_text f.column)
 
-unfoldable pub github_message : Finding → List ℕ
-github_message f =
+unfoldable pub title_text : Finding → List ℕ
+title_text f =
     keyed true (codes ",title=") (name_of f.code) ++ keyed false (codes "::") (rule_of f.code)
 
 abbrev pub github_line : Finding → List ℕ
-github_line f = (github_place f ++ github_message f) ++ codes "\n"
+github_line f = (place_text f ++ title_text f) ++ codes "\n"
 
 -- ---- how it is read
 
@@ -139,7 +139,7 @@ worked-lines : (github_line bad_version
     × (github_line no_paragraph
     ≡ codes "::error file=50%25%2C%0A,line=1,title=NoParagraph::A file of this kind must contain "
     ++ codes "exactly one paragraph (Debian Policy 5.3, 5.4).\n")
-unfolding digits counted keyed github_place github_message github_column command_byte
+unfolding digits counted keyed place_text title_text col_text command_byte
 worked-lines = (refl, refl)
 
 worked-escapes : (command_text true (codes "%\r\n:,a") ≡ codes "%25%0D%0A%3A%2Ca")
