@@ -1,5 +1,5 @@
 -- Lines of gcc are read as what they were written of.
-use Rattle.std.proofs.Common.{◌≡◌, ℕ, zero, suc, ◌+◌, ◌-◌, ◌*◌, ◌/◌, ◌%◌, ◌<◌, ◌≤◌, ◌^◌, ◌==◌, ◌&&◌, nat_le, nat_lt, Bool, true, false, cond, List, [], ◌∷◌, ◌++◌, length, drop, take, decimal, Option, None, Some, codes, refl, sym, ap, subst, ◌∙◌, arith, append_assoc, append-nil}
+use Rattle.std.proofs.Common.{◌≡◌, ℕ, zero, suc, ◌+◌, ◌-◌, ◌*◌, ◌/◌, ◌%◌, ◌<◌, ◌≤◌, ◌^◌, ◌==◌, ◌&&◌, nat_le, nat_lt, Bool, true, false, cond, List, [], ◌∷◌, ◌++◌, length, take, decimal, Option, None, Some, codes, refl, sym, ap, subst, ◌∙◌, arith, append_assoc, append-nil}
 use Rattle.std.proofs.Math.Seq.{take-append_seam}
 use Rattle.std.proofs.lemmas.Bool.{and_parts, eqb-true, leb-true, ltb-false, ltb-true, ne_eqb}
 use Rattle.std.proofs.lemmas.List.{length-append}
@@ -7,14 +7,14 @@ use Rattle.std.proofs.lemmas.List.Concat.{flat_map-append}
 use Rattle.std.proofs.lemmas.Str.{digit_value-digit_char}
 use Rattle.std.specs.Char.{digit_value}
 use Rattle.std.specs.Option.{option_map}
-use Rattle.std.specs.List.{All, flat_map}
+use Rattle.std.specs.List.{flat_map}
 use Rattle.std.specs.Str.Parse.{digits_value}
 use Rattle.deb_base.specs.Codes.{name_of}
 use Rattle.deb_base.specs.declared.code.Code.{Code}
 use Rattle.deb_base.specs.declared.code.Code.TheVariants as code
 use Rattle.deb_explain.specs.Escapes.{escaped_byte, hex_digit}
-use Rattle.deb_explain.specs.Paths.{is_plain, path_byte, shown_path}
-use Rattle.deb_report.specs.Findings.{AreBytes, AreBytesIf, Finding, Fits, IsFinding, Told, counted, reason_in}
+use Rattle.deb_explain.specs.Paths.{is_plain, path_byte}
+use Rattle.deb_report.specs.Findings.{AreBytes, AreBytesIf, Finding, Fits, IsFinding, Told, counted}
 use Rattle.deb_report.specs.Gcc.{bracketed, gcc_column, gcc_field, gcc_message, gcc_parts, gcc_place, gcc_read, gcc_reason, gcc_text, gcc_told, gcc_words, marked, unshown, word_after}
 use Rattle.deb_report.specs.Laws.{GccReadsBack}
 use Rattle.deb_report.specs.Pieces.{pieces}

@@ -1,7 +1,6 @@
 -- Workflow commands of GitHub Actions are read as what they were written of.
-use Rattle.std.proofs.Common.{◌≡◌, ℕ, ◌<◌, ◌^◌, ◌==◌, ◌&&◌, Bool, true, false, cond, List, [], ◌∷◌, ◌++◌, drop, map, decimal, Option, None, Some, codes, refl, sym, ap, subst, ◌∙◌, append_assoc, append-nil}
+use Rattle.std.proofs.Common.{◌≡◌, ℕ, ◌<◌, ◌^◌, ◌==◌, ◌&&◌, Bool, true, false, cond, List, [], ◌∷◌, ◌++◌, drop, decimal, Option, None, Some, codes, refl, sym, ap, subst, ◌∙◌, append_assoc, append-nil}
 use Rattle.std.proofs.lemmas.Bool.{eqb-true}
-use Rattle.std.specs.List.{All, flat_map}
 use Rattle.std.specs.Str.Parse.{digits_value}
 use Rattle.deb_base.specs.Codes.{name_of}
 use Rattle.deb_base.specs.Sentences.{rule_of}

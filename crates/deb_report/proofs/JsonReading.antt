@@ -1,9 +1,8 @@
 -- Lines of JSON are read as what they were written of.
-use Rattle.std.proofs.Common.{◌≡◌, ℕ, zero, suc, ◌+◌, ◌/◌, ◌%◌, ◌<◌, ◌^◌, ◌==◌, ◌&&◌, ◌||◌, nat_lt, Bool, true, false, cond, List, [], ◌∷◌, ◌++◌, map, decimal, Option, None, Some, option_and_then, option_map, Result, Ok, Err, codes, refl, sym, ap, subst, ◌∙◌, arith, append_assoc}
+use Rattle.std.proofs.Common.{◌≡◌, ℕ, zero, suc, ◌+◌, ◌/◌, ◌%◌, ◌<◌, ◌^◌, ◌==◌, ◌&&◌, ◌||◌, nat_lt, Bool, true, false, cond, List, [], ◌∷◌, ◌++◌, decimal, Option, None, Some, option_and_then, option_map, codes, refl, sym, ap, subst, ◌∙◌, arith}
 use Rattle.std.proofs.lemmas.Bool.{eqb-true, ne_eqb}
 use Rattle.std.specs.Prelude.{⊤}
 use Rattle.std.specs.Char.{digit_char}
-use Rattle.std.specs.List.{All, flat_map}
 use Rattle.std.specs.Str.{is_utf8}
 use Rattle.hex.specs.Hex.{IsBytes, decode_of, encode_lower}
 use Rattle.hex.proofs.HexLemmas.{decode_of-encode_lower}
@@ -18,11 +17,11 @@ use Rattle.deb_base.specs.Codes.{name_of, number_of}
 use Rattle.deb_base.specs.declared.code.Code.{Code}
 use Rattle.deb_base.specs.declared.code.Code.TheVariants as code
 use Rattle.deb_report.specs.Findings.{AreBytes, AreBytesIf, Finding, Fits, IsFinding, Told, place_in, reason_in, told}
-use Rattle.deb_report.specs.JsonLines.{Accepted, Answer, Entry, Failed, Passed, Refused, accepted_tokens, answer_at, code_tokens, entry_json, entry_told, entry_tokens, finding_members, json_line, json_read, json_text, member_tokens, object_tokens, path_member, path_tokens, told_at, where_tokens}
+use Rattle.deb_report.specs.JsonLines.{Accepted, Entry, Failed, Passed, Refused, accepted_tokens, answer_at, code_tokens, entry_json, entry_told, finding_members, json_read, json_text, member_tokens, object_tokens, path_tokens, where_tokens}
 use Rattle.deb_report.specs.JsonMembers.{decoded, detail_tokens, maybe_number, maybe_number_tokens, maybe_text_tokens, number_tokens, put_details, put_maybe_text, put_text, put_text_if, string_tokens, text_or_empty, text_tokens, text_tokens_if}
 use Rattle.deb_report.specs.Laws.{IsEntry, JsonReadsBack}
 use Rattle.deb_report.proofs.Cutting.{Lacks, all_first, all_rest, lacks_both, lacks_decimal, lacks_each, lines_read}
-use Rattle.deb_report.proofs.JsonTrees.{MembersRead, Reads, member_read, members_then, numeral_read, object_read, null_read, read_printed, text_read}
+use Rattle.deb_report.proofs.JsonTrees.{MembersRead, member_read, members_then, numeral_read, object_read, null_read, read_printed, text_read}
 
 -- ---- no byte of a line ends it
 

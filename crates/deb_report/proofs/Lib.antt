@@ -1,4 +1,5 @@
 pub mod Cutting
+pub mod Followed
 pub mod GccReading
 pub mod GithubReading
 pub mod JsonReading

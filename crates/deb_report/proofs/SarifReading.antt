@@ -1,23 +1,21 @@
 -- A document of SARIF is read as the findings of which it was written.
-use Rattle.std.proofs.Common.{◌≡◌, ℕ, suc, ◌<◌, ◌^◌, not, Bool, true, false, List, [], ◌∷◌, ◌++◌, map, decimal, Option, None, Some, option_and_then, option_map, codes, refl, sym, ap, subst, ◌∙◌, arith, append_assoc, append-nil}
+use Rattle.std.proofs.Common.{◌≡◌, ℕ, suc, not, Bool, true, false, List, [], ◌∷◌, ◌++◌, map, Option, None, Some, option_and_then, option_map, codes, refl, sym, ap, subst, ◌∙◌, arith, append_assoc, append-nil}
 use Rattle.std.specs.List.{All, flat_map}
 use Rattle.std.specs.Str.{is_utf8}
 use Rattle.json.specs.Token.{Token}
-use Rattle.json.specs.Print.{begins, ends, escape_byte, print, print_from, separator, token_text}
-use Rattle.percent_encoding.specs.AsciiSet.{contains}
+use Rattle.json.specs.Print.{ends, escape_byte, print, print_from, separator, token_text}
 use Rattle.percent_encoding.specs.Percent.{percent_decode, percent_encode}
 use Rattle.percent_encoding.proofs.PercentLemmas.{round_trip}
-use Rattle.serde_json.specs.Data.{Data, Items, Members, array, item, no_items, no_members, null, number, object, put, string, unsigned}
-use Rattle.serde_json.specs.Find.{as_number, as_u64}
+use Rattle.serde_json.specs.Data.{Data, Items, Members, array, item, no_items, no_members, number, object, put, string, unsigned}
 use Rattle.serde_json.specs.Read.{read}
 use Rattle.deb_base.specs.Codes.{name_of}
 use Rattle.deb_base.specs.Sentences.{rule_of}
 use Rattle.deb_base.specs.declared.code.Code.{Code}
-use Rattle.deb_report.specs.Findings.{AreBytes, AreBytesIf, Finding, Fits, IsFinding, Told, place_in, reason_in, told}
+use Rattle.deb_report.specs.Findings.{AreBytes, AreBytesIf, Finding, Fits, IsFinding, told}
 use Rattle.deb_report.specs.JsonLines.{object_tokens}
-use Rattle.deb_report.specs.JsonMembers.{detail_tokens, maybe_number, number_tokens, put_details, put_text_if, string_tokens, text_or_empty}
+use Rattle.deb_report.specs.JsonMembers.{detail_tokens, maybe_number, number_tokens, put_details, string_tokens}
 use Rattle.deb_report.specs.Laws.{SarifReadsBack}
-use Rattle.deb_report.specs.Sarif.{all_codes, comma, each_told, kind_tokens, location_tokens, maybe_column, nested, place_tokens, result_told, result_tokens, rule_tokens, rules_tokens, sarif_begin, sarif_end, sarif_read, sarif_result, sarif_results, sarif_start, sarif_text, sarif_told, uri_set}
+use Rattle.deb_report.specs.Sarif.{all_codes, each_told, kind_tokens, location_tokens, maybe_column, nested, place_tokens, result_told, result_tokens, rule_tokens, rules_tokens, sarif_end, sarif_result, sarif_results, sarif_start, sarif_text, sarif_told, uri_set}
 use Rattle.deb_report.proofs.Cutting.{all_first, all_rest}
 use Rattle.deb_report.proofs.JsonReading.{good_details, good_number, maybe_told, number_back, number_told, put_maybe_if, text_back, told_by}
 use Rattle.deb_report.proofs.JsonTrees.{ItemsRead, MembersRead, Reads, array_read, item_read, member_read, members_then, no_items_read, no_member_read, object_read, read_printed, text_read}

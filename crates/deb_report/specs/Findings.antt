@@ -1,6 +1,6 @@
 -- What a diagnostic is: where a file is refused, and why. And what is read of it in a line or an
 -- object of a format. Both are this project's own.
-use Rattle.std.specs.Prelude.{◌≡◌, ◌<◌, ◌^◌, ℕ, List, [], ◌∷◌, ◌++◌, decimal, Option, Some, None}
+use Rattle.std.specs.Prelude.{◌≡◌, ◌<◌, ◌^◌, ℕ, List, ◌++◌, decimal, Option, Some, None}
 use Rattle.std.specs.Prelude.{codes, refl, ⊤}
 use Rattle.std.specs.Option.{option_map}
 use Rattle.std.specs.List.{All}

@@ -13,7 +13,7 @@ use Rattle.deb_base.specs.Codes.{name_of}
 use Rattle.deb_explain.specs.Escapes.{escaped_byte, hex_digit}
 use Rattle.deb_explain.specs.Paths.{is_hidden, path_byte, shown_path}
 use Rattle.deb_report.specs.Findings.{Finding, Told, bad_version, counted, no_paragraph, told}
-use Rattle.deb_report.specs.Pieces.{lines_in, pieces}
+use Rattle.deb_report.specs.Pieces.{pieces}
 
 -- ---- the line
 

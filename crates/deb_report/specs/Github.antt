@@ -10,7 +10,7 @@ use Rattle.std.specs.Str.Parse.{digits_value}
 use Rattle.deb_base.specs.Codes.{name_of}
 use Rattle.deb_base.specs.Sentences.{rule_of}
 use Rattle.deb_report.specs.Findings.{Finding, Told, bad_version, counted, no_paragraph}
-use Rattle.deb_report.specs.Pieces.{after, before, lines_in, pieces}
+use Rattle.deb_report.specs.Pieces.{after, before, pieces}
 
 -- ---- the line
 

@@ -1,7 +1,7 @@
 -- Members of an object of JSON (RFC 8259): as tokens in their order, as data, and how they are
 -- read. Their names are this project's own.
 use Rattle.std.specs.Prelude.{◌≡◌, ℕ, Bool, true, false, List, [], ◌∷◌, ◌++◌, Result, Ok, Err}
-use Rattle.std.specs.Prelude.{Option, None, Some, option_and_then, option_map, codes, decimal, refl}
+use Rattle.std.specs.Prelude.{Option, None, Some, option_and_then, codes, decimal, refl}
 use Rattle.std.specs.Str.{is_utf8, chars}
 use lib.Utf8.{encode}
 use Rattle.hex.specs.Hex.{decode_of, encode_lower, encode_with}

@@ -6,3 +6,4 @@ pub mod JsonMembers
 pub mod JsonLines
 pub mod Sarif
 pub mod Laws
+pub mod Following

@@ -19,7 +19,7 @@ use Rattle.deb_base.specs.Codes.{name_of, number_of}
 use Rattle.deb_base.specs.Sentences.{rule_of}
 use Rattle.deb_base.specs.declared.code.Code.{Code}
 use Rattle.deb_base.specs.declared.code.Code.TheVariants as code
-use Rattle.deb_report.specs.Findings.{Finding, Told, no_paragraph, told}
+use Rattle.deb_report.specs.Findings.{Finding, Told, no_paragraph}
 use Rattle.deb_report.specs.JsonLines.{object_tokens}
 use Rattle.deb_report.specs.JsonMembers.{detail_tokens, number_at, number_or_zero, number_tokens}
 use Rattle.deb_report.specs.JsonMembers.{string_at, string_tokens, text_at, text_or_empty}
@@ -158,7 +158,8 @@ worked-result : sarif_result false no_paragraph
     ≡ codes ",{\"ruleId\":\"NoParagraph\",\"level\":\"error\",\"message\":{\"text\":"
     ++ codes "\"A file of this kind must contain exactly one paragraph (Debian Policy 5.3, 5.4).\"}"
     ++ codes ",\"locations\":[{\"physicalLocation\":{\"artifactLocation\":{\"uri\":"
-    ++ codes "\"50%25%2C%0A\"},\"region\":{\"startLine\":1}}}],\"properties\":{\"field\":null,\"reason\":null,\"place\":null}}"
+    ++ codes "\"50%25%2C%0A\"},\"region\":{\"startLine\":1}}}],"
+    ++ codes "\"properties\":{\"field\":null,\"reason\":null,\"place\":null}}"
 unfolding digits is_utf8 chars encode print_from escape_byte percent_encode percent_encode_byte
     should_percent_encode
 worked-result = refl

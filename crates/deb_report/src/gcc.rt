@@ -7,6 +7,7 @@ ghost use Rattle.deb_explain.specs.Paths.{shown_path};
 ghost use Rattle.deb_report.specs.Findings.{finding_of, wrong_of, IsMemoryOrWrite};
 ghost use Rattle.deb_report.specs.Gcc.{gcc_column, gcc_field, gcc_line, gcc_message};
 ghost use Rattle.deb_report.specs.Gcc.{gcc_place, gcc_reason, gcc_text, marked, word_after};
+ghost use Rattle.deb_report.specs.Following.{GccFollows};
 
 use crate::counted::write_counted;
 use crate::diagnostic::{Diagnostic, Wrong};
@@ -37,6 +38,10 @@ pub fn write_gcc<W: Sink>(
     ensures counts_failure { W.failures out.new ≡ write_failures_after (W.failures out.old) result }
     ensures fault_iff_write_failed { WriteFaultIffFailed (W.failures out.old) (W.failures out.new)
         result }
+    ensures unchanged { IfErr result (λ fault. fault ≡ Fault.Memory
+        → W.held out.new ≡ W.held out.old) }
+    ensures reads_back { GccFollows result (finding_of diagnostic.now) (W.held out.old)
+        (W.held out.new) }
 {
     let line = line_of(alloc, diagnostic)?;
     put_all(out, line.as_slice())

@@ -6,6 +6,7 @@ ghost use Rattle.deb_base.specs.Devices.{write_failures_after, Puts, WriteFaultI
 ghost use Rattle.deb_report.specs.Findings.{counted, finding_of};
 ghost use Rattle.deb_report.specs.Github.{command_byte, command_text, col_text};
 ghost use Rattle.deb_report.specs.Github.{github_line, title_text, place_text, keyed};
+ghost use Rattle.deb_report.specs.Following.{GithubFollows};
 
 use crate::counted::write_counted;
 use crate::diagnostic::Diagnostic;
@@ -28,6 +29,8 @@ pub fn write_github<W: Sink>(diagnostic: &Diagnostic<'_>, out: &mut W) -> Result
     ensures counts_failure { W.failures out.new ≡ write_failures_after (W.failures out.old) result }
     ensures fault_iff_write_failed { WriteFaultIffFailed (W.failures out.old) (W.failures out.new)
         result }
+    ensures reads_back { GithubFollows result (finding_of diagnostic.now) (W.held out.old)
+        (W.held out.new) }
 {
     write_body(diagnostic, out)?;
     put_all(out, b"\n")

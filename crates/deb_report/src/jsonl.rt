@@ -4,6 +4,7 @@ ghost use Rattle.std.specs.Prelude.{◌≡◌, ◌++◌, IfErr, IfOk, OnOk, code
 ghost use Rattle.json.specs.Print.{print};
 ghost use Rattle.deb_base.specs.Devices.{write_failures_after, Puts, WriteFaultIffFailed};
 ghost use Rattle.deb_report.specs.Findings.{finding_of, IsMemoryOrWrite};
+ghost use Rattle.deb_report.specs.Following.{JsonFollows};
 ghost use Rattle.deb_report.specs.JsonLines.{Accepted, Refused, accepted_tokens, code_tokens};
 ghost use Rattle.deb_report.specs.JsonLines.{entry_tokens, json_line, member_tokens, where_tokens};
 
@@ -33,6 +34,10 @@ pub fn write_jsonl<W: Sink>(
     ensures counts_failure { W.failures out.new ≡ write_failures_after (W.failures out.old) result }
     ensures fault_iff_write_failed { WriteFaultIffFailed (W.failures out.old) (W.failures out.new)
         result }
+    ensures unchanged { IfErr result (λ fault. fault ≡ Fault.Memory
+        → W.held out.new ≡ W.held out.old) }
+    ensures reads_back { JsonFollows result (Refused (finding_of diagnostic.now)) (W.held out.old)
+        (W.held out.new) }
 {
     let line = finding_line(alloc, diagnostic)?;
     put_all(out, line.as_slice())
@@ -58,6 +63,10 @@ pub fn write_accepted_jsonl<W: Sink>(
     ensures counts_failure { W.failures out.new ≡ write_failures_after (W.failures out.old) result }
     ensures fault_iff_write_failed { WriteFaultIffFailed (W.failures out.old) (W.failures out.new)
         result }
+    ensures unchanged { IfErr result (λ fault. fault ≡ Fault.Memory
+        → W.held out.new ≡ W.held out.old) }
+    ensures reads_back { JsonFollows result (Accepted path.now paragraphs) (W.held out.old)
+        (W.held out.new) }
 {
     let line = accepted_line(alloc, path, paragraphs)?;
     put_all(out, line.as_slice())

@@ -1,7 +1,12 @@
 //! Laws of what is written. Each function does nothing; its contract is the law.
 
+ghost use Rattle.std.specs.Prelude.{option_map};
+ghost use Rattle.deb_report.specs.Findings.{AreBytes, AreBytesIf, Fits, IsFinding, finding_of};
+ghost use Rattle.deb_report.specs.Findings.{wrong_of};
 ghost use Rattle.deb_report.specs.Laws.{GccReadsBack, GithubReadsBack, JsonReadsBack};
 ghost use Rattle.deb_report.specs.Laws.{SarifReadsBack};
+
+use crate::diagnostic::{Diagnostic, Wrong};
 
 /// The lines of gcc that are written of diagnostics are read as exactly those diagnostics.
 pub fn gcc_reads_back()
@@ -23,3 +28,50 @@ pub fn json_reads_back()
 pub fn sarif_reads_back()
     ensures { SarifReadsBack }
 {}
+
+/// Each diagnostic is one that these laws are about: its texts are bytes, and its numbers have 64
+/// bits.
+pub fn diagnostics_are_findings(diagnostic: &Diagnostic<'_>)
+    ensures { IsFinding (finding_of diagnostic.now) }
+{
+    let diagnostic = *diagnostic;
+    are_bytes(diagnostic.path);
+    are_bytes_if(diagnostic.field);
+    fits(Some(diagnostic.line));
+    fits(diagnostic.column);
+    wrong_fits(diagnostic.wrong);
+}
+
+fn wrong_fits(wrong: Option<Wrong<'_>>)
+    ensures reason { AreBytesIf (option_map (λ wrong. wrong.0) (option_map wrong_of wrong.entry)) }
+    ensures place { Fits (option_map (λ wrong. wrong.1) (option_map wrong_of wrong.entry)) }
+{
+    match wrong {
+        None => (),
+        Some(wrong) => are_bytes(wrong.reason),
+    }
+}
+
+fn are_bytes(text: &[u8])
+    ensures { AreBytes text.now }
+{
+    let _length = text.len();
+}
+
+fn are_bytes_if(text: Option<&[u8]>)
+    ensures { AreBytesIf (option_map (λ text. text.now) text.entry) }
+{
+    match text {
+        None => (),
+        Some(text) => are_bytes(text),
+    }
+}
+
+fn fits(n: Option<u64>)
+    ensures { Fits n }
+{
+    match n {
+        None => (),
+        Some(_) => (),
+    }
+}

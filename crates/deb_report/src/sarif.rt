@@ -8,6 +8,7 @@ ghost use Rattle.deb_base.specs.Codes.{name_of};
 ghost use Rattle.deb_base.specs.Devices.{write_failures_after, Puts, WriteFaultIffFailed};
 ghost use Rattle.deb_base.specs.Sentences.{rule_of};
 ghost use Rattle.deb_report.specs.Findings.{finding_of, IsMemoryOrWrite};
+ghost use Rattle.deb_report.specs.Following.{SarifBegins, SarifEnds, SarifFollows};
 ghost use Rattle.deb_report.specs.JsonLines.{object_tokens};
 ghost use Rattle.deb_report.specs.JsonMembers.{detail_tokens, number_tokens, string_tokens};
 ghost use Rattle.percent_encoding.specs.Percent.{percent_encode};
@@ -72,6 +73,9 @@ pub fn write_sarif_begin<W: Sink>(alloc: Global, out: &mut W) -> Result<(), Faul
     ensures counts_failure { W.failures out.new ≡ write_failures_after (W.failures out.old) result }
     ensures fault_iff_write_failed { WriteFaultIffFailed (W.failures out.old) (W.failures out.new)
         result }
+    ensures unchanged { IfErr result (λ fault. fault ≡ Fault.Memory
+        → W.held out.new ≡ W.held out.old) }
+    ensures begins { SarifBegins result (W.held out.old) (W.held out.new) }
 {
     let text = begin_text(alloc)?;
     put_all(out, text.as_slice())
@@ -98,6 +102,10 @@ pub fn write_sarif_result<W: Sink>(
     ensures counts_failure { W.failures out.new ≡ write_failures_after (W.failures out.old) result }
     ensures fault_iff_write_failed { WriteFaultIffFailed (W.failures out.old) (W.failures out.new)
         result }
+    ensures unchanged { IfErr result (λ fault. fault ≡ Fault.Memory
+        → W.held out.new ≡ W.held out.old) }
+    ensures follows { SarifFollows result first (finding_of diagnostic.now) (W.held out.old)
+        (W.held out.new) }
 {
     let text = result_text(alloc, first, diagnostic)?;
     put_all(out, text.as_slice())
@@ -114,6 +122,7 @@ pub fn write_sarif_end<W: Sink>(out: &mut W) -> Result<(), Fault>
     ensures counts_failure { W.failures out.new ≡ write_failures_after (W.failures out.old) result }
     ensures fault_iff_write_failed { WriteFaultIffFailed (W.failures out.old) (W.failures out.new)
         result }
+    ensures reads_back { SarifEnds result (W.held out.old) (W.held out.new) }
 {
     put_all(out, b"]}]}")
 }
