@@ -8,6 +8,8 @@
 //! - [`Explanation::write`] writes that in lines `key: value`.
 //! - [`explain_word`] finds what is wrong in a relation or a version from the command line, and
 //!   [`write_refused_word`] writes that in such lines.
+//! - [`reason_of`], [`place_of`] and [`wrong_spot`] return why a value is wrong, at which offset,
+//!   and at which line and column.
 //! - [`write_rule_of`] writes what a code means, in a sentence, and its usual cause.
 //!   [`write_path`] writes a path so that it can be shown in a line.
 //!
@@ -32,4 +34,5 @@ pub use cause::{Cause, Word, explain_word};
 pub use explained::{Explained, Explanation, RefusedField, Subject};
 pub use explaining::{explain, explain_all, explain_last, explain_refusal};
 pub use paths::{write_file_line, write_path};
-pub use writing::{write_refused_word, write_rule_of};
+pub use spot::Spot;
+pub use writing::{place_of, reason_of, write_refused_word, write_rule_of, wrong_spot};

@@ -213,8 +213,8 @@ fn write_place<W: Sink>(spot: Spot, cause: &Cause, out: &mut W) -> Result<(), Fa
     )
 }
 
-/// Where in the file a value is wrong that begins at a line and a column.
-fn wrong_spot(line: u64, column: usize, body: &[u8], cause: &Cause) -> Spot
+/// Returns where in the file a value is wrong whose body begins at this line and column.
+pub fn wrong_spot(line: u64, column: usize, body: &[u8], cause: &Cause) -> Spot
     ensures { result ≡ wrong_spot line column body.now cause.now }
 {
     let place = place_of(cause).min(body.len() as u128) as usize;
@@ -277,9 +277,9 @@ fn write_word_cause<W: Sink>(cause: &Cause, out: &mut W) -> Result<(), Fault>
     )
 }
 
-/// The offset of what is wrong in a body.
+/// Returns the offset of what is wrong in a body, or of the version whose fault has no offset.
 #[tactic(auto, unfolding(crate::specs::Texts::place_of, crate::specs::Texts::relation_place))]
-fn place_of(cause: &Cause) -> u128
+pub fn place_of(cause: &Cause) -> u128
     ensures { result ≡ place_of cause.now }
 {
     match cause {
@@ -308,9 +308,9 @@ fn place_within(fault: &BadVersion) -> usize
     }
 }
 
-/// Why a value is wrong, in a word: of a version in a relation, why that is none.
+/// Returns why a value is wrong, in a word; for a version in a relation, why that version is wrong.
 #[tactic(auto, unfolding(crate::specs::Texts::reason_of, crate::specs::Texts::relation_reason))]
-fn reason_of(cause: &Cause) -> &'static [u8]
+pub fn reason_of(cause: &Cause) -> &'static [u8]
     ensures { result.now ≡ reason_of cause.now }
 {
     match cause {
