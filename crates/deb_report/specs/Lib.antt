@@ -7,3 +7,4 @@ pub mod JsonLines
 pub mod Sarif
 pub mod Laws
 pub mod Following
+pub mod Diagnosing

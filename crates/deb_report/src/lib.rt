@@ -8,6 +8,7 @@
 #![tactic(auto)]
 
 mod counted;
+mod diagnosing;
 mod diagnostic;
 mod gcc;
 mod github;
@@ -16,6 +17,7 @@ mod jsonl;
 pub mod laws;
 mod sarif;
 
+pub use diagnosing::diagnose;
 pub use diagnostic::{Diagnostic, Wrong};
 pub use gcc::write_gcc;
 pub use github::write_github;
