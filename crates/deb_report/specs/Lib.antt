@@ -8,3 +8,4 @@ pub mod Sarif
 pub mod Laws
 pub mod Following
 pub mod Diagnosing
+pub mod Records
