@@ -5,4 +5,5 @@ pub mod GithubReading
 pub mod JsonReading
 pub mod JsonTrees
 pub mod Pushed
+pub mod Reported
 pub mod SarifReading

@@ -9,3 +9,4 @@ pub mod Laws
 pub mod Following
 pub mod Diagnosing
 pub mod Records
+pub mod Reports

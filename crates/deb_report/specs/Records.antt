@@ -1,13 +1,15 @@
 -- The records of diagnostics in each format, and what an output begins and ends with. The formats
 -- are those of the other pages of this folder.
-use Rattle.std.specs.Prelude.{◌≡◌, ◌==◌, ℕ, Bool, true, false, cond, List, [], ◌∷◌, ◌++◌, codes, refl}
+use Rattle.std.specs.Prelude.{◌≡◌, ◌==◌, ℕ, Bool, true, false, cond, List, [], ◌∷◌, ◌++◌, codes}
+use Rattle.std.specs.Prelude.{refl}
 use Rattle.deb_report.specs.Findings.{Finding, bad_version, no_paragraph}
 use Rattle.deb_report.specs.Gcc.{gcc_line}
 use Rattle.deb_report.specs.Github.{github_line}
 use Rattle.deb_report.specs.JsonLines.{Accepted, Refused, json_line}
 use Rattle.deb_report.specs.Sarif.{sarif_begin, sarif_end, sarif_result}
 use Rattle.deb_report.specs.declared.report_format.ReportFormat.{ReportFormat}
-use Rattle.deb_report.specs.declared.report_format.ReportFormat.TheVariants.{Gcc, Github, JsonLines, Sarif}
+use Rattle.deb_report.specs.declared.report_format.ReportFormat.TheVariants.{Gcc, Github}
+use Rattle.deb_report.specs.declared.report_format.ReportFormat.TheVariants.{JsonLines, Sarif}
 
 abbrev pub begin_text : ReportFormat → List ℕ
 begin_text Gcc = []

@@ -15,7 +15,9 @@ mod github;
 mod json_members;
 mod jsonl;
 pub mod laws;
+mod output;
 mod report_format;
+mod reporting;
 mod sarif;
 
 pub use diagnosing::diagnose;
@@ -23,5 +25,7 @@ pub use diagnostic::{Diagnostic, Wrong};
 pub use gcc::write_gcc;
 pub use github::write_github;
 pub use jsonl::{write_accepted_jsonl, write_jsonl};
+pub use output::Output;
 pub use report_format::{ReportFormat, write_accepted, write_begin, write_end, write_record};
+pub use reporting::report_all;
 pub use sarif::{write_sarif_begin, write_sarif_end, write_sarif_result};

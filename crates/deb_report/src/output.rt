@@ -1,0 +1,26 @@
+//! An output of records.
+
+ghost use Rattle.std.specs.Prelude.{◌≡◌};
+ghost use Rattle.deb_report.specs.Reports.{output_after};
+
+use crate::report_format::ReportFormat;
+
+/// An output of records: in which format, and whether it has one.
+#[derive(Clone, Copy, Debug, PartialEq, Eq)]
+pub struct Output {
+    pub format: ReportFormat,
+    /// Whether it has no record of a refusal. In SARIF the first one has no comma before it.
+    pub is_empty: bool,
+}
+
+impl Output {
+    /// Returns this output with the records of so many more refusals.
+    pub fn after(self, refused: u64) -> Output
+        ensures { result ≡ output_after self refused }
+    {
+        Output {
+            format: self.format,
+            is_empty: self.is_empty && refused == 0,
+        }
+    }
+}
