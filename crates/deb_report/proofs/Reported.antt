@@ -1,5 +1,5 @@
 -- The records that are written of a file, while its refusals are read.
-use Rattle.std.proofs.Common.{◌≡◌, ℕ, ◌==◌, ◌&&◌, Bool, true, false, ◌++◌, List, [], ◌∷◌, length, map, Option, Result, Ok, Err, refl, sym, ap, ◌∙◌, subst, append_assoc, append-nil}
+use Rattle.std.proofs.Common.{◌≡◌, ℕ, ◌==◌, ◌&&◌, Bool, true, false, ◌++◌, List, [], ◌∷◌, length, map, Option, Some, Result, Ok, Err, refl, sym, ap, ◌∙◌, subst, append_assoc, append-nil}
 use lib.Dec.{eqb-suc-zero}
 use Rattle.std.proofs.KnownBytes.{Appends-nil, Appends-trans}
 use Rattle.std.proofs.lemmas.List.{map-append}
@@ -13,18 +13,20 @@ use Rattle.deb_base.specs.declared.fault.Fault.{Fault}
 use Rattle.deb_base.specs.declared.fault.Fault.TheVariants.{Refused, Memory, Read, Write}
 use Rattle.deb_base.specs.declared.refusal.Refusal.{Refusal}
 use Rattle.deb_control.specs.AllRefusals.{passed_of, refusals_of}
-use Rattle.deb_control.specs.Calls.{IfCutOff, IfWriteFailed}
+use Rattle.deb_control.specs.Calls.{HasParagraphs, IfCutOff, IfWriteFailed}
 use Rattle.deb_control.specs.GivenRefusals.{AreFirst, GivesAll, GivesRefusal, HasGiven}
 use Rattle.deb_control.specs.SeenRefusals.{SeenRefusal, refusals_seen}
 use Rattle.deb_control.specs.declared.refusals.Refusals.{Refusals}
 use Rattle.deb_control.specs.declared.summary.Summary.{Summary}
 use Rattle.deb_control.proofs.WrittenRefusals.{write_failed}
-use Rattle.deb_explain.specs.Explanations.{why_refused}
+use Rattle.deb_explain.specs.Explanations.{explanation_of, why_refused}
+use Rattle.deb_explain.specs.Shown.{IfAccepted, IfRefused, shown_by}
+use Rattle.deb_explain.specs.declared.explained.Explained.{Explained}
 use Rattle.deb_report.specs.Diagnosing.{finding_why}
 use Rattle.deb_report.specs.Findings.{Finding, IsFinding, IsMemoryOrWrite}
 use Rattle.deb_report.specs.Following.{is_empty}
 use Rattle.deb_report.specs.Records.{closing_text, record_text, records_text}
-use Rattle.deb_report.specs.Reports.{HasReported, ReportsAll, ReportsFirst, ReportsNext, findings_of, findings_seen, output_after, report_text}
+use Rattle.deb_report.specs.Reports.{HasReported, ReportsAll, ReportsFirst, ReportsNext, ReportsPart, answer_text, findings_of, findings_seen, output_after, report_text}
 use Rattle.deb_report.specs.declared.output.Output.{Output}
 use Rattle.deb_report.specs.declared.report_format.ReportFormat.{ReportFormat}
 
@@ -160,3 +162,15 @@ module _ (output : Output) (path : List ℕ) (doc : Doc) (text : List ℕ) where
   failed_after r left old held Memory next = tt
   failed_after r left old held Read next = tt
   failed_after r left old held Write next = next
+
+-- ---- the first refusal alone
+
+pub answer_failed : (output : Output) (path : List ℕ) (doc : Doc) (text : List ℕ) (old new : Option (List ℕ)) (fault : Fault) (explained : Explained) → IfAccepted explained (HasParagraphs doc text) → IfRefused explained (λ explanation. explanation_of doc text ≡ Some (shown_by explanation)) → AppendsFront old new (answer_text output path explained) → IfWriteFailed {T = Explained} (Err fault) (ReportsPart output path doc text old new)
+answer_failed output path doc text old new (Refused refusal) explained accepted refused front = tt
+answer_failed output path doc text old new Memory explained accepted refused front = tt
+answer_failed output path doc text old new Read explained accepted refused front = tt
+answer_failed output path doc text old new Write explained accepted refused front = record {
+  explained = explained;
+  answer = record { accepted = accepted; refused = refused };
+  written = front;
+}

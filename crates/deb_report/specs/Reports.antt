@@ -15,16 +15,21 @@ use Rattle.deb_base.specs.declared.doc.Doc.TheVariants.{Packages}
 use Rattle.deb_base.specs.declared.fault.Fault.{Fault}
 use Rattle.deb_base.specs.declared.fault.Fault.TheVariants.{Refused, Memory, Read, Write}
 use Rattle.deb_control.specs.AllRefusals.{passed_of, refusals_of}
+use Rattle.deb_control.specs.Calls.{HasParagraphs}
 use Rattle.deb_control.specs.GivenRefusals.{AreFirst, GivesAll, HasGiven}
 use Rattle.deb_control.specs.SeenRefusals.{SeenRefusal}
 use Rattle.deb_control.specs.declared.refusals.Refusals.{Refusals}
 use Rattle.deb_control.specs.declared.summary.Summary.{Summary}
 use Rattle.deb_explain.specs.AllExplanations.{explanations_of}
-use Rattle.deb_explain.specs.Explanations.{why_refused}
+use Rattle.deb_explain.specs.Explanations.{explanation_of, why_refused}
+use Rattle.deb_explain.specs.Shown.{IfAccepted, IfRefused, shown_by}
+use Rattle.deb_explain.specs.declared.explained.Explained.{Explained}
+use Rattle.deb_explain.specs.declared.explained.Explained.TheVariants as answers
+use Rattle.deb_explain.specs.declared.explained.Subject.TheVariants.{Whole}
 use Rattle.deb_report.specs.Diagnosing.{finding_why}
 use Rattle.deb_report.specs.Findings.{Finding, IsFinding}
 use Rattle.deb_report.specs.JsonLines.{Accepted, json_line}
-use Rattle.deb_report.specs.Records.{closing_text, records_text}
+use Rattle.deb_report.specs.Records.{accepted_text, closing_text, record_text, records_text}
 use Rattle.deb_report.specs.Sarif.{sarif_result}
 use Rattle.deb_report.specs.declared.output.Output.{Output}
 use Rattle.deb_report.specs.declared.report_format.ReportFormat.TheVariants.{JsonLines, Sarif}
@@ -60,6 +65,35 @@ pub record ReportsFirst (output : Output) (path : List ℕ) (doc : Doc) (text : 
   pub all : findings_of path doc text ≡ first ++ more
   pub findings : All IsFinding first
   pub written : Appends old new (records_text output.format output.is_empty first)
+
+-- ---- the first refusal alone
+
+-- what is written of the answer for a file
+abbrev pub answer_text : Output → List ℕ → Explained → List ℕ
+answer_text output path (answers.Accepted n) = accepted_text output.format path n
+answer_text output path (answers.Refused explanation) =
+    record_text output.format output.is_empty (finding_why path (shown_by explanation))
+
+-- This is the answer for a file: that it is accepted, or why it is refused first.
+pub record IsAnswer (doc : Doc) (text : List ℕ) (explained : Explained) : Type 0 where
+  pub accepted : IfAccepted explained (HasParagraphs doc text)
+  pub refused : IfRefused explained
+      (λ explanation. explanation_of doc text ≡ Some (shown_by explanation))
+
+-- And exactly its record was written.
+pub record ReportsAnswer (output : Output) (path : List ℕ) (doc : Doc) (text : List ℕ)
+    (explained : Explained) (old new : Option (List ℕ)) : Type 0 where
+  pub answer : IsAnswer doc text explained
+  pub finding : IfRefused explained
+      (λ explanation. IsFinding (finding_why path (shown_by explanation)))
+  pub written : Appends old new (answer_text output path explained)
+
+-- A prefix of the record of the answer was written.
+pub record ReportsPart (output : Output) (path : List ℕ) (doc : Doc) (text : List ℕ)
+    (old new : Option (List ℕ)) : Type 0 where
+  pub explained : Explained
+  pub answer : IsAnswer doc text explained
+  pub written : AppendsFront old new (answer_text output path explained)
 
 -- ---- while the file is read
 
@@ -134,3 +168,12 @@ worked-reports : (report_text (record { format = Sarif; is_empty = true }) (code
     ≡ [] ++ json_line (Accepted (codes "a") 0))
 unfolding file_limit paragraph_limit is_utf8 chars encode kind_of kind_at known_row
 worked-reports = (refl, refl, refl)
+
+worked-answers : (answer_text (record { format = JsonLines; is_empty = true }) (codes "a")
+    (answers.Accepted 2) ≡ json_line (Accepted (codes "a") 2))
+    × (answer_text (record { format = Sarif; is_empty = false }) (codes "a")
+    (answers.Refused (record {
+      refusal = record { code = code.Comment; line = 4 };
+      subject = Whole;
+    })) ≡ sarif_result false (refused_at 4))
+worked-answers = (refl, refl)

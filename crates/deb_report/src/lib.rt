@@ -27,5 +27,5 @@ pub use github::write_github;
 pub use jsonl::{write_accepted_jsonl, write_jsonl};
 pub use output::Output;
 pub use report_format::{ReportFormat, write_accepted, write_begin, write_end, write_record};
-pub use reporting::report_all;
+pub use reporting::{report_all, report_first};
 pub use sarif::{write_sarif_begin, write_sarif_end, write_sarif_result};

@@ -7,19 +7,19 @@ ghost use Rattle.deb_base.specs.Reading.{TakesNoMore};
 ghost use Rattle.deb_control.specs.Calls.{IfCutOff, IfWriteFailed};
 ghost use Rattle.deb_control.specs.GivenRefusals.{HasGiven, failure_of};
 ghost use Rattle.deb_control.specs.WrittenRefusals.{IsNoRefusal};
-ghost use Rattle.deb_explain.specs.Shown.{shown_by};
+ghost use Rattle.deb_explain.specs.Shown.{IfRefused, shown_by};
 ghost use Rattle.deb_report.specs.Diagnosing.{finding_why};
 ghost use Rattle.deb_report.specs.Findings.{IsFinding, IsMemoryOrWrite};
 ghost use Rattle.deb_report.specs.Records.{closing_text, record_text};
 ghost use Rattle.deb_report.specs.Reports.{HasReported, ReportsAll, ReportsFirst, ReportsNext};
-ghost use Rattle.deb_report.specs.Reports.{report_text};
+ghost use Rattle.deb_report.specs.Reports.{ReportsAnswer, ReportsPart, answer_text, report_text};
 
 use crate::diagnosing::diagnose;
 use crate::output::Output;
 use crate::report_format::{ReportFormat, write_accepted, write_record};
 use deb_base::{Fault, Sink, Source};
 use deb_control::{Refusals, Summary};
-use deb_explain::{Explanation, explain_last};
+use deb_explain::{Explained, Explanation, explain, explain_last};
 use deb_field::Doc;
 use std::alloc::Global;
 
@@ -76,6 +76,76 @@ pub fn report_all<R: Source, W: Sink>(
     }
     // No file has so many runs of lines.
     Err(Fault::Memory)
+}
+
+/// Reads a file as a document of a kind up to its first refusal, and writes a record of that. If
+/// there is none, it writes the record of a file that is accepted, which only JSON has. Returns
+/// what `deb_explain::explain` returns (Debian Policy 5.1, 5.3 to 5.6 and 7.1).
+///
+/// What an output begins and ends with isn't written. Promises about the text of the file hold for
+/// a reader whose bytes are known.
+///
+/// # Errors
+///
+/// - `Fault::Memory`: a growth of memory was refused; `Fault::Read`: a read failed in this call.
+///   Nothing was written.
+/// - `Fault::Write`: a write failed in this call. A prefix of the record was written.
+pub fn report_first<R: Source, W: Sink>(
+    alloc: Global,
+    output: Output,
+    doc: Doc,
+    path: &[u8],
+    reader: &mut R,
+    writer: &mut W,
+) -> Result<Explained, Fault>
+    ensures ok { (text : List ℕ) → R.left reader.old ≡ Some text → IfOk result
+        (λ explained. ReportsAnswer output path.now doc text explained (W.held writer.old)
+        (W.held writer.new)) }
+    ensures write { (text : List ℕ) → R.left reader.old ≡ Some text → IfWriteFailed result
+        (ReportsPart output path.now doc text (W.held writer.old) (W.held writer.new)) }
+    ensures reads_at_most { (text : List ℕ) → R.left reader.old ≡ Some text
+        → TakesNoMore text file_limit (R.left reader.new) }
+
+    // Whether or not the reader's bytes are known.
+    ensures unchanged { IfCutOff result (W.held writer.new ≡ W.held writer.old) }
+    ensures fault { IfErr result IsNoRefusal }
+    ensures counts_read_failure { R.failures reader.new ≡ read_failures_after
+        (R.failures reader.old) result }
+    ensures counts_write_failure { W.failures writer.new ≡ write_failures_after
+        (W.failures writer.old) result }
+    ensures fault_iff_read_failed { ReadFaultIffFailed (R.failures reader.old)
+        (R.failures reader.new) result }
+    ensures fault_iff_write_failed { WriteFaultIffFailed (W.failures writer.old)
+        (W.failures writer.new) result }
+{
+    let explained = explain(alloc, doc, reader)?;
+    write_answer(alloc, output, path, &explained, writer)?;
+    Ok(explained)
+}
+
+/// Writes the record of what `explain` answers.
+fn write_answer<W: Sink>(
+    alloc: Global,
+    output: Output,
+    path: &[u8],
+    explained: &Explained,
+    out: &mut W,
+) -> Result<(), Fault>
+    ensures written { Puts (W.held out.old) (W.held out.new) result
+        (answer_text output path.now explained.now) }
+    ensures fault { IfErr result IsMemoryOrWrite }
+    ensures counts_failure { W.failures out.new ≡ write_failures_after (W.failures out.old) result }
+    ensures unchanged { IfErr result (λ fault. fault ≡ Fault.Memory
+        → W.held out.new ≡ W.held out.old) }
+    ensures is_finding { IfRefused explained.now
+        (λ explanation. IsFinding (finding_why path.now (shown_by explanation))) }
+{
+    match explained {
+        Explained::Accepted(paragraphs) => {
+            write_accepted(alloc, output.format, path, *paragraphs, out)
+        }
+        Explained::Refused(explanation) => write_explained(alloc, output, path, explanation, out),
+    }
 }
 
 /// Writes the record of the next refusal. Returns whether there is one.
