@@ -5,7 +5,7 @@ use Rattle.std.proofs.lemmas.Fmt.{decimal_is_IsNumeral}
 use Rattle.std.specs.Char.{digit_value}
 use Rattle.std.specs.List.{All, flat_map}
 use Rattle.std.specs.Str.Parse.{AllDigits, digits_value}
-use Rattle.deb_report.specs.Pieces.{after, before, onto, pieces}
+use Rattle.deb_report.specs.Pieces.{onto, pieces}
 
 -- no byte of the text is this one
 abbrev pub Lacks : ℕ → List ℕ → Type 0
@@ -53,14 +53,6 @@ pub last_cut : (mark x : ℕ) (a : List ℕ) → Lacks mark (x ∷ a) → pieces
 last_cut mark x [] p = ap (λ t. cond t ([] ∷ []) ((x ∷ []) ∷ [])) p.0
 last_cut mark x (y ∷ a) p =
     ap (λ t. cond t ([] ∷ pieces mark (y ∷ a)) (onto x (pieces mark (y ∷ a)))) p.0 ∙ ap (onto x) (last_cut mark y a p.1)
-
-pub before_cut : (mark : ℕ) (a b : List ℕ) → Lacks mark a → before mark (a ++ mark ∷ b) ≡ a
-before_cut mark [] b p = ap (λ t. cond t [] (mark ∷ before mark b)) (eq-eqb mark mark refl)
-before_cut mark (x ∷ a) b p = ap (λ t. cond t [] (x ∷ before mark (a ++ mark ∷ b))) p.0 ∙ ap (λ l. x ∷ l) (before_cut mark a b p.1)
-
-pub after_cut : (mark : ℕ) (a b : List ℕ) → Lacks mark a → after mark (a ++ mark ∷ b) ≡ b
-after_cut mark [] b p = ap (λ t. cond t b (after mark b)) (eq-eqb mark mark refl)
-after_cut mark (x ∷ a) b p = ap (λ t. cond t (a ++ mark ∷ b) (after mark (a ++ mark ∷ b))) p.0 ∙ after_cut mark a b p.1
 
 -- ---- lines
 

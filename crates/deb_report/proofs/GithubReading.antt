@@ -5,10 +5,10 @@ use Rattle.std.specs.Str.Parse.{digits_value}
 use Rattle.deb_base.specs.Codes.{name_of}
 use Rattle.deb_base.specs.Sentences.{rule_of}
 use Rattle.deb_report.specs.Findings.{Finding, Fits, IsFinding, Told, counted}
-use Rattle.deb_report.specs.Github.{command_byte, command_text, command_value, col_text, title_text, github_parts, place_text, github_read, github_told, keyed}
+use Rattle.deb_report.specs.Github.{after_colons, before_colons, begins_with, command_byte, command_text, command_value, col_text, title_text, github_parts, place_text, github_read, github_told, keyed}
 use Rattle.deb_report.specs.Laws.{GithubReadsBack}
-use Rattle.deb_report.specs.Pieces.{after, before, pieces}
-use Rattle.deb_report.proofs.Cutting.{Lacks, after_cut, before_cut, cut, decimal_read, lacks_both, lacks_clear, lacks_decimal, lacks_each, last_cut, lines_read}
+use Rattle.deb_report.specs.Pieces.{pieces}
+use Rattle.deb_report.proofs.Cutting.{Lacks, cut, decimal_read, lacks_both, lacks_clear, lacks_decimal, lacks_each, last_cut, lines_read}
 
 -- ---- a byte
 
@@ -73,6 +73,14 @@ text_read property (b ∷ bs) = byte_read property b (command_text property bs) 
 
 -- ---- a line
 
+before_cut : (a b : List ℕ) → Lacks 58 a → before_colons (a ++ 58 ∷ 58 ∷ b) ≡ a
+before_cut [] b p = refl
+before_cut (x ∷ a) b p = let rest = a ++ 58 ∷ 58 ∷ b in ap (λ t. cond (t && begins_with 58 rest) [] (x ∷ before_colons rest)) p.0 ∙ ap (λ l. x ∷ l) (before_cut a b p.1)
+
+after_cut : (a b : List ℕ) → Lacks 58 a → after_colons (a ++ 58 ∷ 58 ∷ b) ≡ b
+after_cut [] b p = refl
+after_cut (x ∷ a) b p = let rest = a ++ 58 ∷ 58 ∷ b in ap (λ t. cond (t && begins_with 58 rest) (drop 1 rest) (after_colons rest)) p.0 ∙ after_cut a b p.1
+
 module _ (P D N M : List ℕ) where
   -- the properties, without a column and with this one
   abbrev properties : List ℕ → List ℕ
@@ -125,9 +133,9 @@ module _ (P D N M : List ℕ) where
   parts_read : (column : List ℕ) → Lacks 58 P → Lacks 58 D → Lacks 58 column → Lacks 58 N → github_read (whole column) ≡ github_parts (pieces 44 (properties column)) M
   parts_read column p d c n =
       let lacks = lacks_colons column p d c n in
-      ap (λ l. github_parts (pieces 44 (before 58 l)) (drop 1 (after 58 l))) (split column)
-      ∙ ap (λ l. github_parts (pieces 44 l) (drop 1 (after 58 (properties column ++ 58 ∷ 58 ∷ M)))) (before_cut 58 (properties column) (58 ∷ M) lacks)
-      ∙ ap (λ l. github_parts (pieces 44 (properties column)) (drop 1 l)) (after_cut 58 (properties column) (58 ∷ M) lacks)
+      ap (λ l. github_parts (pieces 44 (before_colons l)) (after_colons l)) (split column)
+      ∙ ap (λ l. github_parts (pieces 44 l) (after_colons (properties column ++ 58 ∷ 58 ∷ M))) (before_cut (properties column) M lacks)
+      ∙ ap (github_parts (pieces 44 (properties column))) (after_cut (properties column) M lacks)
 
 abbrev told_by : List ℕ → ℕ → Option ℕ → List ℕ → List ℕ → Told
 told_by path line column name message = record { path = path; line = line; column = column; name = name; field = None; reason = Some message; place = None }

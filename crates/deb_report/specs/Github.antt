@@ -2,7 +2,7 @@
 -- "Setting an error message"): `::error file=PATH,line=LINE,col=COLUMN,title=NAME::SENTENCE`, and
 -- how such a line is read.
 use Rattle.std.specs.Prelude.{◌≡◌, ◌==◌, ◌&&◌, ℕ, Bool, true, false, cond, List, [], ◌∷◌, ◌++◌}
-use Rattle.std.specs.Prelude.{drop, Option, Some, None, codes, refl}
+use Rattle.std.specs.Prelude.{drop, length, Option, Some, None, codes, refl}
 use Rattle.std.specs.Fmt.{digits}
 use Rattle.std.specs.List.{flat_map, starts_with}
 use Rattle.std.specs.Option.{option_map}
@@ -10,7 +10,7 @@ use Rattle.std.specs.Str.Parse.{digits_value}
 use Rattle.deb_base.specs.Codes.{name_of}
 use Rattle.deb_base.specs.Sentences.{rule_of}
 use Rattle.deb_report.specs.Findings.{Finding, Told, bad_version, counted, no_paragraph}
-use Rattle.deb_report.specs.Pieces.{after, before, pieces}
+use Rattle.deb_report.specs.Pieces.{pieces}
 
 -- ---- the line
 
@@ -83,11 +83,11 @@ command_from property percent (b ∷ bs) =
 abbrev pub command_value : Bool → List ℕ → List ℕ
 command_value property = command_from property Outside
 
--- the value of the first property that is written after this key and its equals sign
+-- the value of the first property with this key, which ends in an equals sign
 abbrev pub property : List ℕ → List (List ℕ) → Option (List ℕ)
 property key [] = None
 property key (p ∷ ps) =
-    cond (starts_with (λ a b. a == b) p key) (Some (after 61 p)) (property key ps)
+    cond (starts_with (λ a b. a == b) p key) (Some (drop (length key) p)) (property key ps)
 
 abbrev pub text_of : Option (List ℕ) → List ℕ
 text_of None = []
@@ -110,11 +110,23 @@ github_parts properties message =
       place = None;
     }
 
--- after `::error ` the properties end at the next colon, of two
+-- what is before the first two colons, and after them
+abbrev pub begins_with : ℕ → List ℕ → Bool
+begins_with mark [] = false
+begins_with mark (b ∷ bs) = b == mark
+
+abbrev pub before_colons : List ℕ → List ℕ
+before_colons [] = []
+before_colons (b ∷ bs) = cond ((b == 58) && begins_with 58 bs) [] (b ∷ before_colons bs)
+
+abbrev pub after_colons : List ℕ → List ℕ
+after_colons [] = []
+after_colons (b ∷ bs) = cond ((b == 58) && begins_with 58 bs) (drop 1 bs) (after_colons bs)
+
+-- after `::error ` are the properties, and after the next two colons the message
 abbrev pub github_read : List ℕ → Told
 github_read line =
-    github_parts (pieces 44 (before 58 (drop 8 line)))
-    (drop 1 (after 58 (drop 8 line)))
+    github_parts (pieces 44 (before_colons (drop 8 line))) (after_colons (drop 8 line))
 
 -- what a line tells of a finding: the sentence of its code stands for a reason
 abbrev pub github_told : Finding → Told
@@ -168,3 +180,8 @@ worked-told : (github_told no_paragraph).reason
     ≡ Some (codes "A file of this kind must contain exactly one paragraph (Debian Policy 5.3, "
     ++ codes "5.4).")
 worked-told = refl
+
+worked-colons : (before_colons (codes "a:b::c::d") ≡ codes "a:b")
+    × (after_colons (codes "a:b::c::d") ≡ codes "c::d") × (before_colons (codes "a:") ≡ codes "a:")
+    × (after_colons (codes "a:") ≡ [])
+worked-colons = (refl, refl, refl, refl)

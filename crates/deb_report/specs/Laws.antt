@@ -1,5 +1,6 @@
--- What the output of each format tells: exactly the findings of which it was written, in their
--- order. No byte of a path or of a field adds a record, takes one away or changes one.
+-- What the output of each format tells: for each finding of which it was written exactly what this
+-- format has of it, in their order. No byte of a path, a field or a reason adds a record, takes one
+-- away or changes one.
 use Rattle.std.specs.Prelude.{◌≡◌, ◌<◌, ◌^◌, List, Some, map}
 use Rattle.std.specs.List.{All, flat_map}
 use Rattle.deb_report.specs.Findings.{AreBytes, Finding, IsFinding, told}

@@ -14,19 +14,6 @@ pieces mark (b ∷ bs) = cond (b == mark) ([] ∷ pieces mark bs) (onto b (piece
 abbrev pub lines_in : List ℕ → List (List ℕ)
 lines_in = pieces 10
 
--- what is before the first byte of this kind, and after it
-abbrev pub before : ℕ → List ℕ → List ℕ
-before mark [] = []
-before mark (b ∷ bs) = cond (b == mark) [] (b ∷ before mark bs)
-
-abbrev pub after : ℕ → List ℕ → List ℕ
-after mark [] = []
-after mark (b ∷ bs) = cond (b == mark) bs (after mark bs)
-
-worked-parts : (before 61 (codes "a=b=c") ≡ codes "a") × (after 61 (codes "a=b=c") ≡ codes "b=c")
-    × (before 61 (codes "a") ≡ codes "a") × (after 61 (codes "a") ≡ [])
-worked-parts = (refl, refl, refl, refl)
-
 worked-pieces : (lines_in (codes "a\n\nbc\n") ≡ codes "a" ∷ [] ∷ codes "bc" ∷ [])
     × (lines_in (codes "a\nb") ≡ codes "a" ∷ codes "b" ∷ [])
     × (pieces 44 (codes "a=1,b=2") ≡ codes "a=1" ∷ codes "b=2" ∷ [])

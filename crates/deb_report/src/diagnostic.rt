@@ -5,10 +5,13 @@ use deb_base::Code;
 /// Why a file is refused, and where. Lines and columns are counted from 1, in bytes.
 #[derive(Clone, Copy)]
 pub struct Diagnostic<'a> {
+    /// The path of the file, as bytes of any kind.
     pub path: &'a [u8],
+    /// The line that `deb_control::check` returns.
     pub line: u64,
     /// The column, if the refusal has one.
     pub column: Option<u64>,
+    /// The error code, which has a number, a name and a sentence.
     pub code: Code,
     /// The name of the field, as spelled in the file.
     pub field: Option<&'a [u8]>,

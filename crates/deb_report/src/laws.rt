@@ -8,23 +8,25 @@ ghost use Rattle.deb_report.specs.Laws.{SarifReadsBack};
 
 use crate::diagnostic::{Diagnostic, Wrong};
 
-/// The lines of gcc that are written of diagnostics are read as exactly those diagnostics.
+/// The lines of gcc that are written of diagnostics are read as exactly what such a line tells of
+/// each of them, in their order.
 pub fn gcc_reads_back()
     ensures { GccReadsBack }
 {}
 
-/// The workflow commands that are written of diagnostics are read as exactly those diagnostics.
+/// The workflow commands that are written of diagnostics are read as exactly what such a command
+/// tells of each of them, in their order.
 pub fn github_reads_back()
     ensures { GithubReadsBack }
 {}
 
 /// The lines of JSON that are written of diagnostics and of accepted files are read as exactly
-/// those.
+/// those, in their order.
 pub fn json_reads_back()
     ensures { JsonReadsBack }
 {}
 
-/// The document of SARIF that is written of diagnostics is read as exactly those diagnostics.
+/// The document of SARIF that is written of diagnostics is read as exactly those, in their order.
 pub fn sarif_reads_back()
     ensures { SarifReadsBack }
 {}

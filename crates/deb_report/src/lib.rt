@@ -1,9 +1,11 @@
 //! Writes why files of Debian control data are refused in forms that other programs read: as lines
 //! of gcc, as workflow commands of GitHub Actions, as lines of JSON and as SARIF.
 //!
+//! Start with `specs/Laws`: what is written of a list of diagnostics is read as exactly this list.
+//!
 //! ```text
-//! let diagnostic = Diagnostic { path: b"debian/control", line: 3, .. };
-//! write_gcc(&diagnostic, &mut out)?; // debian/control:3: error: NoColon [NoColon]
+//! let diagnostic = Diagnostic { path: b"debian/control", line: 3, code: Code::NoColon, .. };
+//! write_gcc(alloc, &diagnostic, &mut out)?; // debian/control:3: error: NoColon [NoColon]
 //! ```
 #![tactic(auto)]
 
