@@ -6,4 +6,5 @@ pub mod JsonReading
 pub mod JsonTrees
 pub mod Pushed
 pub mod Reported
+pub mod ReportReading
 pub mod SarifReading

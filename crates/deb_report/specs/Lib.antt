@@ -10,3 +10,4 @@ pub mod Following
 pub mod Diagnosing
 pub mod Records
 pub mod Reports
+pub mod ReportLaws

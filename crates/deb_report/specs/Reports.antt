@@ -128,7 +128,7 @@ ReportsNext output path doc text (Err Write) r left old held =
 
 -- ---- worked cases
 
-abbrev refused_at : ℕ → Finding
+abbrev pub refused_at : ℕ → Finding
 refused_at line =
     record {
       path = codes "a";

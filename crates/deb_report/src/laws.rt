@@ -3,8 +3,10 @@
 ghost use Rattle.std.specs.Prelude.{option_map};
 ghost use Rattle.deb_report.specs.Findings.{AreBytes, AreBytesIf, Fits, IsFinding, finding_of};
 ghost use Rattle.deb_report.specs.Findings.{wrong_of};
-ghost use Rattle.deb_report.specs.Laws.{GccReadsBack, GithubReadsBack, JsonReadsBack};
+ghost use Rattle.deb_report.specs.JsonLines.{Accepted};
+ghost use Rattle.deb_report.specs.Laws.{GccReadsBack, GithubReadsBack, IsEntry, JsonReadsBack};
 ghost use Rattle.deb_report.specs.Laws.{SarifReadsBack};
+ghost use Rattle.deb_report.specs.ReportLaws.{RecordsTellFile};
 
 use crate::diagnostic::{Diagnostic, Wrong};
 
@@ -30,6 +32,21 @@ pub fn json_reads_back()
 pub fn sarif_reads_back()
     ensures { SarifReadsBack }
 {}
+
+/// The records of a file are read as exactly where it is refused and why, in the order of its
+/// refusals, and in JSON also as that it is accepted.
+pub fn records_tell_file()
+    ensures { RecordsTellFile }
+{}
+
+/// A file that is accepted is one that these laws are about: its path is bytes, and the number of
+/// its paragraphs has 64 bits.
+pub fn accepted_files_are_entries(path: &[u8], paragraphs: u64)
+    ensures { IsEntry (Accepted path.now paragraphs) }
+{
+    are_bytes(path);
+    fits(Some(paragraphs));
+}
 
 /// Each diagnostic is one that these laws are about: its texts are bytes, and its numbers have 64
 /// bits.
