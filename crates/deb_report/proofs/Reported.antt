@@ -25,6 +25,8 @@ use Rattle.deb_explain.specs.declared.explained.Explained.{Explained}
 use Rattle.deb_report.specs.Diagnosing.{finding_why}
 use Rattle.deb_report.specs.Findings.{Finding, IsFinding, IsMemoryOrWrite}
 use Rattle.deb_report.specs.Following.{is_empty}
+use Rattle.deb_report.specs.JsonLines.{Accepted}
+use Rattle.deb_report.specs.Laws.{IsEntry}
 use Rattle.deb_report.specs.Records.{closing_text, record_text, records_text}
 use Rattle.deb_report.specs.Reports.{HasReported, ReportsAll, ReportsFirst, ReportsNext, ReportsPart, answer_text, findings_of, findings_seen, output_after, report_text}
 use Rattle.deb_report.specs.declared.output.Output.{Output}
@@ -127,11 +129,12 @@ module _ (output : Output) (path : List ℕ) (doc : Doc) (text : List ℕ) where
     whole : records has.done ++ closing ≡ report_text output path doc text
     whole = rw (has.given.passed, has.given.refused) (ap (λ done. records done ++ closing_text output.format path (passed_of doc text) (length (refusals_of doc text))) (sym has.given.seen))
 
-    pub reports_all : (writes : Option (List ℕ)) → Appends held writes closing → ReportsAll output path doc text r.summary old writes
-    reports_all writes written = record {
+    pub reports_all : (writes : Option (List ℕ)) → IsEntry (Accepted path r.summary.passed) → Appends held writes closing → ReportsAll output path doc text r.summary old writes
+    reports_all writes entry written = record {
       passed = has.given.passed;
       refused = has.given.refused;
       findings = subst (λ done. All IsFinding (findings_seen path doc done)) (sym has.given.seen) has.findings;
+      accepted = subst (λ n. IsEntry (Accepted path n)) has.given.passed entry;
       written = subst (Appends old writes) whole (Appends-trans old held writes (records has.done) closing has.written written);
     }
 

@@ -29,6 +29,7 @@ use Rattle.deb_explain.specs.declared.explained.Subject.TheVariants.{Whole}
 use Rattle.deb_report.specs.Diagnosing.{finding_why}
 use Rattle.deb_report.specs.Findings.{Finding, IsFinding}
 use Rattle.deb_report.specs.JsonLines.{Accepted, json_line}
+use Rattle.deb_report.specs.Laws.{IsEntry}
 use Rattle.deb_report.specs.Records.{accepted_text, closing_text, record_text, records_text}
 use Rattle.deb_report.specs.Sarif.{sarif_result}
 use Rattle.deb_report.specs.declared.output.Output.{Output}
@@ -49,12 +50,14 @@ report_text output path doc text =
     records_text output.format output.is_empty (findings_of path doc text)
     ++ closing_text output.format path (passed_of doc text) (length (refusals_of doc text))
 
--- Exactly that was written, and the summary has the counts of the file.
+-- Exactly that was written, and the summary has the counts of the file. So the records tell exactly
+-- its findings, by the law `RecordsTellFile`.
 pub record ReportsAll (output : Output) (path : List ℕ) (doc : Doc) (text : List ℕ)
     (summary : Summary) (old new : Option (List ℕ)) : Type 0 where
   pub passed : summary.passed ≡ passed_of doc text
   pub refused : summary.refused ≡ length (refusals_of doc text)
   pub findings : All IsFinding (findings_of path doc text)
+  pub accepted : IsEntry (Accepted path (passed_of doc text))
   pub written : Appends old new (report_text output path doc text)
 
 -- Exactly the records of its first refusals were written; others may follow.

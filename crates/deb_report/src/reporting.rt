@@ -10,11 +10,14 @@ ghost use Rattle.deb_control.specs.WrittenRefusals.{IsNoRefusal};
 ghost use Rattle.deb_explain.specs.Shown.{IfRefused, shown_by};
 ghost use Rattle.deb_report.specs.Diagnosing.{finding_why};
 ghost use Rattle.deb_report.specs.Findings.{IsFinding, IsMemoryOrWrite};
+ghost use Rattle.deb_report.specs.JsonLines.{Accepted};
+ghost use Rattle.deb_report.specs.Laws.{IsEntry};
 ghost use Rattle.deb_report.specs.Records.{closing_text, record_text};
 ghost use Rattle.deb_report.specs.Reports.{HasReported, ReportsAll, ReportsFirst, ReportsNext};
 ghost use Rattle.deb_report.specs.Reports.{ReportsAnswer, ReportsPart, answer_text, report_text};
 
 use crate::diagnosing::diagnose;
+use crate::laws::accepted_files_are_entries;
 use crate::output::Output;
 use crate::report_format::{ReportFormat, write_accepted, write_record};
 use deb_base::{Fault, Sink, Source};
@@ -218,7 +221,9 @@ fn write_closing<W: Sink>(
     ensures counts_failure { W.failures out.new ≡ write_failures_after (W.failures out.old) result }
     ensures unchanged { IfErr result (λ fault. fault ≡ Fault.Memory
         → W.held out.new ≡ W.held out.old) }
+    ensures is_entry { IsEntry (Accepted path.now summary.passed) }
 {
+    accepted_files_are_entries(path, summary.passed);
     if summary.refused == 0 {
         write_accepted(alloc, format, path, summary.passed, out)
     } else {

@@ -44,7 +44,7 @@ returns-in_err-write_closing-clause-reads_at_most g c = λ text left. c.report_n
 pub returns-then-not-branch-clause-ok : goal.returns-then-not-branch-clause-ok
 returns-then-not-branch-clause-ok g c = λ text left.
     let writes_next = rw c.if-not-branch.true at c.in_ok-report_next.ensures.writes_next in
-    rw c.summary-summary.ensures (reports_all c.args.output c.args.path.now c.args.doc text _ _ _ _ (writes_next c.args.doc text _ (c.loop.invariant.text text left)) _ (rw c.summary-summary.ensures at c.in_ok-write_closing.ensures.written))
+    rw c.summary-summary.ensures (reports_all c.args.output c.args.path.now c.args.doc text _ _ _ _ (writes_next c.args.doc text _ (c.loop.invariant.text text left)) _ (rw c.summary-summary.ensures at c.in_ok-write_closing.ensures.is_entry) (rw c.summary-summary.ensures at c.in_ok-write_closing.ensures.written))
 
 pub returns-then-not-branch-clause-reads_at_most : goal.returns-then-not-branch-clause-reads_at_most
 returns-then-not-branch-clause-reads_at_most g c = λ text left. c.report_next.ensures.reads_at_most c.args.doc text _ (c.loop.invariant.text text left)
