@@ -1,18 +1,18 @@
 -- The records of a file are read as its findings.
-use Rattle.std.proofs.Common.{◌≡◌, ℕ, ◌==◌, Bool, true, false, cond, ◌++◌, List, [], ◌∷◌, length, map, Some, refl, sym, ap, ◌∙◌, append_assoc, append-nil}
+use Rattle.std.proofs.Common.{◌≡◌, ℕ, ◌==◌, Bool, true, false, cond, ◌++◌, List, [], ◌∷◌, length, map, refl, sym, ap, ◌∙◌, append-nil}
 use Rattle.std.proofs.lemmas.List.Concat.{flat_map-append}
 use Rattle.std.proofs.lemmas.List.Elements.{All-append, All-cons, All-map, All-nil}
 use Rattle.std.specs.List.{All, flat_map}
 use Rattle.deb_base.specs.declared.doc.Doc.{Doc}
 use Rattle.deb_control.specs.AllRefusals.{passed_of, refusals_of}
-use Rattle.deb_report.specs.Findings.{Finding, IsFinding, told}
-use Rattle.deb_report.specs.Gcc.{gcc_line, gcc_read, gcc_told}
-use Rattle.deb_report.specs.Github.{github_line, github_read, github_told}
-use Rattle.deb_report.specs.JsonLines.{Accepted, Entry, Refused, entry_told, json_line, json_read}
+use Rattle.deb_report.specs.Findings.{Finding, IsFinding}
+use Rattle.deb_report.specs.Gcc.{gcc_line, gcc_read}
+use Rattle.deb_report.specs.Github.{github_line, github_read}
+use Rattle.deb_report.specs.JsonLines.{Accepted, Refused, json_line, json_read}
 use Rattle.deb_report.specs.Laws.{IsEntry}
 use Rattle.deb_report.specs.Pieces.{lines_in}
 use Rattle.deb_report.specs.Records.{closing_text, record_text, records_text}
-use Rattle.deb_report.specs.ReportLaws.{RecordsTellFile, TellsFile, entries_of, text_in}
+use Rattle.deb_report.specs.ReportLaws.{RecordsTellFile, entries_of, text_in}
 use Rattle.deb_report.specs.Reports.{findings_of}
 use Rattle.deb_report.specs.Sarif.{sarif_begin, sarif_end, sarif_read, sarif_results}
 use Rattle.deb_report.specs.declared.report_format.ReportFormat.TheVariants.{Gcc, Github, JsonLines, Sarif}

@@ -1,5 +1,5 @@
 -- The records that are written of a file, while its refusals are read.
-use Rattle.std.proofs.Common.{◌≡◌, ℕ, ◌==◌, ◌&&◌, Bool, true, false, ◌++◌, List, [], ◌∷◌, length, map, Option, Some, Result, Ok, Err, refl, sym, ap, ◌∙◌, subst, append_assoc, append-nil}
+use Rattle.std.proofs.Common.{◌≡◌, ℕ, ◌==◌, ◌&&◌, Bool, true, false, ◌++◌, List, [], ◌∷◌, length, map, Option, Some, Err, refl, sym, ap, ◌∙◌, subst, append_assoc, append-nil}
 use lib.Dec.{eqb-suc-zero}
 use Rattle.std.proofs.KnownBytes.{Appends-nil, Appends-trans}
 use Rattle.std.proofs.lemmas.List.{map-append}
@@ -28,7 +28,7 @@ use Rattle.deb_report.specs.Following.{is_empty}
 use Rattle.deb_report.specs.JsonLines.{Accepted}
 use Rattle.deb_report.specs.Laws.{IsEntry}
 use Rattle.deb_report.specs.Records.{closing_text, record_text, records_text}
-use Rattle.deb_report.specs.Reports.{HasReported, ReportsAll, ReportsFirst, ReportsNext, ReportsPart, answer_text, findings_of, findings_seen, output_after, report_text}
+use Rattle.deb_report.specs.Reports.{HasReported, ReportsAll, ReportsFirst, ReportsNext, ReportsPart, answer_text, findings_seen, output_after, report_text}
 use Rattle.deb_report.specs.declared.output.Output.{Output}
 use Rattle.deb_report.specs.declared.report_format.ReportFormat.{ReportFormat}
 

@@ -1,7 +1,7 @@
 -- What the records of a file tell, where they are read as their format is read: exactly where the
 -- file is refused, and why, in the order of its refusals. This project's own.
 use Rattle.std.specs.Prelude.{◌≡◌, ◌==◌, ℕ, Bool, true, cond, List, [], ◌∷◌, ◌++◌, length, map}
-use Rattle.std.specs.Prelude.{None, Some, codes, refl}
+use Rattle.std.specs.Prelude.{Some, codes, refl}
 use Rattle.std.specs.List.{All}
 use Rattle.std.specs.Str.{is_utf8, chars}
 use lib.Utf8.{encode}
