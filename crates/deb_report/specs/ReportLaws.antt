@@ -1,8 +1,8 @@
--- What the records of a file tell, where they are read as their format is read: exactly where the
--- file is refused, and why, in the order of its refusals. This project's own.
-use Rattle.std.specs.Prelude.{◌≡◌, ◌==◌, ℕ, Bool, true, cond, List, [], ◌∷◌, ◌++◌, length, map}
+-- What the records of files tell, where an output is read as its format is read: exactly where the
+-- files are refused, and why, in their order. This project's own.
+use Rattle.std.specs.Prelude.{◌≡◌, ◌==◌, ℕ, true, false, cond, List, [], ◌∷◌, ◌++◌, length, map}
 use Rattle.std.specs.Prelude.{Some, codes, refl}
-use Rattle.std.specs.List.{All}
+use Rattle.std.specs.List.{All, flat_map}
 use Rattle.std.specs.Str.{is_utf8, chars}
 use lib.Utf8.{encode}
 use Rattle.deb_base.specs.Bodies.{file_limit, paragraph_limit}
@@ -10,50 +10,89 @@ use Rattle.deb_base.specs.Kinds.{kind_at, kind_of, known_row}
 use Rattle.deb_base.specs.declared.doc.Doc.{Doc}
 use Rattle.deb_base.specs.declared.doc.Doc.TheVariants.{Packages}
 use Rattle.deb_control.specs.AllRefusals.{passed_of, refusals_of}
-use Rattle.deb_report.specs.Findings.{IsFinding, told}
+use Rattle.deb_report.specs.Findings.{Finding, IsFinding, told}
 use Rattle.deb_report.specs.Gcc.{gcc_read, gcc_told}
 use Rattle.deb_report.specs.Github.{github_read, github_told}
-use Rattle.deb_report.specs.JsonLines.{Accepted, Entry, Refused, entry_told, json_read}
+use Rattle.deb_report.specs.JsonLines.{Accepted, Entry, Refused, entry_told, json_line, json_read}
 use Rattle.deb_report.specs.Laws.{IsEntry}
 use Rattle.deb_report.specs.Pieces.{lines_in}
-use Rattle.deb_report.specs.Reports.{findings_of, refused_at, report_text}
-use Rattle.deb_report.specs.Sarif.{sarif_begin, sarif_end, sarif_read}
+use Rattle.deb_report.specs.Records.{begin_text, end_text}
+use Rattle.deb_report.specs.Reports.{findings_of, output_after, refused_at, report_text}
+use Rattle.deb_report.specs.Sarif.{sarif_begin, sarif_end, sarif_read, sarif_result}
+use Rattle.deb_report.specs.declared.output.Output.{Output}
 use Rattle.deb_report.specs.declared.report_format.ReportFormat.{ReportFormat}
 use Rattle.deb_report.specs.declared.report_format.ReportFormat.TheVariants.{Gcc, Github}
 use Rattle.deb_report.specs.declared.report_format.ReportFormat.TheVariants.{JsonLines, Sarif}
 
--- what is written of a file in an output of this format that has records, or has none
-abbrev pub text_in : ReportFormat → Bool → List ℕ → Doc → List ℕ → List ℕ
-text_in format empty path doc text =
-    report_text (record { format = format; is_empty = empty }) path doc text
+pub record File : Type 0 where
+  pub path : List ℕ
+  pub doc : Doc
+  pub text : List ℕ
 
--- what lines of JSON tell of a file: its findings, or that it is accepted
-abbrev pub entries_of : List ℕ → Doc → List ℕ → List Entry
-entries_of path doc text =
-    map Refused (findings_of path doc text)
-    ++ cond (length (refusals_of doc text) == 0) (Accepted path (passed_of doc text) ∷ []) []
+-- where files are refused, and why
+abbrev pub findings_in : List File → List Finding
+findings_in files = flat_map (λ file. findings_of file.path file.doc file.text) files
 
--- In each format the records of a file are read as what the format has of its findings; a document
--- of SARIF has them between its beginning and its end.
-pub record TellsFile (path : List ℕ) (doc : Doc) (text : List ℕ) : Type 0 where
-  pub gcc : (empty : Bool) → map gcc_read (lines_in (text_in Gcc empty path doc text))
-      ≡ map (λ f. Some (gcc_told f)) (findings_of path doc text)
-  pub github : (empty : Bool) → map github_read (lines_in (text_in Github empty path doc text))
-      ≡ map github_told (findings_of path doc text)
-  pub json : (empty : Bool) → map json_read (lines_in (text_in JsonLines empty path doc text))
-      ≡ map (λ e. Some (entry_told e)) (entries_of path doc text)
-  pub sarif : sarif_read (sarif_begin ++ (text_in Sarif true path doc text ++ sarif_end))
-      ≡ Some (map told (findings_of path doc text))
+-- the same with the files that are accepted
+abbrev pub entries_of : File → List Entry
+entries_of file =
+    map Refused (findings_of file.path file.doc file.text)
+    ++ cond (length (refusals_of file.doc file.text) == 0)
+    (Accepted file.path (passed_of file.doc file.text) ∷ []) []
 
--- The premises are what `ReportsAll` says of each file of which records are written.
-abbrev pub RecordsTellFile : Type 0
-RecordsTellFile =
-    (path : List ℕ) (doc : Doc) (text : List ℕ)
-    → All IsFinding (findings_of path doc text) → IsEntry (Accepted path (passed_of doc text))
-    → TellsFile path doc text
+abbrev pub entries_in : List File → List Entry
+entries_in files = flat_map entries_of files
 
-worked-entries : (entries_of (codes "a") Packages [] ≡ Accepted (codes "a") 0 ∷ [])
-    × (entries_of (codes "a") Packages (codes "# a\n") ≡ Refused (refused_at 1) ∷ [])
-    × (text_in Gcc true (codes "a") Packages [] ≡ [])
+-- what is written of files, one after the other
+abbrev pub reports_text : Output → List File → List ℕ
+reports_text output [] = []
+reports_text output (file ∷ files) =
+    report_text output file.path file.doc file.text
+    ++ reports_text (output_after output (length (refusals_of file.doc file.text))) files
+
+-- a whole output
+abbrev pub output_text : ReportFormat → List File → List ℕ
+output_text format files =
+    begin_text format
+    ++ (reports_text (record { format = format; is_empty = true }) files ++ end_text format)
+
+-- In each format the output is read as exactly what the format has of the findings.
+pub record TellsFiles (files : List File) : Type 0 where
+  pub gcc : map gcc_read (lines_in (output_text Gcc files))
+      ≡ map (λ f. Some (gcc_told f)) (findings_in files)
+  pub github : map github_read (lines_in (output_text Github files))
+      ≡ map github_told (findings_in files)
+  pub json : map json_read (lines_in (output_text JsonLines files))
+      ≡ map (λ e. Some (entry_told e)) (entries_in files)
+  pub sarif : sarif_read (output_text Sarif files) ≡ Some (map told (findings_in files))
+
+-- what `ReportsAll` says of each file of which the records were written
+pub record IsReported (file : File) : Type 0 where
+  pub findings : All IsFinding (findings_of file.path file.doc file.text)
+  pub accepted : IsEntry (Accepted file.path (passed_of file.doc file.text))
+
+abbrev pub OutputsTellFiles : Type 0
+OutputsTellFiles = (files : List File) → All IsReported files → TellsFiles files
+
+-- a file that is accepted, one that is refused, and another one
+abbrev some_files : List File
+some_files =
+    record { path = codes "a"; doc = Packages; text = [] }
+    ∷ record { path = codes "a"; doc = Packages; text = codes "# a\n" }
+    ∷ record { path = codes "a"; doc = Packages; text = codes "\n# b\n" } ∷ []
+
+worked-files : (findings_in some_files ≡ refused_at 1 ∷ refused_at 2 ∷ [])
+    × (entries_in some_files
+    ≡ Accepted (codes "a") 0 ∷ Refused (refused_at 1) ∷ Refused (refused_at 2) ∷ [])
 unfolding file_limit paragraph_limit is_utf8 chars encode kind_of kind_at known_row
-worked-entries = (refl, refl, refl)
+worked-files = (refl, refl)
+
+worked-outputs : (output_text Sarif some_files
+    ≡ sarif_begin ++ (([] ++ (((sarif_result true (refused_at 1) ++ []) ++ [])
+    ++ (((sarif_result false (refused_at 2) ++ []) ++ []) ++ []))) ++ sarif_end))
+    × (output_text JsonLines some_files
+    ≡ [] ++ ((([] ++ json_line (Accepted (codes "a") 0))
+    ++ (((json_line (Refused (refused_at 1)) ++ []) ++ [])
+    ++ (((json_line (Refused (refused_at 2)) ++ []) ++ []) ++ []))) ++ []))
+unfolding file_limit paragraph_limit is_utf8 chars encode kind_of kind_at known_row
+worked-outputs = (refl, refl)

@@ -50,8 +50,8 @@ report_text output path doc text =
     records_text output.format output.is_empty (findings_of path doc text)
     ++ closing_text output.format path (passed_of doc text) (length (refusals_of doc text))
 
--- Exactly that was written, and the summary has the counts of the file. So the records tell exactly
--- its findings, by the law `RecordsTellFile`.
+-- Exactly that was written, and the summary has the counts of the file. So an output of
+-- such records tells exactly its findings: the law `OutputsTellFiles`.
 pub record ReportsAll (output : Output) (path : List ℕ) (doc : Doc) (text : List ℕ)
     (summary : Summary) (old new : Option (List ℕ)) : Type 0 where
   pub passed : summary.passed ≡ passed_of doc text

@@ -6,7 +6,7 @@ ghost use Rattle.deb_report.specs.Findings.{wrong_of};
 ghost use Rattle.deb_report.specs.JsonLines.{Accepted};
 ghost use Rattle.deb_report.specs.Laws.{GccReadsBack, GithubReadsBack, IsEntry, JsonReadsBack};
 ghost use Rattle.deb_report.specs.Laws.{SarifReadsBack};
-ghost use Rattle.deb_report.specs.ReportLaws.{RecordsTellFile};
+ghost use Rattle.deb_report.specs.ReportLaws.{OutputsTellFiles};
 
 use crate::diagnostic::{Diagnostic, Wrong};
 
@@ -33,10 +33,10 @@ pub fn sarif_reads_back()
     ensures { SarifReadsBack }
 {}
 
-/// The records of a file are read as exactly where it is refused and why, in the order of its
-/// refusals, and in JSON also as that it is accepted.
-pub fn records_tell_file()
-    ensures { RecordsTellFile }
+/// An output of the records of files is read as exactly where these are refused and why, in their
+/// order, and in JSON also as which of them are accepted.
+pub fn outputs_tell_files()
+    ensures { OutputsTellFiles }
 {}
 
 /// A file that is accepted is one that these laws are about: its path is bytes, and the number of

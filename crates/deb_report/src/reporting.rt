@@ -2,7 +2,9 @@
 
 ghost use Rattle.std.specs.Prelude.{◌≡◌, ℕ, List, Option, Some, IfErr, IfOk, None};
 ghost use Rattle.deb_base.specs.Bodies.{file_limit};
-ghost use Rattle.deb_base.specs.Devices.{AppendsFront, Puts, read_failures_after, write_failures_after, ReadFaultIffFailed, WriteFaultIffFailed};
+ghost use Rattle.deb_base.specs.Devices.{AppendsFront, Puts, read_failures_after};
+ghost use Rattle.deb_base.specs.Devices.{write_failures_after, ReadFaultIffFailed};
+ghost use Rattle.deb_base.specs.Devices.{WriteFaultIffFailed};
 ghost use Rattle.deb_base.specs.Reading.{TakesNoMore};
 ghost use Rattle.deb_control.specs.Calls.{IfCutOff, IfWriteFailed};
 ghost use Rattle.deb_control.specs.GivenRefusals.{HasGiven, failure_of};
