@@ -2,7 +2,7 @@
 use Rattle.std.proofs.Common.{◌≡◌, ℕ, ◌==◌, ◌&&◌, Bool, true, false, ◌++◌, List, [], ◌∷◌, length, map, Option, Some, Err, refl, sym, ap, ◌∙◌, subst, append_assoc, append-nil}
 use lib.Dec.{eqb-suc-zero}
 use Rattle.std.proofs.KnownBytes.{Appends-nil, Appends-trans}
-use Rattle.std.proofs.lemmas.List.{map-append}
+use Rattle.std.proofs.lemmas.List.{length-map, map-append}
 use Rattle.std.proofs.lemmas.List.Elements.{All-nil, All-push}
 use Rattle.std.specs.Io.KnownBytes.{Appends}
 use Rattle.std.specs.List.{All}
@@ -18,6 +18,7 @@ use Rattle.deb_control.specs.GivenRefusals.{AreFirst, GivesAll, GivesRefusal, Ha
 use Rattle.deb_control.specs.SeenRefusals.{SeenRefusal, refusals_seen}
 use Rattle.deb_control.specs.declared.refusals.Refusals.{Refusals}
 use Rattle.deb_control.specs.declared.summary.Summary.{Summary}
+use Rattle.deb_control.proofs.SeenRefusals.{alone_are}
 use Rattle.deb_control.proofs.WrittenRefusals.{write_failed}
 use Rattle.deb_explain.specs.Explanations.{explanation_of, why_refused}
 use Rattle.deb_explain.specs.Shown.{IfAccepted, IfRefused, shown_by}
@@ -27,8 +28,8 @@ use Rattle.deb_report.specs.Findings.{Finding, IsFinding, IsMemoryOrWrite}
 use Rattle.deb_report.specs.Following.{is_empty}
 use Rattle.deb_report.specs.JsonLines.{Accepted}
 use Rattle.deb_report.specs.Laws.{IsEntry}
-use Rattle.deb_report.specs.Records.{closing_text, record_text, records_text}
-use Rattle.deb_report.specs.Reports.{HasReported, ReportsAll, ReportsFirst, ReportsNext, ReportsPart, answer_text, findings_seen, output_after, report_text}
+use Rattle.deb_report.specs.Records.{closing_text, output_after, part_text, record_text, records_text}
+use Rattle.deb_report.specs.Reports.{HasReported, ReportsAll, ReportsFirst, ReportsNext, ReportsPrefix, answer_part, findings_of, findings_seen, report_text}
 use Rattle.deb_report.specs.declared.output.Output.{Output}
 use Rattle.deb_report.specs.declared.report_format.ReportFormat.{ReportFormat}
 
@@ -70,6 +71,10 @@ module _ (output : Output) (path : List ℕ) (doc : Doc) (text : List ℕ) where
       ∙ ap (λ l. records done ++ l) (append-nil (record_text output.format (output.is_empty && is_empty (findings_seen path doc done)) (finding_why path (why_refused doc seen))))
       ∙ ap (λ b. records done ++ record_text output.format (output.is_empty && b) (finding_why path (why_refused doc seen))) (sym (ap (λ n. n == 0) counted ∙ none_seen path doc done))
 
+  -- there is one finding for each refusal
+  each_found : length (refusals_of doc text) ≡ length (findings_of path doc text)
+  each_found = ap length (sym (alone_are doc text)) ∙ length-map (refusals_seen doc text) (λ seen. seen.refusal) ∙ sym (length-map (refusals_seen doc text) (why_refused doc)) ∙ sym (length-map (map (why_refused doc) (refusals_seen doc text)) (finding_why path))
+
   -- nothing was given
   pub nothing_reported : (r : Refusals) (left held : Option (List ℕ)) → HasGiven doc text r left [] → HasReported output path doc (HasGiven doc text r left) held held
   nothing_reported r left held given = record { done = []; given = given; findings = All-nil IsFinding; written = Appends-nil held }
@@ -86,7 +91,7 @@ module _ (output : Output) (path : List ℕ) (doc : Doc) (text : List ℕ) where
   -- the records of the first refusals are the beginning of what is written of the file
   first_part : (done more : List SeenRefusal) (old held : Option (List ℕ)) → refusals_seen doc text ≡ done ++ more → AppendsFront old held (records done) → AppendsFront old held (report_text output path doc text)
   first_part done more old held all front =
-      let closing = closing_text output.format path (passed_of doc text) (length (refusals_of doc text)) in
+      let closing = closing_text output.format path (passed_of doc text) (length (findings_of path doc text)) in
       let rest = records_text output.format (output.is_empty && is_empty (findings_seen path doc done)) (findings_seen path doc more) in
       let split : records (refusals_seen doc text) ≡ records done ++ rest =
       ap records all ∙ ap (records_text output.format output.is_empty) (seen_append done more) ∙ records_split output.format output.is_empty (findings_seen path doc done) (findings_seen path doc more) in
@@ -126,16 +131,24 @@ module _ (output : Output) (path : List ℕ) (doc : Doc) (text : List ℕ) where
     abbrev closing : List ℕ
     closing = closing_text output.format path r.summary.passed r.summary.refused
 
+    counted : r.summary.refused ≡ length (findings_of path doc text)
+    counted = has.given.refused ∙ each_found
+
     whole : records has.done ++ closing ≡ report_text output path doc text
-    whole = rw (has.given.passed, has.given.refused) (ap (λ done. records done ++ closing_text output.format path (passed_of doc text) (length (refusals_of doc text))) (sym has.given.seen))
+    whole = rw (has.given.passed, counted) (ap (λ done. records done ++ closing_text output.format path (passed_of doc text) (length (findings_of path doc text))) (sym has.given.seen))
 
     pub reports_all : (writes : Option (List ℕ)) → IsEntry (Accepted path r.summary.passed) → Appends held writes closing → ReportsAll output path doc text r.summary old writes
     reports_all writes entry written = record {
       passed = has.given.passed;
       refused = has.given.refused;
-      findings = subst (λ done. All IsFinding (findings_seen path doc done)) (sym has.given.seen) has.findings;
-      accepted = subst (λ n. IsEntry (Accepted path n)) has.given.passed entry;
-      written = subst (Appends old writes) whole (Appends-trans old held writes (records has.done) closing has.written written);
+      counted = counted;
+      reports = record {
+        is_part = record {
+          findings = subst (λ done. All IsFinding (findings_seen path doc done)) (sym has.given.seen) has.findings;
+          accepted = subst (λ n. IsEntry (Accepted path n)) has.given.passed entry;
+        };
+        written = subst (Appends old writes) whole (Appends-trans old held writes (records has.done) closing has.written written);
+      };
     }
 
     all_failed : (writes : Option (List ℕ)) → AppendsFront held writes closing → AppendsFront old writes (report_text output path doc text)
@@ -168,7 +181,7 @@ module _ (output : Output) (path : List ℕ) (doc : Doc) (text : List ℕ) where
 
 -- ---- the first refusal alone
 
-pub answer_failed : (output : Output) (path : List ℕ) (doc : Doc) (text : List ℕ) (old new : Option (List ℕ)) (fault : Fault) (explained : Explained) → IfAccepted explained (HasParagraphs doc text) → IfRefused explained (λ explanation. explanation_of doc text ≡ Some (shown_by explanation)) → AppendsFront old new (answer_text output path explained) → IfWriteFailed {T = Explained} (Err fault) (ReportsPart output path doc text old new)
+pub answer_failed : (output : Output) (path : List ℕ) (doc : Doc) (text : List ℕ) (old new : Option (List ℕ)) (fault : Fault) (explained : Explained) → IfAccepted explained (HasParagraphs doc text) → IfRefused explained (λ explanation. explanation_of doc text ≡ Some (shown_by explanation)) → AppendsFront old new (part_text output (answer_part path explained)) → IfWriteFailed {T = Explained} (Err fault) (ReportsPrefix output path doc text old new)
 answer_failed output path doc text old new (Refused refusal) explained accepted refused front = tt
 answer_failed output path doc text old new Memory explained accepted refused front = tt
 answer_failed output path doc text old new Read explained accepted refused front = tt

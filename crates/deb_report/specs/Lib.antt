@@ -9,5 +9,5 @@ pub mod Laws
 pub mod Following
 pub mod Diagnosing
 pub mod Records
-pub mod Reports
 pub mod ReportLaws
+pub mod Reports

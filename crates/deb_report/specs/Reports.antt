@@ -1,6 +1,6 @@
 -- The findings of a file, and the records that are written of them. Debian Policy 5.1, 5.3 to 5.6
 -- and 7; the records are this project's own.
-use Rattle.std.specs.Prelude.{◌≡◌, ◌==◌, ◌&&◌, ℕ, Bool, true, false, List, [], ◌∷◌, ◌++◌, length}
+use Rattle.std.specs.Prelude.{◌≡◌, ℕ, Bool, true, false, List, [], ◌∷◌, ◌++◌, length}
 use Rattle.std.specs.Prelude.{map, Option, None, Some, Result, Ok, Err, codes, refl}
 use Rattle.std.specs.Io.KnownBytes.{Appends}
 use Rattle.std.specs.List.{All}
@@ -29,36 +29,37 @@ use Rattle.deb_explain.specs.declared.explained.Subject.TheVariants.{Whole}
 use Rattle.deb_report.specs.Diagnosing.{finding_why}
 use Rattle.deb_report.specs.Findings.{Finding, IsFinding}
 use Rattle.deb_report.specs.JsonLines.{Accepted, json_line}
-use Rattle.deb_report.specs.Laws.{IsEntry}
-use Rattle.deb_report.specs.Records.{accepted_text, closing_text, record_text, records_text}
+use Rattle.deb_report.specs.ReportLaws.{IsPart}
+use Rattle.deb_report.specs.Records.{Part, part_text, records_text}
 use Rattle.deb_report.specs.Sarif.{sarif_result}
 use Rattle.deb_report.specs.declared.output.Output.{Output}
 use Rattle.deb_report.specs.declared.report_format.ReportFormat.TheVariants.{JsonLines, Sarif}
-
--- an output with the records of so many more refusals
-abbrev pub output_after : Output → ℕ → Output
-output_after output refused =
-    record { format = output.format; is_empty = output.is_empty && (refused == 0) }
 
 -- Where a file of this path is refused, and why: once for each of its refusals, in their order.
 abbrev pub findings_of : List ℕ → Doc → List ℕ → List Finding
 findings_of path doc text = map (finding_why path) (explanations_of doc text)
 
--- What is written of it in an output.
-abbrev pub report_text : Output → List ℕ → Doc → List ℕ → List ℕ
-report_text output path doc text =
-    records_text output.format output.is_empty (findings_of path doc text)
-    ++ closing_text output.format path (passed_of doc text) (length (refusals_of doc text))
+-- what is reported of it
+abbrev pub file_part : List ℕ → Doc → List ℕ → Part
+file_part path doc text =
+    record { path = path; findings = findings_of path doc text; passed = passed_of doc text }
 
--- Exactly that was written, and the summary has the counts of the file. So an output of
--- such records tells exactly its findings: the law `OutputsTellFiles`.
+abbrev pub report_text : Output → List ℕ → Doc → List ℕ → List ℕ
+report_text output path doc text = part_text output (file_part path doc text)
+
+-- The records of this part were written, and outputs of such parts are read as these: the law
+-- `OutputsTellParts`.
+pub record Reports (output : Output) (part : Part) (old new : Option (List ℕ)) : Type 0 where
+  pub is_part : IsPart part
+  pub written : Appends old new (part_text output part)
+
+-- Exactly the records of a file were written, and the summary has its counts.
 pub record ReportsAll (output : Output) (path : List ℕ) (doc : Doc) (text : List ℕ)
     (summary : Summary) (old new : Option (List ℕ)) : Type 0 where
   pub passed : summary.passed ≡ passed_of doc text
   pub refused : summary.refused ≡ length (refusals_of doc text)
-  pub findings : All IsFinding (findings_of path doc text)
-  pub accepted : IsEntry (Accepted path (passed_of doc text))
-  pub written : Appends old new (report_text output path doc text)
+  pub counted : summary.refused ≡ length (findings_of path doc text)
+  pub reports : Reports output (file_part path doc text) old new
 
 -- Exactly the records of its first refusals were written; others may follow.
 pub record ReportsFirst (output : Output) (path : List ℕ) (doc : Doc) (text : List ℕ)
@@ -71,32 +72,34 @@ pub record ReportsFirst (output : Output) (path : List ℕ) (doc : Doc) (text : 
 
 -- ---- the first refusal alone
 
--- what is written of the answer for a file
-abbrev pub answer_text : Output → List ℕ → Explained → List ℕ
-answer_text output path (answers.Accepted n) = accepted_text output.format path n
-answer_text output path (answers.Refused explanation) =
-    record_text output.format output.is_empty (finding_why path (shown_by explanation))
-
 -- This is the answer for a file: that it is accepted, or why it is refused first.
 pub record IsAnswer (doc : Doc) (text : List ℕ) (explained : Explained) : Type 0 where
   pub accepted : IfAccepted explained (HasParagraphs doc text)
   pub refused : IfRefused explained
       (λ explanation. explanation_of doc text ≡ Some (shown_by explanation))
 
+-- what is reported of it
+abbrev pub answer_part : List ℕ → Explained → Part
+answer_part path (answers.Accepted n) = record { path = path; findings = []; passed = n }
+answer_part path (answers.Refused explanation) =
+    record {
+      path = path;
+      findings = finding_why path (shown_by explanation) ∷ [];
+      passed = 0;
+    }
+
 -- And exactly its record was written.
 pub record ReportsAnswer (output : Output) (path : List ℕ) (doc : Doc) (text : List ℕ)
     (explained : Explained) (old new : Option (List ℕ)) : Type 0 where
   pub answer : IsAnswer doc text explained
-  pub finding : IfRefused explained
-      (λ explanation. IsFinding (finding_why path (shown_by explanation)))
-  pub written : Appends old new (answer_text output path explained)
+  pub reports : Reports output (answer_part path explained) old new
 
 -- A prefix of the record of the answer was written.
-pub record ReportsPart (output : Output) (path : List ℕ) (doc : Doc) (text : List ℕ)
+pub record ReportsPrefix (output : Output) (path : List ℕ) (doc : Doc) (text : List ℕ)
     (old new : Option (List ℕ)) : Type 0 where
   pub explained : Explained
   pub answer : IsAnswer doc text explained
-  pub written : AppendsFront old new (answer_text output path explained)
+  pub written : AppendsFront old new (part_text output (answer_part path explained))
 
 -- ---- while the file is read
 
@@ -142,14 +145,6 @@ refused_at line =
       wrong = None;
     }
 
-worked-outputs : (output_after (record { format = Sarif; is_empty = true }) 0
-    ≡ record { format = Sarif; is_empty = true })
-    × (output_after (record { format = Sarif; is_empty = true }) 2
-    ≡ record { format = Sarif; is_empty = false })
-    × (output_after (record { format = Sarif; is_empty = false }) 0
-    ≡ record { format = Sarif; is_empty = false })
-worked-outputs = (refl, refl, refl)
-
 worked-findings : (findings_of (codes "a") Packages (codes "# a\n\n# b\n")
     ≡ refused_at 1 ∷ refused_at 3 ∷ [])
     × (findings_of (codes "a") Packages [] ≡ [])
@@ -172,11 +167,10 @@ worked-reports : (report_text (record { format = Sarif; is_empty = true }) (code
 unfolding file_limit paragraph_limit is_utf8 chars encode kind_of kind_at known_row
 worked-reports = (refl, refl, refl)
 
-worked-answers : (answer_text (record { format = JsonLines; is_empty = true }) (codes "a")
-    (answers.Accepted 2) ≡ json_line (Accepted (codes "a") 2))
-    × (answer_text (record { format = Sarif; is_empty = false }) (codes "a")
-    (answers.Refused (record {
+worked-answers : (answer_part (codes "a") (answers.Accepted 2)
+    ≡ record { path = codes "a"; findings = []; passed = 2 })
+    × (answer_part (codes "a") (answers.Refused (record {
       refusal = record { code = code.Comment; line = 4 };
       subject = Whole;
-    })) ≡ sarif_result false (refused_at 4))
+    })) ≡ record { path = codes "a"; findings = refused_at 4 ∷ []; passed = 0 })
 worked-answers = (refl, refl)

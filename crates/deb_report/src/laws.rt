@@ -6,7 +6,7 @@ ghost use Rattle.deb_report.specs.Findings.{wrong_of};
 ghost use Rattle.deb_report.specs.JsonLines.{Accepted};
 ghost use Rattle.deb_report.specs.Laws.{GccReadsBack, GithubReadsBack, IsEntry, JsonReadsBack};
 ghost use Rattle.deb_report.specs.Laws.{SarifReadsBack};
-ghost use Rattle.deb_report.specs.ReportLaws.{OutputsTellFiles};
+ghost use Rattle.deb_report.specs.ReportLaws.{OutputsTellParts};
 
 use crate::diagnostic::{Diagnostic, Wrong};
 
@@ -35,8 +35,8 @@ pub fn sarif_reads_back()
 
 /// An output of the records of files is read as exactly where these are refused and why, in their
 /// order, and in JSON also as which of them are accepted.
-pub fn outputs_tell_files()
-    ensures { OutputsTellFiles }
+pub fn outputs_tell_parts()
+    ensures { OutputsTellParts }
 {}
 
 /// A file that is accepted is one that these laws are about: its path is bytes, and the number of

@@ -1,7 +1,7 @@
 //! An output of records.
 
 ghost use Rattle.std.specs.Prelude.{◌≡◌};
-ghost use Rattle.deb_report.specs.Reports.{output_after};
+ghost use Rattle.deb_report.specs.Records.{output_after};
 
 use crate::report_format::ReportFormat;
 

@@ -9,14 +9,15 @@ ghost use Rattle.deb_base.specs.Reading.{TakesNoMore};
 ghost use Rattle.deb_control.specs.Calls.{IfCutOff, IfWriteFailed};
 ghost use Rattle.deb_control.specs.GivenRefusals.{HasGiven, failure_of};
 ghost use Rattle.deb_control.specs.WrittenRefusals.{IsNoRefusal};
-ghost use Rattle.deb_explain.specs.Shown.{IfRefused, shown_by};
+ghost use Rattle.deb_explain.specs.Shown.{shown_by};
 ghost use Rattle.deb_report.specs.Diagnosing.{finding_why};
 ghost use Rattle.deb_report.specs.Findings.{IsFinding, IsMemoryOrWrite};
 ghost use Rattle.deb_report.specs.JsonLines.{Accepted};
 ghost use Rattle.deb_report.specs.Laws.{IsEntry};
-ghost use Rattle.deb_report.specs.Records.{closing_text, record_text};
+ghost use Rattle.deb_report.specs.Records.{closing_text, part_text, record_text};
+ghost use Rattle.deb_report.specs.ReportLaws.{IsPart};
 ghost use Rattle.deb_report.specs.Reports.{HasReported, ReportsAll, ReportsFirst, ReportsNext};
-ghost use Rattle.deb_report.specs.Reports.{ReportsAnswer, ReportsPart, answer_text, report_text};
+ghost use Rattle.deb_report.specs.Reports.{ReportsAnswer, ReportsPrefix, answer_part, report_text};
 
 use crate::diagnosing::diagnose;
 use crate::laws::accepted_files_are_entries;
@@ -107,7 +108,7 @@ pub fn report_first<R: Source, W: Sink>(
         (λ explained. ReportsAnswer output path.now doc text explained (W.held writer.old)
         (W.held writer.new)) }
     ensures write { (text : List ℕ) → R.left reader.old ≡ Some text → IfWriteFailed result
-        (ReportsPart output path.now doc text (W.held writer.old) (W.held writer.new)) }
+        (ReportsPrefix output path.now doc text (W.held writer.old) (W.held writer.new)) }
     ensures reads_at_most { (text : List ℕ) → R.left reader.old ≡ Some text
         → TakesNoMore text file_limit (R.left reader.new) }
 
@@ -137,19 +138,22 @@ fn write_answer<W: Sink>(
     out: &mut W,
 ) -> Result<(), Fault>
     ensures written { Puts (W.held out.old) (W.held out.new) result
-        (answer_text output path.now explained.now) }
+        (part_text output (answer_part path.now explained.now)) }
     ensures fault { IfErr result IsMemoryOrWrite }
     ensures counts_failure { W.failures out.new ≡ write_failures_after (W.failures out.old) result }
     ensures unchanged { IfErr result (λ fault. fault ≡ Fault.Memory
         → W.held out.new ≡ W.held out.old) }
-    ensures is_finding { IfRefused explained.now
-        (λ explanation. IsFinding (finding_why path.now (shown_by explanation))) }
+    ensures is_part { IsPart (answer_part path.now explained.now) }
 {
     match explained {
         Explained::Accepted(paragraphs) => {
+            accepted_files_are_entries(path, *paragraphs);
             write_accepted(alloc, output.format, path, *paragraphs, out)
         }
-        Explained::Refused(explanation) => write_explained(alloc, output, path, explanation, out),
+        Explained::Refused(explanation) => {
+            accepted_files_are_entries(path, 0);
+            write_explained(alloc, output, path, explanation, out)
+        }
     }
 }
 

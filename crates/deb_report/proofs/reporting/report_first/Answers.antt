@@ -11,6 +11,5 @@ returns-in_err-write_answer-clause-write g c = λ text left.
 pub returns-clause-ok : goal.returns-clause-ok
 returns-clause-ok g c = λ text left. record {
   answer = record { accepted = c.in_ok-explained.ensures.accepted text left; refused = c.in_ok-explained.ensures.refused text left };
-  finding = c.in_ok-write_answer.ensures.is_finding;
-  written = c.in_ok-write_answer.ensures.written;
+  reports = record { is_part = c.in_ok-write_answer.ensures.is_part; written = c.in_ok-write_answer.ensures.written };
 }

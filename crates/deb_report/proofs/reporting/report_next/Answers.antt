@@ -7,8 +7,7 @@ use Rattle.deb_explain.specs.Shown.{shown_by}
 use Rattle.deb_explain.proofs.Explanations.{last_is}
 use Rattle.deb_report.specs.Diagnosing.{finding_why}
 use Rattle.deb_report.specs.Findings.{IsFinding}
-use Rattle.deb_report.specs.Records.{record_text}
-use Rattle.deb_report.specs.Reports.{output_after}
+use Rattle.deb_report.specs.Records.{output_after, record_text}
 use Rattle.deb_report.proofs.Reported.{failed_next, one_reported}
 use Rattle.deb_report.proofs.reporting.report_next.Goals as goal
 
