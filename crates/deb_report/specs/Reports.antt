@@ -39,7 +39,7 @@ use Rattle.deb_report.specs.declared.report_format.ReportFormat.TheVariants.{Jso
 abbrev pub findings_of : List ℕ → Doc → List ℕ → List Finding
 findings_of path doc text = map (finding_why path) (explanations_of doc text)
 
--- what is reported of it
+-- What is reported of such a file, and its records.
 abbrev pub file_part : List ℕ → Doc → List ℕ → Part
 file_part path doc text =
     record { path = path; findings = findings_of path doc text; passed = passed_of doc text }
@@ -78,7 +78,7 @@ pub record IsAnswer (doc : Doc) (text : List ℕ) (explained : Explained) : Type
   pub refused : IfRefused explained
       (λ explanation. explanation_of doc text ≡ Some (shown_by explanation))
 
--- what is reported of it
+-- what is reported of such a file
 abbrev pub answer_part : List ℕ → Explained → Part
 answer_part path (answers.Accepted n) = record { path = path; findings = []; passed = n }
 answer_part path (answers.Refused explanation) =

@@ -3,9 +3,14 @@
 //!
 //! Start with `specs/Laws`: what is written of a list of diagnostics is read as exactly this list.
 //!
+//! - [`report_all`] reads a file and writes a record for each refusal, [`report_first`] for the first
+//!   one. [`write_begin`] and [`write_end`] write what is around the records of all files.
+//! - [`diagnose`] makes a diagnostic of an explanation, and [`write_record`] writes it.
+//!
 //! ```text
-//! let diagnostic = Diagnostic { path: b"debian/control", line: 3, code: Code::NoColon, .. };
-//! write_gcc(alloc, &diagnostic, &mut out)?; // debian/control:3: error: NoColon [NoColon]
+//! let output = Output { format: ReportFormat::Gcc, is_empty: true };
+//! report_all(alloc, output, Doc::Any, b"debian/control", &mut file, &mut out)?;
+//! // debian/control:3: error: NoColon [NoColon]
 //! ```
 #![tactic(auto)]
 
