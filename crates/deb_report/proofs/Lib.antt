@@ -8,3 +8,4 @@ pub mod Pushed
 pub mod Reported
 pub mod ReportReading
 pub mod SarifReading
+pub mod Spots

@@ -1,5 +1,6 @@
 -- The diagnostic of an explanation: where a file is refused, and why. This project's own.
-use Rattle.std.specs.Prelude.{◌≡◌, ◌-◌, ◌^◌, ℕ, min, List, Option, Some, None, codes, refl}
+use Rattle.std.specs.Prelude.{◌≡◌, ◌+◌, ◌-◌, ◌^◌, ◌<◌, ℕ, min, List, Option, Some, None}
+use Rattle.std.specs.Prelude.{codes, length, refl}
 use Rattle.deb_base.specs.declared.code.Code.TheVariants as code
 use Rattle.deb_base.specs.declared.refusal.Refusal.{Refusal}
 use Rattle.deb_relation.specs.declared.fault.Reason.TheVariants as reason
@@ -67,6 +68,15 @@ finding_about path refusal (AboutField name column body why) =
 -- Why the file of this path is refused, and where.
 abbrev pub finding_why : List ℕ → WhyRefused → Finding
 finding_why path why = finding_about path why.refusal why.about
+
+-- No number of a spot is changed by `capped` if the line and the column, with the length of the
+-- value, are below 2^64.
+abbrev pub SpotsFit : Type 0
+SpotsFit =
+    (line column : ℕ) (body : List ℕ) (why : Cause)
+    → line + length body < 2 ^ 64 → column + length body < 2 ^ 64
+    → (capped (wrong_spot line column body why).line ≡ (wrong_spot line column body why).line)
+    × (capped (wrong_spot line column body why).column ≡ (wrong_spot line column body why).column)
 
 -- a version whose second byte is wrong, and a folded relation that stops in its second line
 worked-causes : (finding_why (codes "a") (record {

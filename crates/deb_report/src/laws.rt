@@ -1,6 +1,7 @@
 //! Laws of what is written. Each function does nothing; its contract is the law.
 
 ghost use Rattle.std.specs.Prelude.{option_map};
+ghost use Rattle.deb_report.specs.Diagnosing.{SpotsFit};
 ghost use Rattle.deb_report.specs.Findings.{AreBytes, AreBytesIf, Fits, IsFinding, finding_of};
 ghost use Rattle.deb_report.specs.Findings.{wrong_of};
 ghost use Rattle.deb_report.specs.JsonLines.{Accepted};
@@ -37,6 +38,12 @@ pub fn sarif_reads_back()
 /// order, and in JSON also as which of them are accepted.
 pub fn outputs_tell_parts()
     ensures { OutputsTellParts }
+{}
+
+/// The line and the column of an error in a value are left as they are where the value ends below
+/// 2^64.
+pub fn spots_fit()
+    ensures { SpotsFit }
 {}
 
 /// A file that is accepted is one that these laws are about: its path is bytes, and the number of
