@@ -30,7 +30,7 @@ use Rattle.deb_report.specs.JsonLines.{Accepted}
 use Rattle.deb_report.specs.Laws.{IsEntry}
 use Rattle.deb_report.specs.Records.{closing_text, output_after, part_text, record_text, records_text}
 use Rattle.deb_report.specs.Reports.{HasReported, ReportsAll, ReportsFirst, ReportsNext, ReportsPrefix, answer_part, findings_of, findings_seen, report_text}
-use Rattle.deb_report.specs.declared.output.Output.{Output}
+use Rattle.deb_report.specs.declared.report_output.ReportOutput.{ReportOutput}
 use Rattle.deb_report.specs.declared.report_format.ReportFormat.{ReportFormat}
 
 -- ---- records, and more of them
@@ -54,11 +54,11 @@ none_seen : (path : List ℕ) (doc : Doc) (done : List SeenRefusal) → (length 
 none_seen path doc [] = refl
 none_seen path doc (seen ∷ done) = eqb-suc-zero (length done)
 
-module _ (output : Output) (path : List ℕ) (doc : Doc) (text : List ℕ) where
+module _ (output : ReportOutput) (path : List ℕ) (doc : Doc) (text : List ℕ) where
   abbrev records : List SeenRefusal → List ℕ
   records done = records_text output.format output.is_empty (findings_seen path doc done)
 
-  abbrev record_of : Output → SeenRefusal → List ℕ
+  abbrev record_of : ReportOutput → SeenRefusal → List ℕ
   record_of here seen = record_text here.format here.is_empty (finding_why path (why_refused doc seen))
 
   seen_append : (done more : List SeenRefusal) → findings_seen path doc (done ++ more) ≡ findings_seen path doc done ++ findings_seen path doc more
@@ -181,7 +181,7 @@ module _ (output : Output) (path : List ℕ) (doc : Doc) (text : List ℕ) where
 
 -- ---- the first refusal alone
 
-pub answer_failed : (output : Output) (path : List ℕ) (doc : Doc) (text : List ℕ) (old new : Option (List ℕ)) (fault : Fault) (explained : Explained) → IfAccepted explained (HasParagraphs doc text) → IfRefused explained (λ explanation. explanation_of doc text ≡ Some (shown_by explanation)) → AppendsFront old new (part_text output (answer_part path explained)) → IfWriteFailed {T = Explained} (Err fault) (ReportsPrefix output path doc text old new)
+pub answer_failed : (output : ReportOutput) (path : List ℕ) (doc : Doc) (text : List ℕ) (old new : Option (List ℕ)) (fault : Fault) (explained : Explained) → IfAccepted explained (HasParagraphs doc text) → IfRefused explained (λ explanation. explanation_of doc text ≡ Some (shown_by explanation)) → AppendsFront old new (part_text output (answer_part path explained)) → IfWriteFailed {T = Explained} (Err fault) (ReportsPrefix output path doc text old new)
 answer_failed output path doc text old new (Refused refusal) explained accepted refused front = tt
 answer_failed output path doc text old new Memory explained accepted refused front = tt
 answer_failed output path doc text old new Read explained accepted refused front = tt

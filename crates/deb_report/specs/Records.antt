@@ -7,7 +7,7 @@ use Rattle.deb_report.specs.Gcc.{gcc_line}
 use Rattle.deb_report.specs.Github.{github_line}
 use Rattle.deb_report.specs.JsonLines.{Accepted, Refused, json_line}
 use Rattle.deb_report.specs.Sarif.{sarif_begin, sarif_end, sarif_result}
-use Rattle.deb_report.specs.declared.output.Output.{Output}
+use Rattle.deb_report.specs.declared.report_output.ReportOutput.{ReportOutput}
 use Rattle.deb_report.specs.declared.report_format.ReportFormat.{ReportFormat}
 use Rattle.deb_report.specs.declared.report_format.ReportFormat.TheVariants.{Gcc, Github}
 use Rattle.deb_report.specs.declared.report_format.ReportFormat.TheVariants.{JsonLines, Sarif}
@@ -55,18 +55,18 @@ pub record Part : Type 0 where
   pub passed : ℕ
 
 -- the records of it, in an output
-abbrev pub part_text : Output → Part → List ℕ
+abbrev pub part_text : ReportOutput → Part → List ℕ
 part_text output part =
     records_text output.format output.is_empty part.findings
     ++ closing_text output.format part.path part.passed (length part.findings)
 
 -- an output with the records of so many more refusals
-abbrev pub output_after : Output → ℕ → Output
+abbrev pub output_after : ReportOutput → ℕ → ReportOutput
 output_after output refused =
     record { format = output.format; is_empty = output.is_empty && (refused == 0) }
 
 -- of several files, one after the other
-abbrev pub parts_text : Output → List Part → List ℕ
+abbrev pub parts_text : ReportOutput → List Part → List ℕ
 parts_text output [] = []
 parts_text output (part ∷ parts) =
     part_text output part ++ parts_text (output_after output (length part.findings)) parts

@@ -32,7 +32,7 @@ use Rattle.deb_report.specs.JsonLines.{Accepted, json_line}
 use Rattle.deb_report.specs.ReportLaws.{IsPart}
 use Rattle.deb_report.specs.Records.{Part, part_text, records_text}
 use Rattle.deb_report.specs.Sarif.{sarif_result}
-use Rattle.deb_report.specs.declared.output.Output.{Output}
+use Rattle.deb_report.specs.declared.report_output.ReportOutput.{ReportOutput}
 use Rattle.deb_report.specs.declared.report_format.ReportFormat.TheVariants.{JsonLines, Sarif}
 
 -- Where a file of this path is refused, and why: once for each of its refusals, in their order.
@@ -44,17 +44,17 @@ abbrev pub file_part : List ℕ → Doc → List ℕ → Part
 file_part path doc text =
     record { path = path; findings = findings_of path doc text; passed = passed_of doc text }
 
-abbrev pub report_text : Output → List ℕ → Doc → List ℕ → List ℕ
+abbrev pub report_text : ReportOutput → List ℕ → Doc → List ℕ → List ℕ
 report_text output path doc text = part_text output (file_part path doc text)
 
 -- The records of this part were written, and outputs of such parts are read as these: the law
 -- `OutputsTellParts`.
-pub record Reports (output : Output) (part : Part) (old new : Option (List ℕ)) : Type 0 where
+pub record Reports (output : ReportOutput) (part : Part) (old new : Option (List ℕ)) : Type 0 where
   pub is_part : IsPart part
   pub written : Appends old new (part_text output part)
 
 -- Exactly the records of a file were written, and the summary has its counts.
-pub record ReportsAll (output : Output) (path : List ℕ) (doc : Doc) (text : List ℕ)
+pub record ReportsAll (output : ReportOutput) (path : List ℕ) (doc : Doc) (text : List ℕ)
     (summary : Summary) (old new : Option (List ℕ)) : Type 0 where
   pub passed : summary.passed ≡ passed_of doc text
   pub refused : summary.refused ≡ length (refusals_of doc text)
@@ -62,7 +62,7 @@ pub record ReportsAll (output : Output) (path : List ℕ) (doc : Doc) (text : Li
   pub reports : Reports output (file_part path doc text) old new
 
 -- Exactly the records of its first refusals were written; others may follow.
-pub record ReportsFirst (output : Output) (path : List ℕ) (doc : Doc) (text : List ℕ)
+pub record ReportsFirst (output : ReportOutput) (path : List ℕ) (doc : Doc) (text : List ℕ)
     (old new : Option (List ℕ)) : Type 0 where
   pub first : List Finding
   pub more : List Finding
@@ -89,13 +89,13 @@ answer_part path (answers.Refused explanation) =
     }
 
 -- And exactly its record was written.
-pub record ReportsAnswer (output : Output) (path : List ℕ) (doc : Doc) (text : List ℕ)
+pub record ReportsAnswer (output : ReportOutput) (path : List ℕ) (doc : Doc) (text : List ℕ)
     (explained : Explained) (old new : Option (List ℕ)) : Type 0 where
   pub answer : IsAnswer doc text explained
   pub reports : Reports output (answer_part path explained) old new
 
 -- A prefix of the record of the answer was written.
-pub record ReportsPrefix (output : Output) (path : List ℕ) (doc : Doc) (text : List ℕ)
+pub record ReportsPrefix (output : ReportOutput) (path : List ℕ) (doc : Doc) (text : List ℕ)
     (old new : Option (List ℕ)) : Type 0 where
   pub explained : Explained
   pub answer : IsAnswer doc text explained
@@ -108,7 +108,7 @@ abbrev pub findings_seen : List ℕ → Doc → List SeenRefusal → List Findin
 findings_seen path doc refusals = map (finding_why path) (map (why_refused doc) refusals)
 
 -- Exactly the records of refusals were written, of which this is known.
-pub record HasReported (output : Output) (path : List ℕ) (doc : Doc)
+pub record HasReported (output : ReportOutput) (path : List ℕ) (doc : Doc)
     (Given : List SeenRefusal → Type 0) (old held : Option (List ℕ)) : Type 0 where
   pub done : List SeenRefusal
   pub given : Given done
@@ -118,7 +118,7 @@ pub record HasReported (output : Output) (path : List ℕ) (doc : Doc)
 
 -- What an answer says of one refusal more: whether there is one, or which error came. The records
 -- of those that were given were written, of all, or of the first ones.
-abbrev pub ReportsNext : Output → List ℕ → Doc → List ℕ → Result Bool Fault → Refusals
+abbrev pub ReportsNext : ReportOutput → List ℕ → Doc → List ℕ → Result Bool Fault → Refusals
     → Option (List ℕ) → Option (List ℕ) → Option (List ℕ) → Type 0
 ReportsNext output path doc text (Ok true) r left old held =
     HasReported output path doc (HasGiven doc text r left) old held

@@ -3,12 +3,12 @@
 //!
 //! Start with `specs/Laws`: what is written of a list of diagnostics is read as exactly this list.
 //!
-//! - [`report_all`] reads a file and writes a record for each refusal, [`report_first`] for the first
-//!   one. [`write_begin`] and [`write_end`] write what is around the records of all files.
+//! - [`report_all`] reads a file and writes a record for each refusal, [`report_first`] for the
+//!   first one. [`write_begin`] and [`write_end`] write what is around the records of all files.
 //! - [`diagnose`] makes a diagnostic of an explanation, and [`write_record`] writes it.
 //!
 //! ```text
-//! let output = Output { format: ReportFormat::Gcc, is_empty: true };
+//! let output = ReportOutput { format: ReportFormat::Gcc, is_empty: true };
 //! report_all(alloc, output, Doc::Any, b"debian/control", &mut file, &mut out)?;
 //! // debian/control:3: error: NoColon [NoColon]
 //! ```
@@ -22,8 +22,8 @@ mod github;
 mod json_members;
 mod jsonl;
 pub mod laws;
-mod output;
 mod report_format;
+mod report_output;
 mod reporting;
 mod sarif;
 
@@ -32,7 +32,7 @@ pub use diagnostic::{Diagnostic, Wrong};
 pub use gcc::write_gcc;
 pub use github::write_github;
 pub use jsonl::{write_accepted_jsonl, write_jsonl};
-pub use output::Output;
 pub use report_format::{ReportFormat, write_accepted, write_begin, write_end, write_record};
+pub use report_output::ReportOutput;
 pub use reporting::{report_all, report_first};
 pub use sarif::{write_sarif_begin, write_sarif_end, write_sarif_result};

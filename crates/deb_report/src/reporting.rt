@@ -21,8 +21,8 @@ ghost use Rattle.deb_report.specs.Reports.{ReportsAnswer, ReportsPrefix, answer_
 
 use crate::diagnosing::diagnose;
 use crate::laws::accepted_files_are_entries;
-use crate::output::Output;
 use crate::report_format::{ReportFormat, write_accepted, write_record};
+use crate::report_output::ReportOutput;
 use deb_base::{Fault, Sink, Source};
 use deb_control::{Refusals, Summary};
 use deb_explain::{Explained, Explanation, explain, explain_last};
@@ -44,7 +44,7 @@ use std::alloc::Global;
 /// - `Fault::Write`: a write failed in this call. A prefix of the records was written.
 pub fn report_all<R: Source, W: Sink>(
     alloc: Global,
-    output: Output,
+    output: ReportOutput,
     doc: Doc,
     path: &[u8],
     reader: &mut R,
@@ -98,7 +98,7 @@ pub fn report_all<R: Source, W: Sink>(
 /// - `Fault::Write`: a write failed in this call. A prefix of the record was written.
 pub fn report_first<R: Source, W: Sink>(
     alloc: Global,
-    output: Output,
+    output: ReportOutput,
     doc: Doc,
     path: &[u8],
     reader: &mut R,
@@ -132,7 +132,7 @@ pub fn report_first<R: Source, W: Sink>(
 /// Writes the record of what `explain` answers.
 fn write_answer<W: Sink>(
     alloc: Global,
-    output: Output,
+    output: ReportOutput,
     path: &[u8],
     explained: &Explained,
     out: &mut W,
@@ -161,7 +161,7 @@ fn write_answer<W: Sink>(
 fn report_next<R: Source, W: Sink>(
     alloc: Global,
     refusals: &mut Refusals,
-    output: Output,
+    output: ReportOutput,
     path: &[u8],
     reader: &mut R,
     writer: &mut W,
@@ -196,7 +196,7 @@ fn report_next<R: Source, W: Sink>(
 /// Writes the record of an explanation.
 fn write_explained<W: Sink>(
     alloc: Global,
-    output: Output,
+    output: ReportOutput,
     path: &[u8],
     explanation: &Explanation,
     out: &mut W,
