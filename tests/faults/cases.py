@@ -189,7 +189,8 @@ def read_cases(folder):
         cases += Reading(path).read()
     if not cases:
         raise Malformed(f"{folder}: there is no file of cases")
-    long = [*many_fields(), *long_paragraph(), *many_groups(), *many_versions(), *many_choices()]
+    long = [*many_fields(), *long_paragraph(), *long_group(), *many_groups(), *many_versions()]
+    long += many_choices()
     several = [*several_writes(), *several_refusals(), *many_paragraphs(), *many_latest()]
     return [*cases, *long, *several, *lengths()]
 
@@ -222,6 +223,16 @@ def long_paragraph():
         Case("70,000 bytes", ["check"], files, "long", b"ok 2\n"),
         Case("70,000 bytes", ["normalise", "long"], files, None, written),
     ]
+
+
+def long_group():
+    """A group so long that a line of JSON has its alternatives in two chunks."""
+    name = b"x" * 70000
+    files = {"long": P3 + b"Depends: " + name + b" | bb\n"}
+    group = b'[{"name":"%s"},{"name":"bb"}]' % name
+    written = b'{"line":1,"fields":{"Architecture":"all","Depends":[%s],"Package":"aa"' % group
+    written += b',"Version":{"canonical":"1","spelled":"1"}}}\n'
+    return [Case("70,000 bytes", ["select", "--format", "jsonl", "long"], files, None, written)]
 
 
 def several_writes():

@@ -36,3 +36,4 @@ pub mod FirstLines
 pub mod PlainBytes
 pub mod NamesInTexts
 pub mod RelationPieces
+pub mod GroupChunks

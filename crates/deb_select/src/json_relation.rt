@@ -24,11 +24,13 @@ use deb_field::{Canon, RelationField};
 use deb_relation::{Alternative, Group, Op, Relation};
 use deb_version::Version;
 use json::Writer;
+use memchr::memchr;
 use std::alloc::{AllocError, Global};
 
 /// The most bytes of canonical text for which all groups of a relation are read at once, which is
-/// faster. Those of a longer one are read one at a time, since short groups take more than 20 bytes
-/// of memory for each byte of text.
+/// faster. Those of a longer one are read one at a time, and a longer group in chunks of its
+/// alternatives, since short groups and alternatives take more than 20 bytes of memory for each
+/// byte of text.
 const LONG: u64 = 65_536;
 
 /// Writes a relation as an array of its groups.
@@ -151,18 +153,71 @@ fn put_only_group(alloc: Global, out: &mut Writer, piece: &[u8]) -> Result<(), A
         × (out.new.tokens ≡ out.old.tokens ++ group_tokens group)) }
     ensures before { OnOk result (out.new.before ≡ out.old.before) }
 {
-    let Ok(relation) = Relation::parse(alloc, piece) else {
+    out.begin_array()?;
+    put_chunks(alloc, out, piece)?;
+    out.end_array()
+}
+
+/// Writes the alternatives of the one group that a piece is the canonical text of. A long piece is
+/// read in chunks, each when the one before it has been written.
+fn put_chunks(alloc: Global, out: &mut Writer, piece: &[u8]) -> Result<(), AllocError>
+    ensures tokens { OnOk result ((group : GroupMeaning) × IsRegularGroup group
+        × (group_text group ≡ piece.now)
+        × (out.new.tokens ≡ out.old.tokens ++ flat_map alternative_tokens group)) }
+    ensures before { OnOk result (out.new.before ≡ out.old.before) }
+{
+    let mut rest = piece;
+    while let Some((chunk, behind)) = cut_chunk(rest) {
+        put_chunk(alloc, out, chunk)?;
+        rest = behind;
+    }
+    put_chunk(alloc, out, rest)
+}
+
+/// Cuts a text at the first bar after its first `LONG` bytes: returns what comes before the bar and
+/// its spaces, and what follows them. Returns `None` if there is no such bar.
+fn cut_chunk(text: &[u8]) -> Option<(&[u8], &[u8])>
+    ensures { IfSome result
+        (λ cut. text.now ≡ cut.0.now ++ (codes " | " ++ cut.1.now)) }
+{
+    let (first, bar) = text.split_at(chunk_len(text));
+    match (first, bar) {
+        ([chunk @ .., b' '], [b'|', b' ', behind @ ..]) => Some((chunk, behind)),
+        _ => None,
+    }
+}
+
+/// Returns how many bytes come before the first bar after the first `LONG` bytes. Without such a
+/// bar, these are `LONG` bytes, or all of a shorter text.
+fn chunk_len(text: &[u8]) -> usize
+    ensures { result ≤ length text.now }
+{
+    let len = text.len().min(LONG as usize);
+    match memchr(b'|', &text[len..]) {
+        Some(more) => len + more,
+        None => len,
+    }
+}
+
+/// Writes the alternatives of the one group that a text is the canonical text of.
+fn put_chunk(alloc: Global, out: &mut Writer, text: &[u8]) -> Result<(), AllocError>
+    ensures tokens { OnOk result ((group : GroupMeaning) × IsRegularGroup group
+        × (group_text group ≡ text.now)
+        × (out.new.tokens ≡ out.old.tokens ++ flat_map alternative_tokens group)) }
+    ensures before { OnOk result (out.new.before ≡ out.old.before) }
+{
+    let Ok(relation) = Relation::parse(alloc, text) else {
         return Err(AllocError);
     };
     let [group] = relation.groups() else {
         return Err(AllocError);
     };
-    let mut text = Vec::with_capacity(alloc, piece.len())?;
-    group.canon_into(&mut text)?;
-    if text.as_slice() != piece {
+    let mut canonical = Vec::with_capacity(alloc, text.len())?;
+    group.canon_into(&mut canonical)?;
+    if canonical.as_slice() != text {
         return Err(AllocError);
     }
-    put_group(alloc, out, group)
+    put_alternatives(alloc, out, group.alternatives())
 }
 
 /// Writes groups.

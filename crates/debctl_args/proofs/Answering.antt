@@ -15,7 +15,7 @@ use Rattle.clap.specs.declared.error.kind.ErrorKind.{ErrorKind}
 use Rattle.clap.specs.declared.error.kind.ErrorKind.TheVariants.{OutOfMemory}
 use Rattle.debctl_args.specs.Commands.{debctl_app}
 use Rattle.debctl_args.specs.Requests.{Request, request_of}
-use Rattle.debctl_args.specs.Asked.{Asked, all_for_of_sources, all_sources_of_packages, asked_in, asked_of, asks, asks_help, unknown_kind, unknown_operator, unknown_command, unknown_code, standard_input_twice, explain_takes_one, paths_or_list, relation_or_file, no_names, no_relations, no_recommends, no_status, kind_of_path, count_alone, other_format, table_of_fields, fields_of_jsonl, strict_of_table, no_field_name, other_by, other_kind, other_latest_kind, reads_twice, index_of_packages, profiles_of_packages, only_or_witness, sources_recommend, names_of_sources, index_and_path, no_number, no_budget, first_or_whole}
+use Rattle.debctl_args.specs.Asked.{Asked, all_for_of_sources, all_sources_of_packages, asked_in, asked_of, asks, asks_help, unknown_kind, unknown_operator, unknown_command, unknown_code, standard_input_twice, explain_takes_one, paths_or_list, relation_or_file, no_names, no_relations, no_recommends, no_status, kind_of_path, count_alone, other_format, table_of_fields, fields_of_jsonl, strict_of_table, no_field_name, other_by, other_kind, other_latest_kind, reads_twice, index_of_packages, profiles_of_packages, only_or_witness, sources_recommend, names_of_sources, index_and_path, no_number, no_budget, first_or_whole, other_report_form, null_of_lines}
 use Rattle.debctl_args.specs.Fitting.{has_mistake, has_request, is_request_kind, Answers, AreMistakes, AreRequests, AnswersMet, MeansError, FitsKind}
 use Rattle.debctl_args.specs.declared.jobs.Task.{Task}
 use Rattle.debctl_args.specs.declared.arguments.UsageFault.{UsageFault}
@@ -91,6 +91,8 @@ asked_is_met (Some asked) request (Err (Usage text)) answers is = go asked answe
     go no_number answers is = cc
     go no_budget answers is = cc
     go first_or_whole answers is = cc
+    go other_report_form answers is = cc
+    go null_of_lines answers is = cc
 asked_is_met (Some asked) request (Err (Help text)) answers is = cc
 asked_is_met (Some asked) request (Err Memory) answers is = refl
 

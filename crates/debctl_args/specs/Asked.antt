@@ -21,12 +21,13 @@ use Rattle.debctl_args.specs.declared.jobs.LatestKind.{LatestKind}
 use Rattle.debctl_args.specs.declared.jobs.LatestKind.TheVariants as latest
 use Rattle.debctl_args.specs.declared.jobs.LineEnd.{LineEnd}
 use Rattle.debctl_args.specs.declared.jobs.Members.{Members}
+use Rattle.debctl_args.specs.declared.jobs.ReportForm.{ReportForm}
 use Rattle.debctl_args.specs.declared.jobs.SelectForm.{SelectForm}
 use Rattle.debctl_args.specs.declared.jobs.SourceKind.{SourceKind}
 use Rattle.debctl_args.specs.declared.jobs.SourceKind.TheVariants as sources
 use Rattle.debctl_args.specs.declared.jobs.SourcesTried.{SourcesTried}
 use Rattle.debctl_args.specs.declared.jobs.Strength.{Strength}
-use Rattle.debctl_args.specs.AskedWords.{kind_asked, operator_named, code_named, least_asked, budget_asked, comma_pieces, pieces_asked, flag_asked, extent_asked, end_asked, detail_asked, members_asked, versions_asked, diff_detail_asked, strength_asked, tried_asked, by_asked, form_asked, is_empty, is_jsonl, is_table, on_refusal_asked, picks_asked, texts_asked}
+use Rattle.debctl_args.specs.AskedWords.{kind_asked, operator_named, code_named, least_asked, budget_asked, comma_pieces, pieces_asked, flag_asked, extent_asked, end_asked, detail_asked, members_asked, versions_asked, diff_detail_asked, strength_asked, tried_asked, by_asked, form_asked, is_empty, is_jsonl, is_lines, is_table, on_refusal_asked, picks_asked, report_form_asked, texts_asked}
 
 -- ---- what is asked
 
@@ -69,6 +70,8 @@ pub data Asked : Type 0 where
   no_number : Asked
   no_budget : Asked
   first_or_whole : Asked
+  other_report_form : Asked
+  null_of_lines : Asked
 
 -- a word that a command has to have; `clap` refuses words without it
 abbrev pub word_in : Text → List Row → Text
@@ -79,26 +82,33 @@ word_in id rows = unwrap_or (first_of id rows) []
 abbrev pub members_in : List Row → Members
 members_in rows = members_asked (flag_asked (first_of (codes "installed") rows))
 
--- `check`, `normalise`, and `explain` of a file
+-- `normalise`
 abbrev pub document_asked : (Doc → Wanted) → List Row → Asked
 document_asked wanted rows = option_map_or
     (λ kind. asks (record
     { wanted = wanted kind; first = first_of (codes "path") rows; second = None }))
     (kind_asked (first_of (codes "kind") rows)) unknown_kind
 
+-- what is asked in the form of reports that a word names, if it is known
+abbrev pub in_report_form : List Row → (ReportForm → Asked) → Asked
+in_report_form rows asked =
+    option_map_or asked (report_form_asked (first_of (codes "format") rows)) other_report_form
+
 -- something is demanded of an accepted file
 abbrev pub is_demanding : Demands → Bool
 is_demanding demands = demands.complete || nat_lt 0 demands.least
 
--- what `check` wants of a file of some kind: every refusal, or one that meets the demands
-abbrev pub checks_to : Extent → Demands → Doc → Option Wanted
-checks_to First demands kind =
-    if is_demanding demands then Some (checks_whole kind demands) else Some (checks kind)
-checks_to All demands kind = if is_demanding demands then None else Some (checks_all kind)
+-- what `check` wants of a file of some kind, in some form: every refusal, or one that meets the
+-- demands
+abbrev pub checks_to : Extent → Demands → ReportForm → Doc → Option Wanted
+checks_to First demands form kind =
+    if is_demanding demands then Some (checks_whole kind demands form) else Some (checks kind form)
+checks_to All demands form kind =
+    if is_demanding demands then None else Some (checks_all kind form)
 
--- what `explain` wants of a file
+-- what `explain` wants of a file, in some form
 
-abbrev pub explains_to : Extent → Doc → Wanted
+abbrev pub explains_to : Extent → Doc → ReportForm → Wanted
 explains_to First = explains
 explains_to All = explains_all
 
@@ -107,14 +117,18 @@ abbrev pub demands_asked : List Row → ℕ → Demands
 demands_asked rows least =
     record { complete = flag_asked (first_of (codes "complete") rows); least = least }
 
--- `check` of a file of this kind
-abbrev pub check_of_kind : List Row → Doc → Asked
-check_of_kind rows kind = option_map_or
-    (λ least. option_map_or
+-- `check` of a file of this kind with these demands, in this form
+abbrev pub check_in_form : List Row → Doc → Demands → ReportForm → Asked
+check_in_form rows kind demands form = option_map_or
     (λ wanted. asks (record
     { wanted = wanted; first = first_of (codes "path") rows; second = None }))
-    (checks_to (extent_asked (flag_asked (first_of (codes "all") rows)))
-    (demands_asked rows least) kind) first_or_whole)
+    (checks_to (extent_asked (flag_asked (first_of (codes "all") rows))) demands form kind)
+    first_or_whole
+
+-- the same, with the words for the demands and the form
+abbrev pub check_of_kind : List Row → Doc → Asked
+check_of_kind rows kind = option_map_or
+    (λ least. in_report_form rows (check_in_form rows kind (demands_asked rows least)))
     (least_asked (first_of (codes "least") rows)) no_number
 
 -- `check`
@@ -169,10 +183,11 @@ abbrev pub diff_asked : List Row → Asked
 diff_asked rows =
     option_map_or (diff_of_kind rows) (kind_asked (first_of (codes "kind") rows)) unknown_kind
 
--- `--all` or a path is given: `explain` reads a file
+-- `--all`, `--format` or a path is given: `explain` reads a file
 abbrev pub reads_file : List Row → Bool
 reads_file rows =
-    flag_asked (first_of (codes "all") rows) || is_some (first_of (codes "path") rows)
+    flag_asked (first_of (codes "all") rows) || is_some (first_of (codes "format") rows)
+    || is_some (first_of (codes "path") rows)
 
 -- the same, or a kind is given: the words of `explain` are about a kind of file
 abbrev pub names_file : List Row → Bool
@@ -209,10 +224,19 @@ rule_asked rows word =
     (λ code. asks (wants (explains_rule code)))
     (code_named word) unknown_code
 
--- `explain` of a file
+-- `explain` of a file of this kind, in this form
+abbrev pub explain_in_form : List Row → Doc → ReportForm → Asked
+explain_in_form rows kind form =
+    asks (record {
+      wanted = explains_to (extent_asked (flag_asked (first_of (codes "all") rows))) kind form;
+      first = first_of (codes "path") rows;
+      second = None;
+    })
+
+-- the same, with the words for the kind and the form
 abbrev pub file_explained : List Row → Asked
-file_explained rows =
-    document_asked (explains_to (extent_asked (flag_asked (first_of (codes "all") rows)))) rows
+file_explained rows = option_map_or (λ kind. in_report_form rows (explain_in_form rows kind))
+    (kind_asked (first_of (codes "kind") rows)) unknown_kind
 
 -- `explain`, of a relation, of a version, of a condition or of a file
 abbrev pub text_asked : List Row → Asked
@@ -239,23 +263,29 @@ abbrev pub has_standard_input_twice : Audited → Bool
 has_standard_input_twice (paths given) = is_standard_input_twice given
 has_standard_input_twice (listed path) = false
 
--- an audit of files of this kind, with these of their refusals, this end of each record and these
--- demands
-abbrev pub files_asked : Extent → LineEnd → Option Audited → Demands → Doc → Asked
-files_asked extent end None demands kind = paths_or_list
-files_asked extent end (Some audited) demands kind =
+-- an audit of files of this kind, with these of their refusals, this end of each record, these
+-- demands and this form
+abbrev pub files_asked : Extent → LineEnd → Option Audited → Demands → ReportForm → Doc → Asked
+files_asked extent end None demands form kind = paths_or_list
+files_asked extent end (Some audited) demands form kind =
     if has_standard_input_twice audited then standard_input_twice
-    else asks (wants (audits kind audited extent end demands))
+    else asks (wants (audits kind audited extent end demands form))
 
--- `audit` of files of this kind
-abbrev pub audit_of_kind : List Row → Doc → Asked
-audit_of_kind rows kind = option_map_or
-    (λ least. if flag_asked (first_of (codes "all") rows)
-    && is_demanding (demands_asked rows least) then first_or_whole
+-- `audit` of files of this kind with these demands, in this form: only a record of lines ends with
+-- a byte 0
+abbrev pub audit_in_form : List Row → Doc → Demands → ReportForm → Asked
+audit_in_form rows kind demands form =
+    if flag_asked (first_of (codes "all") rows) && is_demanding demands then first_or_whole
+    else if flag_asked (first_of (codes "null") rows) && not (is_lines form) then null_of_lines
     else files_asked (extent_asked (flag_asked (first_of (codes "all") rows)))
     (end_asked (flag_asked (first_of (codes "null") rows)))
     (audited_by (all_of (codes "path") rows) (first_of (codes "files0-from") rows))
-    (demands_asked rows least) kind)
+    demands form kind
+
+-- the same, with the words for the demands and the form
+abbrev pub audit_of_kind : List Row → Doc → Asked
+audit_of_kind rows kind = option_map_or
+    (λ least. in_report_form rows (audit_in_form rows kind (demands_asked rows least)))
     (least_asked (first_of (codes "least") rows)) no_number
 
 -- `audit`

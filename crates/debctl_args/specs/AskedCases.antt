@@ -17,13 +17,14 @@ use Rattle.debctl_args.specs.declared.jobs.DiffDetail.{DiffDetail}
 use Rattle.debctl_args.specs.declared.jobs.DiffDetail.TheVariants.{Fields, Values}
 use Rattle.debctl_args.specs.declared.jobs.DiffKind.{DiffKind}
 use Rattle.debctl_args.specs.declared.jobs.DiffKind.TheVariants as diffed
+use Rattle.debctl_args.specs.declared.jobs.ReportForm.TheVariants.{Lines}
 
 -- the program's name, and the arguments after it
 abbrev line : List Text → List Text
 line words = codes "debctl" ∷ words
 
 check_alone : asked_of (line (codes "check" ∷ []))
-    ≡ Some (asks (record { wanted = checks Packages; first = None; second = None }))
+    ≡ Some (asks (record { wanted = checks Packages Lines; first = None; second = None }))
 unfolding clap_on_literals kind_asked
 check_alone = refl
 
@@ -33,12 +34,12 @@ unfolding clap_on_literals kind_asked
 kind_and_path = refl
 
 index_of_sources : asked_of (line (codes "check" ∷ codes "--kind" ∷ codes "sources" ∷ []))
-    ≡ Some (asks (record { wanted = checks Sources; first = None; second = None }))
+    ≡ Some (asks (record { wanted = checks Sources Lines; first = None; second = None }))
 unfolding clap_on_literals kind_asked
 index_of_sources = refl
 
 status_file : asked_of (line (codes "check" ∷ codes "-k" ∷ codes "status" ∷ codes "x" ∷ []))
-    ≡ Some (asks (record { wanted = checks Status; first = Some (codes "x"); second = None }))
+    ≡ Some (asks (record { wanted = checks Status Lines; first = Some (codes "x"); second = None }))
 unfolding clap_on_literals kind_asked
 status_file = refl
 
@@ -54,7 +55,11 @@ any_control_data = refl
 
 check_all : asked_of
     (line (codes "check" ∷ codes "--all" ∷ codes "--kind" ∷ codes "any" ∷ codes "x" ∷ []))
-    ≡ Some (asks (record { wanted = checks_all Any; first = Some (codes "x"); second = None }))
+    ≡ Some (asks (record {
+      wanted = checks_all Any Lines;
+      first = Some (codes "x");
+      second = None;
+    }))
 unfolding clap_on_literals kind_asked
 check_all = refl
 
@@ -62,16 +67,24 @@ check_all = refl
 ways_to_check_all : map (λ words. asked_of (line (codes "check" ∷ words)))
     ((codes "--all" ∷ []) ∷ (codes "-ksource" ∷ codes "-" ∷ codes "--all" ∷ [])
     ∷ (codes "--all" ∷ codes "--kind=foo" ∷ []) ∷ [])
-    ≡ Some (asks (record { wanted = checks_all Packages; first = None; second = None }))
-    ∷ Some (asks (record { wanted = checks_all Source; first = Some (codes "-"); second = None }))
+    ≡ Some (asks (record { wanted = checks_all Packages Lines; first = None; second = None }))
+    ∷ Some (asks (record {
+      wanted = checks_all Source Lines;
+      first = Some (codes "-");
+      second = None;
+    }))
     ∷ Some unknown_kind ∷ []
 unfolding clap_on_literals kind_asked
 ways_to_check_all = refl
 
 short_all : map (λ words. asked_of (line (codes "check" ∷ words)))
     ((codes "-a" ∷ []) ∷ (codes "-aksource" ∷ codes "x" ∷ []) ∷ [])
-    ≡ Some (asks (record { wanted = checks_all Packages; first = None; second = None }))
-    ∷ Some (asks (record { wanted = checks_all Source; first = Some (codes "x"); second = None }))
+    ≡ Some (asks (record { wanted = checks_all Packages Lines; first = None; second = None }))
+    ∷ Some (asks (record {
+      wanted = checks_all Source Lines;
+      first = Some (codes "x");
+      second = None;
+    }))
     ∷ []
 unfolding clap_on_literals kind_asked
 short_all = refl
@@ -82,7 +95,7 @@ short_all = refl
 abbrev demands : Bool → ℕ → Option Asked
 demands complete least =
     Some (asks (record {
-      wanted = checks_whole Packages (record { complete = complete; least = least });
+      wanted = checks_whole Packages (record { complete = complete; least = least }) Lines;
       first = None;
       second = None;
     }))
@@ -97,8 +110,8 @@ demands_of_check = refl
 -- 0 demands nothing
 least_of_nothing : map (λ words. asked_of (line (codes "check" ∷ words)))
     ((codes "--least=0" ∷ []) ∷ (codes "--least" ∷ codes "0" ∷ codes "-a" ∷ []) ∷ [])
-    ≡ Some (asks (record { wanted = checks Packages; first = None; second = None }))
-    ∷ Some (asks (record { wanted = checks_all Packages; first = None; second = None })) ∷ []
+    ≡ Some (asks (record { wanted = checks Packages Lines; first = None; second = None }))
+    ∷ Some (asks (record { wanted = checks_all Packages Lines; first = None; second = None })) ∷ []
 unfolding clap_on_literals kind_asked digits
 least_of_nothing = refl
 
@@ -139,12 +152,12 @@ unfolding clap_on_literals kind_asked
 unknown_kind_word = refl
 
 short_kind : asked_of (line (codes "check" ∷ codes "-k" ∷ codes "source" ∷ codes "-" ∷ []))
-    ≡ Some (asks (record { wanted = checks Source; first = Some (codes "-"); second = None }))
+    ≡ Some (asks (record { wanted = checks Source Lines; first = Some (codes "-"); second = None }))
 unfolding clap_on_literals kind_asked
 short_kind = refl
 
 short_kind_with_its_word : asked_of (line (codes "check" ∷ codes "-kany" ∷ []))
-    ≡ Some (asks (record { wanted = checks Any; first = None; second = None }))
+    ≡ Some (asks (record { wanted = checks Any Lines; first = None; second = None }))
 unfolding clap_on_literals kind_asked
 short_kind_with_its_word = refl
 

@@ -32,6 +32,8 @@ use Rattle.debctl_args.specs.declared.jobs.OnRefusal.{OnRefusal}
 use Rattle.debctl_args.specs.declared.jobs.OnRefusal.TheVariants.{Stop, Continue}
 use Rattle.debctl_args.specs.declared.jobs.Picks.{Picks}
 use Rattle.debctl_args.specs.declared.jobs.Picks.TheVariants.{Matching, Others}
+use Rattle.debctl_args.specs.declared.jobs.ReportForm.{ReportForm}
+use Rattle.debctl_args.specs.declared.jobs.ReportForm.TheVariants as report
 use Rattle.debctl_args.specs.declared.jobs.SelectForm.{SelectForm}
 use Rattle.debctl_args.specs.declared.jobs.SelectForm.TheVariants.{Control, Table, Jsonl}
 use Rattle.debctl_args.specs.declared.jobs.SourcesTried.{SourcesTried}
@@ -194,6 +196,28 @@ abbrev pub is_jsonl : SelectForm → Bool
 is_jsonl Control = false
 is_jsonl Table = false
 is_jsonl Jsonl = true
+
+-- the form in which `check`, `audit` and `explain` report why files are refused
+abbrev pub report_form_named : Text → Option ReportForm
+report_form_named word =
+    if bytes_eq word (codes "lines") then Some report.Lines
+    else if bytes_eq word (codes "gcc") then Some report.Gcc
+    else if bytes_eq word (codes "github") then Some report.Github
+    else if bytes_eq word (codes "jsonl") then Some report.Jsonl
+    else if bytes_eq word (codes "sarif") then Some report.Sarif
+    else None
+
+-- the same: lines without a word
+abbrev pub report_form_asked : Option Text → Option ReportForm
+report_form_asked None = Some report.Lines
+report_form_asked (Some word) = report_form_named word
+
+abbrev pub is_lines : ReportForm → Bool
+is_lines report.Lines = true
+is_lines report.Gcc = false
+is_lines report.Github = false
+is_lines report.Jsonl = false
+is_lines report.Sarif = false
 
 -- which paragraphs `select` picks: those that don't match where that is asked for
 abbrev pub picks_asked : Bool → Picks

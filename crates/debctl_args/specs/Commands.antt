@@ -301,17 +301,17 @@ row name rules = record { name = name; rules = rules }
 -- The commands on files and versions: each has a name, and these options and arguments.
 abbrev pub file_commands : List CommandRow
 file_commands =
-    -- `check [--kind K] [--all] [--complete] [--least N] [PATH]`
-    row (codes "check") (kind_rule ∷ all_rule ∷ complete_rule ∷ least_rule
+    -- `check [--kind K] [--all] [--complete] [--least N] [--format F] [PATH]`
+    row (codes "check") (kind_rule ∷ all_rule ∷ complete_rule ∷ least_rule ∷ format_rule
     ∷ optional_rule (codes "path") ∷ [])
-    -- `explain [--kind K] [--all] [PATH]`, `explain --code N`, `explain --relation TEXT`,
-    -- `explain --version-text TEXT` and `explain [--kind K] --where TEXT`
-    ∷ row (codes "explain") (kind_rule ∷ all_rule ∷ code_rule ∷ relation_rule ∷ version_rule
-    ∷ condition_rule ∷ optional_rule (codes "path") ∷ [])
-    -- `audit [--kind K] [--all] [--complete] [--least N] [--null] PATH ..` and
-    -- `audit [--kind K] [--all] [--complete] [--least N] [--null] --files0-from PATH`
-    ∷ row (codes "audit") (kind_rule ∷ all_rule ∷ complete_rule ∷ least_rule ∷ list_rule
-    ∷ null_rule ∷ words_rule (codes "path") ∷ [])
+    -- `explain [--kind K] [--all] [--format F] [PATH]`, `explain --code N`, `explain --relation
+    -- TEXT`, `explain --version-text TEXT` and `explain [--kind K] --where TEXT`
+    ∷ row (codes "explain") (kind_rule ∷ all_rule ∷ format_rule ∷ code_rule ∷ relation_rule
+    ∷ version_rule ∷ condition_rule ∷ optional_rule (codes "path") ∷ [])
+    -- `audit [--kind K] [--all] [--complete] [--least N] [--format F] [--null] PATH ..` and `audit
+    -- [--kind K] [--all] [--complete] [--least N] [--format F] [--null] --files0-from PATH`
+    ∷ row (codes "audit") (kind_rule ∷ all_rule ∷ complete_rule ∷ least_rule ∷ format_rule
+    ∷ list_rule ∷ null_rule ∷ words_rule (codes "path") ∷ [])
     -- `normalise [--kind K] [PATH]`
     ∷ row (codes "normalise") (kind_rule ∷ optional_rule (codes "path") ∷ [])
     -- `same [--kind K] PATH PATH`

@@ -11,6 +11,7 @@ use Rattle.debctl_args.specs.Requests.{audits, explains, explains_all, explains_
 use Rattle.debctl_args.specs.declared.jobs.Demands.{Demands}
 use Rattle.debctl_args.specs.declared.jobs.Extent.TheVariants.{First, All}
 use Rattle.debctl_args.specs.declared.jobs.LineEnd.TheVariants.{Newline, Nul}
+use Rattle.debctl_args.specs.declared.jobs.ReportForm.TheVariants.{Lines}
 
 -- the program's name, and the arguments after it
 abbrev line : List Text → List Text
@@ -19,22 +20,26 @@ line words = codes "debctl" ∷ words
 -- ---- `explain`
 
 explain_alone : asked_of (line (codes "explain" ∷ []))
-    ≡ Some (asks (record { wanted = explains Packages; first = None; second = None }))
+    ≡ Some (asks (record { wanted = explains Packages Lines; first = None; second = None }))
 unfolding clap_on_literals kind_asked
 explain_alone = refl
 
 explain_a_file : asked_of
     (line (codes "explain" ∷ codes "-k" ∷ codes "source" ∷ codes "x" ∷ []))
-    ≡ Some (asks (record { wanted = explains Source; first = Some (codes "x"); second = None }))
+    ≡ Some (asks (record {
+      wanted = explains Source Lines;
+      first = Some (codes "x");
+      second = None;
+    }))
 unfolding clap_on_literals kind_asked
 explain_a_file = refl
 
 explain_all : map (λ words. asked_of (line (codes "explain" ∷ words)))
     ((codes "--all" ∷ []) ∷ (codes "-k" ∷ codes "sources" ∷ codes "--all" ∷ codes "x" ∷ [])
     ∷ (codes "--all" ∷ codes "--kind=foo" ∷ []) ∷ [])
-    ≡ Some (asks (record { wanted = explains_all Packages; first = None; second = None }))
+    ≡ Some (asks (record { wanted = explains_all Packages Lines; first = None; second = None }))
     ∷ Some (asks (record {
-      wanted = explains_all Sources;
+      wanted = explains_all Sources Lines;
       first = Some (codes "x");
       second = None;
     }))
@@ -186,7 +191,7 @@ nothing = record { complete = false; least = 0 }
 abbrev audits_paths : List Text → Option Asked
 audits_paths given =
     Some (asks (record {
-      wanted = audits Packages (paths given) First Newline nothing;
+      wanted = audits Packages (paths given) First Newline nothing Lines;
       first = None;
       second = None;
     }))
@@ -205,7 +210,7 @@ audit_in_order = refl
 kind_between_paths : asked_of
     (line (codes "audit" ∷ codes "x" ∷ codes "--kind" ∷ codes "any" ∷ codes "y" ∷ []))
     ≡ Some (asks (record {
-      wanted = audits Any (paths (codes "x" ∷ codes "y" ∷ [])) First Newline nothing;
+      wanted = audits Any (paths (codes "x" ∷ codes "y" ∷ [])) First Newline nothing Lines;
       first = None;
       second = None;
     }))
@@ -222,7 +227,7 @@ path_with_hyphen = refl
 audit_of_a_list : asked_of
     (line (codes "audit" ∷ codes "-ksource" ∷ codes "--files0-from" ∷ codes "-" ∷ []))
     ≡ Some (asks (record {
-      wanted = audits Source (listed (codes "-")) First Newline nothing;
+      wanted = audits Source (listed (codes "-")) First Newline nothing Lines;
       first = None;
       second = None;
     }))
@@ -232,7 +237,7 @@ audit_of_a_list = refl
 audit_with_bytes_0 : asked_of
     (line (codes "audit" ∷ codes "x" ∷ codes "--null" ∷ codes "y" ∷ []))
     ≡ Some (asks (record {
-      wanted = audits Packages (paths (codes "x" ∷ codes "y" ∷ [])) First Nul nothing;
+      wanted = audits Packages (paths (codes "x" ∷ codes "y" ∷ [])) First Nul nothing Lines;
       first = None;
       second = None;
     }))
@@ -242,7 +247,7 @@ audit_with_bytes_0 = refl
 short_null : asked_of
     (line (codes "audit" ∷ codes "-0kany" ∷ codes "--files0-from" ∷ codes "x" ∷ []))
     ≡ Some (asks (record {
-      wanted = audits Any (listed (codes "x")) First Nul nothing;
+      wanted = audits Any (listed (codes "x")) First Nul nothing Lines;
       first = None;
       second = None;
     }))
@@ -252,7 +257,7 @@ short_null = refl
 audit_all : asked_of
     (line (codes "audit" ∷ codes "x" ∷ codes "--all" ∷ codes "y" ∷ []))
     ≡ Some (asks (record {
-      wanted = audits Packages (paths (codes "x" ∷ codes "y" ∷ [])) All Newline nothing;
+      wanted = audits Packages (paths (codes "x" ∷ codes "y" ∷ [])) All Newline nothing Lines;
       first = None;
       second = None;
     }))
@@ -262,7 +267,7 @@ audit_all = refl
 audit_all_of_a_list : asked_of
     (line (codes "audit" ∷ codes "--all" ∷ codes "-0ksources" ∷ codes "--files0-from=x" ∷ []))
     ≡ Some (asks (record {
-      wanted = audits Sources (listed (codes "x")) All Nul nothing;
+      wanted = audits Sources (listed (codes "x")) All Nul nothing Lines;
       first = None;
       second = None;
     }))
@@ -273,7 +278,7 @@ audit_with_demands : asked_of
     (line (codes "audit" ∷ codes "x" ∷ codes "--complete" ∷ codes "--least=3" ∷ []))
     ≡ Some (asks (record {
       wanted = audits Packages (paths (codes "x" ∷ [])) First Newline
-          (record { complete = true; least = 3 });
+          (record { complete = true; least = 3 }) Lines;
       first = None;
       second = None;
     }))

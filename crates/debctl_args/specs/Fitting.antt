@@ -6,11 +6,12 @@ use Rattle.clap.specs.Walk.{Text}
 use Rattle.clap.specs.declared.error.kind.ErrorKind.{ErrorKind}
 use Rattle.clap.specs.declared.error.kind.ErrorKind.TheVariants.{DisplayHelp, DisplayVersion, OutOfMemory}
 use Rattle.deb_base.specs.declared.doc.Doc.{Doc}
+use Rattle.debctl_args.specs.declared.jobs.ReportForm.{ReportForm}
 use Rattle.debctl_args.specs.declared.jobs.Task.{Task}
 use Rattle.debctl_args.specs.declared.arguments.UsageFault.{UsageFault}
 use Rattle.debctl_args.specs.declared.arguments.UsageFault.TheVariants.{Usage, Help, Memory}
 use Rattle.debctl_args.specs.Requests.{request_of}
-use Rattle.debctl_args.specs.Asked.{all_for_of_sources, all_sources_of_packages, asks, asks_help, count_alone, explain_takes_one, fields_of_jsonl, first_or_whole, index_and_path, index_of_packages, kind_of_path, names_of_sources, no_budget, no_field_name, no_names, no_number, no_recommends, no_relations, no_status, only_or_witness, other_by, other_format, other_kind, other_latest_kind, paths_or_list, profiles_of_packages, reads_twice, relation_or_file, sources_recommend, standard_input_twice, strict_of_table, table_of_fields, unknown_code, unknown_command, unknown_kind, unknown_operator, Asked}
+use Rattle.debctl_args.specs.Asked.{all_for_of_sources, all_sources_of_packages, asks, asks_help, count_alone, explain_takes_one, fields_of_jsonl, first_or_whole, index_and_path, index_of_packages, kind_of_path, names_of_sources, no_budget, no_field_name, no_names, no_number, no_recommends, no_relations, no_status, null_of_lines, only_or_witness, other_by, other_format, other_kind, other_latest_kind, other_report_form, paths_or_list, profiles_of_packages, reads_twice, relation_or_file, sources_recommend, standard_input_twice, strict_of_table, table_of_fields, unknown_code, unknown_command, unknown_kind, unknown_operator, Asked}
 
 -- the text names what isn't known, what stands twice, or what doesn't go together
 abbrev pub IsUsage : Asked → Text → Type 0
@@ -60,6 +61,9 @@ IsUsage no_field_name text = text ≡ codes "usage: -f takes names of fields"
 IsUsage no_number text = text ≡ codes "usage: --least takes a number"
 IsUsage no_budget text = text ≡ codes "usage: --budget takes a number from 1 to 1000000000"
 IsUsage first_or_whole text = text ≡ codes "usage: --all takes neither --complete nor --least"
+IsUsage other_report_form text =
+    text ≡ codes "usage: --format takes lines, gcc, github, jsonl or sarif"
+IsUsage null_of_lines text = text ≡ codes "usage: audit takes --null only with --format lines"
 IsUsage (asks _) text = ⊥
 IsUsage asks_help text = ⊥
 
@@ -127,6 +131,12 @@ abbrev pub MeansBudget : Option ℕ → Result ℕ UsageFault → Type 0
 MeansBudget asked (Ok budget) = asked ≡ Some budget
 MeansBudget (Some budget) (Err error) = error ≡ Memory
 MeansBudget None (Err error) = AnswersError no_budget error
+
+-- the form of reports, or a fault that says that the word is none
+abbrev pub MeansReportForm : Option ReportForm → Result ReportForm UsageFault → Type 0
+MeansReportForm asked (Ok form) = asked ≡ Some form
+MeansReportForm (Some form) (Err error) = error ≡ Memory
+MeansReportForm None (Err error) = AnswersError other_report_form error
 
 -- help, or out of memory
 abbrev pub IsHelp : UsageFault → Type 0

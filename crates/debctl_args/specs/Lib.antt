@@ -9,6 +9,7 @@ pub mod HealthyCases
 pub mod InstallableCases
 pub mod LatestCases
 pub mod QueryCases
+pub mod ReportCases
 pub mod RequestCases
 pub mod Requests
 pub mod SelectCases

@@ -4,7 +4,7 @@ use Rattle.std.specs.Prelude.{◌≡◌, ℕ, [], ◌∷◌, map, Option, Some, 
 use Rattle.std.specs.declared.alloc.Global.{Global}
 use Rattle.clap.specs.declared.error.kind.ErrorKind.TheVariants as kind
 use Rattle.deb_base.specs.declared.code.Code.TheVariants as code
-use Rattle.debctl_args.specs.Asked.{all_for_of_sources, all_sources_of_packages, count_alone, explain_takes_one, fields_of_jsonl, first_or_whole, index_and_path, index_of_packages, kind_of_path, names_of_sources, no_budget, no_field_name, no_names, no_number, no_recommends, no_relations, no_status, only_or_witness, other_by, other_format, other_kind, other_latest_kind, paths_or_list, profiles_of_packages, reads_twice, relation_or_file, sources_recommend, standard_input_twice, strict_of_table, table_of_fields, unknown_code, unknown_command, unknown_kind, unknown_operator}
+use Rattle.debctl_args.specs.Asked.{all_for_of_sources, all_sources_of_packages, count_alone, explain_takes_one, fields_of_jsonl, first_or_whole, index_and_path, index_of_packages, kind_of_path, names_of_sources, no_budget, no_field_name, no_names, no_number, no_recommends, no_relations, no_status, null_of_lines, only_or_witness, other_by, other_format, other_kind, other_latest_kind, other_report_form, paths_or_list, profiles_of_packages, reads_twice, relation_or_file, sources_recommend, standard_input_twice, strict_of_table, table_of_fields, unknown_code, unknown_command, unknown_kind, unknown_operator}
 use Rattle.debctl_args.specs.Fitting.{has_mistake, has_request, is_request_kind, IsUsage, FitsKind}
 use Rattle.debctl_args.specs.Requests.{audits, canonicalises, checks, checks_all, checks_health, checks_whole, compares, document_of, explains, explains_all, explains_relation, explains_version, finds_changes, finds_latest, finds_unbuildable, finds_uninstallable, finds_unmet, finds_witness, keys, listed, normalises, of_file, of_text, paths, queries, queries_from, queries_over, reads_of, request_of, selects, sorts, explains_rule, compares_files, wanted_of, wants, AskedTerms, Request, Wanted}
 use Rattle.debctl_args.specs.declared.jobs.Demands.{Demands}
@@ -30,6 +30,8 @@ use Rattle.debctl_args.specs.declared.jobs.LineEnd.TheVariants as line_ends
 use Rattle.debctl_args.specs.declared.jobs.OnRefusal.TheVariants.{Stop, Continue}
 use Rattle.debctl_args.specs.declared.jobs.Picks.TheVariants.{Matching, Others}
 use Rattle.debctl_args.specs.declared.jobs.RelationArgument.TheVariants as relation
+use Rattle.debctl_args.specs.declared.jobs.ReportForm.{ReportForm}
+use Rattle.debctl_args.specs.declared.jobs.ReportForm.TheVariants.{Lines, Gcc, Github, Jsonl, Sarif}
 use Rattle.debctl_args.specs.declared.jobs.SelectForm.TheVariants.{Control, Table}
 use Rattle.debctl_args.specs.declared.jobs.Detail.TheVariants.{Reasons, Verdicts}
 use Rattle.debctl_args.specs.declared.jobs.SourceKind.TheVariants as sources
@@ -68,11 +70,11 @@ bytes_of_no_terms = record { essential = false; without = [] }
 -- ---- jobs
 
 jobs_on_files : map wanted_of
-    (job.Check docs.Binary ∷ job.CheckAll docs.Packages ∷ job.CheckWhole docs.Source demands
-    ∷ job.Normalise docs.Sources ∷ job.Same docs.Any
+    (job.Check docs.Binary Gcc ∷ job.CheckAll docs.Packages Sarif
+    ∷ job.CheckWhole docs.Source demands Github ∷ job.Normalise docs.Sources ∷ job.Same docs.Any
     ∷ job.Diff diff_kinds.Sources diff_details.Values Spelled ∷ job.Sort true ∷ [])
-    ≡ checks docs.Binary ∷ checks_all docs.Packages ∷ checks_whole docs.Source demands
-    ∷ normalises docs.Sources ∷ compares_files docs.Any
+    ≡ checks docs.Binary Gcc ∷ checks_all docs.Packages Sarif
+    ∷ checks_whole docs.Source demands Github ∷ normalises docs.Sources ∷ compares_files docs.Any
     ∷ finds_changes diff_kinds.Sources diff_details.Values Spelled ∷ sorts true ∷ []
 jobs_on_files = refl
 
@@ -115,8 +117,8 @@ jobs_on_words = refl
 -- the jobs of one kind of document, and others
 abbrev jobs : List Job
 jobs =
-    job.Check docs.Binary ∷ job.CheckWhole docs.Source demands ∷ job.Normalise docs.Any
-    ∷ job.Same docs.Sources ∷ job.CheckAll docs.Packages
+    job.Check docs.Binary Lines ∷ job.CheckWhole docs.Source demands Lines
+    ∷ job.Normalise docs.Any ∷ job.Same docs.Sources ∷ job.CheckAll docs.Packages Lines
     ∷ job.Diff diff_kinds.Sources diff_details.Values Spelled ∷ job.Compare one cmps.Less other
     ∷ job.CanonVersion one ∷ job.VersionKey (vector (one ∷ []) refl) ∷ job.Sort true
     ∷ job.Query one (vector [] refl) other members.All Reasons Canonical
@@ -136,19 +138,33 @@ documents_of_jobs : map document_of jobs
     ∷ None ∷ None ∷ None ∷ None ∷ None ∷ None ∷ None ∷ None ∷ None ∷ None ∷ []
 documents_of_jobs = refl
 
+-- reports in another form aren't the line of the refusal
+documents_of_reports : map (λ form. document_of (job.Check docs.Binary form))
+    (Gcc ∷ Github ∷ Jsonl ∷ Sarif ∷ []) ≡ None ∷ None ∷ None ∷ None ∷ []
+documents_of_reports = refl
+
+documents_of_whole_reports : map (λ form. document_of (job.CheckWhole docs.Source demands form))
+    (Gcc ∷ Github ∷ Jsonl ∷ Sarif ∷ []) ≡ None ∷ None ∷ None ∷ None ∷ []
+documents_of_whole_reports = refl
+
+files_of_reports : map (λ form. map reads_of (job.Check docs.Any form ∷ job.CheckAll docs.Any form
+    ∷ job.CheckWhole docs.Any demands form ∷ [])) (Gcc ∷ Sarif ∷ [])
+    ≡ (OneFile ∷ OneFile ∷ OneFile ∷ []) ∷ (OneFile ∷ OneFile ∷ OneFile ∷ []) ∷ []
+files_of_reports = refl
+
 -- ---- requests
 
 -- the paths of a job's files, both, one and none
 calls : map request_of
     (task.Run (record { job = job.Same docs.Any; first = Some one; second = Some other })
-    ∷ task.Run (record { job = job.Check docs.Binary; first = Some other; second = None })
+    ∷ task.Run (record { job = job.Check docs.Binary Jsonl; first = Some other; second = None })
     ∷ task.Run (record { job = job.Sort false; first = None; second = None }) ∷ [])
     ≡ record {
       wanted = compares_files docs.Any;
       first = Some (codes "amd64");
       second = Some (codes "b-");
     }
-    ∷ record { wanted = checks docs.Binary; first = Some (codes "b-"); second = None }
+    ∷ record { wanted = checks docs.Binary Jsonl; first = Some (codes "b-"); second = None }
     ∷ record { wanted = sorts false; first = None; second = None } ∷ []
 unfolding one other
 calls = refl
@@ -158,30 +174,31 @@ abbrev reads : Wanted → Option (List ℕ) → Request
 reads wanted first = record { wanted = wanted; first = first; second = None }
 
 explanations : map (λ it. request_of (task.Explain it))
-    (explain.File docs.Any (Some one) ∷ explain.File docs.Binary None
-    ∷ explain.All docs.Sources (Some other) ∷ explain.All docs.Packages None
+    (explain.File docs.Any (Some one) Github ∷ explain.File docs.Binary None Lines
+    ∷ explain.All docs.Sources (Some other) Sarif ∷ explain.All docs.Packages None Jsonl
     ∷ explain.Rule code.BadVersion ∷ explain.Relation one ∷ explain.Version other ∷ [])
-    ≡ reads (explains docs.Any) (Some (codes "amd64")) ∷ wants (explains docs.Binary)
-    ∷ reads (explains_all docs.Sources) (Some (codes "b-"))
-    ∷ wants (explains_all docs.Packages) ∷ wants (explains_rule code.BadVersion)
+    ≡ reads (explains docs.Any Github) (Some (codes "amd64")) ∷ wants (explains docs.Binary Lines)
+    ∷ reads (explains_all docs.Sources Sarif) (Some (codes "b-"))
+    ∷ wants (explains_all docs.Packages Jsonl) ∷ wants (explains_rule code.BadVersion)
     ∷ wants (explains_relation (codes "amd64")) ∷ wants (explains_version (codes "b-")) ∷ []
 unfolding one other
 explanations = refl
 
-abbrev audit : Files → Task
-audit given = task.Audit (record {
+abbrev audit : Files → ReportForm → Task
+audit given form = task.Audit (record {
   doc = docs.Packages;
   files = given;
   extent = extents.All;
   end = line_ends.Nul;
   demands = demands;
+  form = form;
 })
 
-audits_of_files : (request_of (audit (files.Paths (vector (one ∷ other ∷ one ∷ []) refl)))
+audits_of_files : (request_of (audit (files.Paths (vector (one ∷ other ∷ one ∷ []) refl)) Gcc)
     ≡ wants (audits docs.Packages (paths (codes "amd64" ∷ codes "b-" ∷ codes "amd64" ∷ []))
-    extents.All line_ends.Nul demands))
-    × (request_of (audit (files.Listed other))
-    ≡ wants (audits docs.Packages (listed (codes "b-")) extents.All line_ends.Nul demands))
+    extents.All line_ends.Nul demands Gcc))
+    × (request_of (audit (files.Listed other) Sarif)
+    ≡ wants (audits docs.Packages (listed (codes "b-")) extents.All line_ends.Nul demands Sarif))
 unfolding one other
 audits_of_files = (refl, refl)
 
@@ -427,7 +444,12 @@ texts_of_mistakes : IsUsage unknown_kind (codes "usage: unknown kind")
     × IsUsage no_number (codes "usage: --least takes a number")
     × IsUsage no_budget (codes "usage: --budget takes a number from 1 to 1000000000")
     × IsUsage first_or_whole (codes "usage: --all takes neither --complete nor --least")
+    × IsUsage other_report_form
+    (codes "usage: --format takes lines, gcc, github, jsonl or sarif")
+    × IsUsage null_of_lines (codes "usage: audit takes --null only with --format lines")
 texts_of_mistakes = (
+  refl,
+  refl,
   refl,
   refl,
   refl,

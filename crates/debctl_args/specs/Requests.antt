@@ -29,6 +29,8 @@ use Rattle.debctl_args.specs.declared.jobs.Reads.{Reads}
 use Rattle.debctl_args.specs.declared.jobs.Reads.TheVariants.{Nothing, OneFile, Paths}
 use Rattle.debctl_args.specs.declared.jobs.RelationArgument.{RelationArgument}
 use Rattle.debctl_args.specs.declared.jobs.RelationArgument.TheVariants as relation
+use Rattle.debctl_args.specs.declared.jobs.ReportForm.{ReportForm}
+use Rattle.debctl_args.specs.declared.jobs.ReportForm.TheVariants as report
 use Rattle.debctl_args.specs.declared.jobs.SelectForm.{SelectForm}
 use Rattle.debctl_args.specs.declared.jobs.SelectOf.{SelectOf}
 use Rattle.debctl_args.specs.declared.jobs.SourceKind.{SourceKind}
@@ -102,9 +104,9 @@ pub record AskedSelect : Type 0 where
 
 -- a task, with the bytes of its words
 pub data Wanted : Type 0 where
-  checks : Doc → Wanted
-  checks_all : Doc → Wanted
-  checks_whole : Doc → Demands → Wanted
+  checks : Doc → ReportForm → Wanted
+  checks_all : Doc → ReportForm → Wanted
+  checks_whole : Doc → Demands → ReportForm → Wanted
   normalises : Doc → Wanted
   compares_files : Doc → Wanted
   finds_changes : DiffKind → DiffDetail → VersionText → Wanted
@@ -122,13 +124,13 @@ pub data Wanted : Type 0 where
   finds_uninstallable : Text → Members → Strength → AskedTerms → List Text → ℕ → Bool → Wanted
   finds_witness : Text → Members → Strength → AskedTerms → List Text → ℕ → Bool → Wanted
   finds_unbuildable : Text → List Text → Members → SourceKind → AskedTerms → ℕ → Bool → Wanted
-  explains : Doc → Wanted
-  explains_all : Doc → Wanted
+  explains : Doc → ReportForm → Wanted
+  explains_all : Doc → ReportForm → Wanted
   explains_rule : Code → Wanted
   explains_relation : Text → Wanted
   explains_version : Text → Wanted
   explains_condition : Doc → Text → Wanted
-  audits : Doc → Audited → Extent → LineEnd → Demands → Wanted
+  audits : Doc → Audited → Extent → LineEnd → Demands → ReportForm → Wanted
 
 -- what is wanted, and the paths of the files, two at most, that a job or an explanation reads; the
 -- other tasks have theirs in what is wanted
@@ -142,9 +144,9 @@ terms_of terms =
     record { essential = terms.essential; without = map string_bytes terms.without.items }
 
 abbrev pub wanted_of : Job → Wanted
-wanted_of (job.Check kind) = checks kind
-wanted_of (job.CheckAll kind) = checks_all kind
-wanted_of (job.CheckWhole kind demands) = checks_whole kind demands
+wanted_of (job.Check kind form) = checks kind form
+wanted_of (job.CheckAll kind form) = checks_all kind form
+wanted_of (job.CheckWhole kind demands form) = checks_whole kind demands form
 wanted_of (job.Normalise kind) = normalises kind
 wanted_of (job.Same kind) = compares_files kind
 wanted_of (job.Diff kind detail versions) = finds_changes kind detail versions
@@ -171,9 +173,9 @@ wanted_of (job.Buildable arch profiles members kind terms budget reasons) =
 
 -- the files that a job reads
 abbrev pub reads_of : Job → Reads
-reads_of (job.Check kind) = OneFile
-reads_of (job.CheckAll kind) = OneFile
-reads_of (job.CheckWhole kind demands) = OneFile
+reads_of (job.Check kind form) = OneFile
+reads_of (job.CheckAll kind form) = OneFile
+reads_of (job.CheckWhole kind demands form) = OneFile
 reads_of (job.Normalise kind) = OneFile
 reads_of (job.Same kind) = Paths
 reads_of (job.Diff kind detail versions) = Paths
@@ -190,8 +192,8 @@ reads_of (job.Buildable arch profiles members kind terms budget reasons) = Paths
 
 -- the kind that is named for the files of a job whose refusals are lines on standard error
 abbrev pub document_of : Job → Option Doc
-document_of (job.Check kind) = Some kind
-document_of (job.CheckWhole kind demands) = Some kind
+document_of (job.Check kind report.Lines) = Some kind
+document_of (job.CheckWhole kind demands report.Lines) = Some kind
 document_of (job.Normalise kind) = Some kind
 document_of (job.Same kind) = Some kind
 document_of _ = None
@@ -270,10 +272,14 @@ request_of (task.Query query) = wants (queries_over (query_of query))
 request_of (task.Unmet unmet) = wants (finds_unmet (unmet_of unmet))
 request_of (task.Latest latest) = wants (finds_latest (latest_of latest))
 request_of (task.Select select) = wants (selects (select_of select))
-request_of (task.Explain (explain.File kind path)) =
-    record { wanted = explains kind; first = option_map string_bytes path; second = None }
-request_of (task.Explain (explain.All kind path)) =
-    record { wanted = explains_all kind; first = option_map string_bytes path; second = None }
+request_of (task.Explain (explain.File kind path form)) =
+    record { wanted = explains kind form; first = option_map string_bytes path; second = None }
+request_of (task.Explain (explain.All kind path form)) =
+    record {
+      wanted = explains_all kind form;
+      first = option_map string_bytes path;
+      second = None;
+    }
 request_of (task.Explain (explain.Rule code)) = wants (explains_rule code)
 request_of (task.Explain (explain.Relation text)) =
     wants (explains_relation (string_bytes text))
@@ -282,4 +288,5 @@ request_of (task.Explain (explain.Version text)) =
 request_of (task.Explain (explain.Condition kind text)) =
     wants (explains_condition kind (string_bytes text))
 request_of (task.Audit audit) =
-    wants (audits audit.doc (audited_of audit.files) audit.extent audit.end audit.demands)
+    wants
+    (audits audit.doc (audited_of audit.files) audit.extent audit.end audit.demands audit.form)

@@ -57,7 +57,8 @@ impl From<AllocError> for UsageFault {
 /// indexes of `unmet` are those of `--index`, in their order, and then INDEX. After `--code` N is
 /// the number of an error code, from 1 to 23, in decimal, or its name. After `--least` it is a
 /// number below 2^64, in decimal and without zeros before it; after `--budget` such a number from 1
-/// to 1,000,000,000. Without the option the budget is 100,000.
+/// to 1,000,000,000. Without the option the budget is 100,000. Without `--format` reports are
+/// lines, and `select` writes control data.
 ///
 /// # Errors
 ///
@@ -66,32 +67,34 @@ impl From<AllocError> for UsageFault {
 ///   COMMAND or an N that isn't known; `usage: standard input twice` for `same - -`, for `diff - -`
 ///   of a kind other than `any`, and for an `audit`, a `query`, an `unmet`, an `installable` or a
 ///   `select` that would read it for two of its files; `usage: explain takes one file, code,
-///   relation, version or condition` for an `explain` with two of these, where a kind, `--all` or a
-///   path names a file, but a kind may be that of a condition; `usage: audit takes paths, or
-///   --files0-from` for an audit with neither paths nor a list, or with both; `usage: query takes a
-///   relation, or --relation-from` for a query with neither; `usage: diff takes no --kind any`;
-///   `usage: unmet takes no --kind any`; `usage: unmet takes no --kind status`; `usage: unmet takes
-///   --all-sources only for source packages` for the kinds `packages` and `binary` with
-///   `--all-sources`; `usage: unmet takes --recommends only for binary packages` and `usage: unmet
-///   takes --all-for only for binary packages` for the kinds `sources` and `source` with these
-///   options; `usage: unmet takes another --kind only with a second path` for one of the kinds
-///   `binary`, `sources` and `source` without PATH; `usage: installable takes --kind packages,
-///   sources or source` for another kind that is known; `usage: installable takes --index only for
-///   source packages` and `usage: installable takes --profiles only for source packages` for these
-///   options with packages; `usage: installable takes --only or --witness` for both of these;
-///   `usage: installable takes --recommends only for binary packages` and `usage: installable takes
-///   --only and --witness only for binary packages` for these options with source packages; `usage:
-///   installable takes source packages only with --index and PATH` if one of both is missing;
-///   `usage: latest takes --kind packages or sources` for another kind that is known; `usage:
-///   latest takes --by name or name,arch` for another B; `usage: latest reads its files twice, so
-///   it can't read standard input` for a path `-` of `latest`; `usage: select takes --count without
-///   -f and --format` for `--count` with one of these; `usage: select takes --format control, table
-///   or jsonl` for another F; `usage: select takes --format table only with -f` for a table without
-///   fields; `usage: select takes no -f with --format jsonl` for fields of objects; `usage: select
-///   takes --strict only with --format table` for `--strict` without a table; `usage: -f takes
-///   names of fields` if one of these is empty; `usage: --least takes a number` and `usage:
-///   --budget takes a number from 1 to 1000000000` for another N; `usage: --all takes neither
-///   --complete nor --least` for either with `--all`; otherwise that of `clap`.
+///   relation, version or condition` for an `explain` with two of these, where a kind, `--all`,
+///   `--format` or a path names a file, but a kind may be that of a condition; `usage: --format
+///   takes lines, gcc, github, jsonl or sarif` for another F of `check`, `audit` or `explain`;
+///   `usage: audit takes --null only with --format lines` for `--null` in another of these formats;
+///   `usage: audit takes paths, or --files0-from` for an audit with neither paths nor a list, or
+///   with both; `usage: query takes a relation, or --relation-from` for a query with neither;
+///   `usage: diff takes no --kind any`; `usage: unmet takes no --kind any`; `usage: unmet takes no
+///   --kind status`; `usage: unmet takes --all-sources only for source packages` for the kinds
+///   `packages` and `binary` with `--all-sources`; `usage: unmet takes --recommends only for binary
+///   packages` and `usage: unmet takes --all-for only for binary packages` for the kinds `sources`
+///   and `source` with these options; `usage: unmet takes another --kind only with a second path`
+///   for one of the kinds `binary`, `sources` and `source` without PATH; `usage: installable takes
+///   --kind packages, sources or source` for another kind that is known; `usage: installable takes
+///   --index only for source packages` and `usage: installable takes --profiles only for source
+///   packages` for these options with packages; `usage: installable takes --only or --witness` for
+///   both of these; `usage: installable takes --recommends only for binary packages` and `usage:
+///   installable takes --only and --witness only for binary packages` for these options with source
+///   packages; `usage: installable takes source packages only with --index and PATH` if one of both
+///   is missing; `usage: latest takes --kind packages or sources` for another kind that is known;
+///   `usage: latest takes --by name or name,arch` for another B; `usage: latest reads its files
+///   twice, so it can't read standard input` for a path `-` of `latest`; `usage: select takes
+///   --count without -f and --format` for `--count` with one of these; `usage: select takes
+///   --format control, table or jsonl` for another F; `usage: select takes --format table only with
+///   -f` for a table without fields; `usage: select takes no -f with --format jsonl` for fields of
+///   objects; `usage: select takes --strict only with --format table` for `--strict` without a
+///   table; `usage: -f takes names of fields` if one of these is empty; `usage: --least takes a
+///   number` and `usage: --budget takes a number from 1 to 1000000000` for another N; `usage: --all
+///   takes neither --complete nor --least` for either with `--all`; otherwise that of `clap`.
 /// - `UsageFault::Help`: the arguments ask for help or for the version.
 /// - `UsageFault::Memory`: a growth of memory was refused.
 pub fn job_of(alloc: Global, words: &[String]) -> Result<Task, UsageFault>

@@ -2,7 +2,8 @@
 
 ghost use Rattle.std.specs.Prelude.{◌≡◌, option_map};
 ghost use Rattle.clap.specs.Words.{found_of, rows_of};
-ghost use Rattle.debctl_args.specs.Asked.{audit_asked, check_asked, checks_to, condition_asked, demands_asked, diff_asked, diff_of_files, document_asked, explain_asked, file_explained, is_demanding, relation_asked, rule_asked, same_asked, text_asked, version_asked};
+ghost use Rattle.debctl_args.specs.Asked.{audit_asked, audit_in_form, check_asked, checks_to, condition_asked, demands_asked, diff_asked, diff_of_files, document_asked, explain_asked, file_explained, is_demanding, relation_asked, rule_asked, same_asked, text_asked, version_asked};
+ghost use Rattle.debctl_args.specs.AskedWords.{is_lines};
 ghost use Rattle.debctl_args.specs.Fitting.{Answers};
 ghost use Rattle.debctl_args.specs.Requests.{normalises, wanted_of};
 
@@ -10,9 +11,10 @@ use crate::arguments::{INPUT_TWICE, UsageFault, usage};
 use crate::code_argument::code_named;
 use crate::found_arguments::{
     all_given, diff_detail_in, end_in, extent_in, flag_in, given, is_standard_input_twice, kind_in,
-    least_in, names_file, owned_texts, path_in, reads_file, version_text_in, word_in,
+    least_in, names_file, owned_texts, path_in, reads_file, report_form_in, version_text_in,
+    word_in,
 };
-use crate::jobs::{Audit, Call, Demands, DiffKind, Explain, Extent, Files, Job, Task};
+use crate::jobs::{Audit, Call, Demands, DiffKind, Explain, Extent, Files, Job, ReportForm, Task};
 use clap::ArgMatches;
 use deb_base::Doc;
 use std::alloc::Global;
@@ -26,6 +28,9 @@ const PATHS_OR_LIST: &str = "usage: audit takes paths, or --files0-from";
 /// The text for `--all` with a demand on accepted files.
 const FIRST_OR_WHOLE: &str = "usage: --all takes neither --complete nor --least";
 
+/// The text for an audit whose records end with a byte 0 in another form than lines.
+const NULL_OF_LINES: &str = "usage: audit takes --null only with --format lines";
+
 /// The text for a `diff` of files whose paragraphs have no names.
 const NO_NAMES: &str = "usage: diff takes no --kind any";
 
@@ -33,8 +38,9 @@ pub(crate) fn check_task(alloc: Global, found: &ArgMatches<'_>) -> Result<Task, 
     ensures { Answers (check_asked (rows_of (found_of found.now))) result }
 {
     let doc = kind_in(alloc, found)?;
-    let least = least_in(alloc, found)?;
-    let Some(job) = check_job(doc, extent_in(found), demands_in(found, least)) else {
+    let demands = demands_in(found, least_in(alloc, found)?);
+    let form = report_form_in(alloc, found)?;
+    let Some(job) = check_job(doc, extent_in(found), demands, form) else {
         return Err(usage(alloc, FIRST_OR_WHOLE));
     };
     Ok(Task::Run(Call {
@@ -45,14 +51,14 @@ pub(crate) fn check_task(alloc: Global, found: &ArgMatches<'_>) -> Result<Task, 
 }
 
 /// The job of `check`, by what is demanded of an accepted file. With `--all` nothing can be.
-fn check_job(doc: Doc, extent: Extent, demands: Demands) -> Option<Job>
-    ensures { option_map wanted_of result ≡ checks_to extent demands doc }
+fn check_job(doc: Doc, extent: Extent, demands: Demands, form: ReportForm) -> Option<Job>
+    ensures { option_map wanted_of result ≡ checks_to extent demands form doc }
 {
     match (extent, is_demanding(demands)) {
-        (Extent::First, true) => Some(Job::CheckWhole { doc, demands }),
-        (Extent::First, false) => Some(Job::Check(doc)),
+        (Extent::First, true) => Some(Job::CheckWhole { doc, demands, form }),
+        (Extent::First, false) => Some(Job::Check { doc, form }),
         (Extent::All, true) => None,
-        (Extent::All, false) => Some(Job::CheckAll(doc)),
+        (Extent::All, false) => Some(Job::CheckAll { doc, form }),
     }
 }
 
@@ -103,10 +109,11 @@ fn file_task(alloc: Global, found: &ArgMatches<'_>) -> Result<Task, UsageFault>
     ensures { Answers (file_explained (rows_of (found_of found.now))) result }
 {
     let doc = kind_in(alloc, found)?;
+    let form = report_form_in(alloc, found)?;
     let path = path_in(alloc, found)?;
     Ok(Task::Explain(match extent_in(found) {
-        Extent::First => Explain::File { doc, path },
-        Extent::All => Explain::All { doc, path },
+        Extent::First => Explain::File { doc, path, form },
+        Extent::All => Explain::All { doc, path, form },
     }))
 }
 
@@ -167,8 +174,25 @@ pub(crate) fn audit_task(alloc: Global, found: &ArgMatches<'_>) -> Result<Task, 
 {
     let doc = kind_in(alloc, found)?;
     let demands = demands_in(found, least_in(alloc, found)?);
+    let form = report_form_in(alloc, found)?;
+    audit_in_form(alloc, found, doc, demands, form)
+}
+
+/// `audit` in this form, with these demands on files of this kind.
+fn audit_in_form(
+    alloc: Global,
+    found: &ArgMatches<'_>,
+    doc: Doc,
+    demands: Demands,
+    form: ReportForm,
+) -> Result<Task, UsageFault>
+    ensures { Answers (audit_in_form (rows_of (found_of found.now)) doc demands form) result }
+{
     if flag_in(found, "all") && is_demanding(demands) {
         return Err(usage(alloc, FIRST_OR_WHOLE));
+    }
+    if flag_in(found, "null") && !is_lines(form) {
+        return Err(usage(alloc, NULL_OF_LINES));
     }
     let files = match (all_given(found, "path"), given(found, "files0-from")) {
         (Some(paths), None) if is_standard_input_twice(paths) => {
@@ -185,7 +209,17 @@ pub(crate) fn audit_task(alloc: Global, found: &ArgMatches<'_>) -> Result<Task, 
         extent: extent_in(found),
         end: end_in(found),
         demands,
+        form,
     }))
+}
+
+fn is_lines(form: ReportForm) -> bool
+    ensures { result ≡ is_lines form }
+{
+    match form {
+        ReportForm::Lines => true,
+        ReportForm::Gcc | ReportForm::Github | ReportForm::Jsonl | ReportForm::Sarif => false,
+    }
 }
 
 pub(crate) fn normalise_task(alloc: Global, found: &ArgMatches<'_>) -> Result<Task, UsageFault>

@@ -15,6 +15,15 @@ cut off. One line on standard error says why, and `ok N` isn't printed:
 An empty file is complete: use `--least 1` against it. With `--complete` the whole file
 is held in memory.
 
+The formats are
+  lines   the lines above
+  gcc     a line for each error, as a compiler prints it:
+          `PATH:LINE:COLUMN: error: REASON in FIELD [NAME]`
+  github  a line for each error: a command of a GitHub workflow
+  jsonl   a line for each error: a JSON object
+  sarif   a SARIF 2.1.0 document, which is a JSON object
+In another format than lines the errors are written to standard output.
+
 Use `--kind sources` for an index of source packages. As `packages`, `binary` or
 `source` it is usually refused because of its Architecture or a missing field. Use
 `--kind status` for `/var/lib/dpkg/status`, and `--kind any` for other control data,
@@ -63,6 +72,8 @@ where the value is refused.
 With `--all` the first error of each paragraph is explained, and an empty line follows
 each explanation. At the end `ok N, M refused` is printed, as `check --all` does.
 
+The formats are those of `check`; `lines` are the lines above. They are for files only.
+
 Exit statuses:
   0  accepted, or `--code` is given
   2  refused
@@ -99,6 +110,8 @@ and then `PATH: ok N, M refused`, as `check --all` does.
 
 With `--complete` and `--least` it prints `PATH: incomplete: ..` instead of `PATH: ok N`
 if the file was cut off, as `check` does.
+
+The formats are those of `check`; `lines` are the lines above. `--null` is only for them.
 
 Exit statuses (the highest of all files):
   0  accepted

@@ -4,14 +4,14 @@ ghost use Rattle.std.specs.List.{list_any};
 ghost use Rattle.std.specs.Prelude.{◌≡◌, ◌++◌, ◌∷◌, map, codes, string_bytes, option_map, IfOk, option_copied};
 ghost use Rattle.clap.specs.Words.{all_of, first_of, found_of, rows_of};
 ghost use Rattle.debctl_args.specs.Asked.{has_input_beside, indexes_beside, indexes_in, is_standard_input, is_standard_input_twice, members_in, names_file, packages_in, paths_in, reads_file, strength_in, terms_asked, text_list, tried_in, word_in};
-ghost use Rattle.debctl_args.specs.AskedWords.{budget_asked, by_asked, comma_pieces, detail_asked, diff_detail_asked, end_asked, extent_asked, flag_asked, kind_asked, least_asked, pieces_asked, texts_asked, versions_asked};
-ghost use Rattle.debctl_args.specs.Fitting.{MeansBudget, MeansKind, MeansLeast};
+ghost use Rattle.debctl_args.specs.AskedWords.{budget_asked, by_asked, comma_pieces, detail_asked, diff_detail_asked, end_asked, extent_asked, flag_asked, kind_asked, least_asked, pieces_asked, report_form_asked, texts_asked, versions_asked};
+ghost use Rattle.debctl_args.specs.Fitting.{MeansBudget, MeansKind, MeansLeast, MeansReportForm};
 ghost use Rattle.debctl_args.specs.Requests.{terms_of};
 
 use crate::arguments::{UsageFault, usage};
 use crate::jobs::{
-    Dependents, Detail, DiffDetail, Extent, LatestBy, LineEnd, Members, SourcesTried, Strength,
-    Terms,
+    Dependents, Detail, DiffDetail, Extent, LatestBy, LineEnd, Members, ReportForm, SourcesTried,
+    Strength, Terms,
 };
 use crate::number_argument::{budget_named, number_named};
 use clap::ArgMatches;
@@ -20,6 +20,9 @@ use std::alloc::{AllocError, Global};
 
 /// The text for another word than a number of steps.
 const NO_BUDGET: &str = "usage: --budget takes a number from 1 to 1000000000";
+
+/// The text for another word than a form of reports.
+const OTHER_REPORT_FORM: &str = "usage: --format takes lines, gcc, github, jsonl or sarif";
 
 /// The kind of document that `--kind` names, or a list of packages without it.
 #[tactic(auto, unfolding(crate::specs::AskedWords::kind_asked))]
@@ -61,6 +64,24 @@ pub(crate) fn budget_in(alloc: Global, found: &ArgMatches<'_>) -> Result<u32, Us
     match budget_named(word) {
         Some(budget) => Ok(budget),
         None => Err(usage(alloc, NO_BUDGET)),
+    }
+}
+
+/// The form of reports that `--format` names, or lines without it.
+pub(crate) fn report_form_in(
+    alloc: Global,
+    found: &ArgMatches<'_>,
+) -> Result<ReportForm, UsageFault>
+    ensures { MeansReportForm
+        (report_form_asked (first_of (codes "format") (rows_of (found_of found.now)))) result }
+{
+    match given(found, "format") {
+        None | Some("lines") => Ok(ReportForm::Lines),
+        Some("gcc") => Ok(ReportForm::Gcc),
+        Some("github") => Ok(ReportForm::Github),
+        Some("jsonl") => Ok(ReportForm::Jsonl),
+        Some("sarif") => Ok(ReportForm::Sarif),
+        Some(_) => Err(usage(alloc, OTHER_REPORT_FORM)),
     }
 }
 
@@ -167,18 +188,18 @@ pub(crate) fn packages_in(found: &ArgMatches<'_>) -> Dependents
     }
 }
 
-/// Whether `--kind`, `--all` or a path is given.
+/// Whether `--kind`, `--all`, `--format` or a path is given.
 pub(crate) fn names_file(found: &ArgMatches<'_>) -> bool
     ensures { result ≡ names_file (rows_of (found_of found.now)) }
 {
     given(found, "kind").is_some() || reads_file(found)
 }
 
-/// Whether `--all` or a path is given.
+/// Whether `--all`, `--format` or a path is given.
 pub(crate) fn reads_file(found: &ArgMatches<'_>) -> bool
     ensures { result ≡ reads_file (rows_of (found_of found.now)) }
 {
-    flag_in(found, "all") || given(found, "path").is_some()
+    flag_in(found, "all") || given(found, "format").is_some() || given(found, "path").is_some()
 }
 
 /// What a set has to contain if `--essential` is given, and what it may not by `--without`.

@@ -45,14 +45,21 @@ pub enum Cmp {
 #[derive(Debug, PartialEq, Eq, Drop)]
 pub enum Job {
     /// `check`: check whether a file of this kind is accepted.
-    Check(Doc),
+    Check {
+        doc: Doc,
+        form: ReportForm,
+    },
     /// `check --all`: write every refusal of a file of this kind.
-    CheckAll(Doc),
+    CheckAll {
+        doc: Doc,
+        form: ReportForm,
+    },
     /// `check --complete` or `check --least N`: check whether a file of this kind is accepted and
     /// meets the demands.
     CheckWhole {
         doc: Doc,
         demands: Demands,
+        form: ReportForm,
     },
     /// `normalise`: write the canonical text of a file of this kind.
     Normalise(Doc),
@@ -158,8 +165,8 @@ impl Job {
         ensures { result ≡ reads_of self.now }
     {
         match self {
-            Job::Check(_) | Job::CheckAll(_) | Job::Normalise(_) => Reads::OneFile,
-            Job::CheckWhole { .. } | Job::Sort { .. } | Job::Query { .. } => Reads::OneFile,
+            Job::Check { .. } | Job::CheckAll { .. } | Job::CheckWhole { .. } => Reads::OneFile,
+            Job::Normalise(_) | Job::Sort { .. } | Job::Query { .. } => Reads::OneFile,
             Job::Healthy { .. } | Job::Installable { .. } | Job::Witness { .. } => Reads::OneFile,
             Job::Same(_) | Job::Diff { .. } => Reads::Paths,
             Job::QueryFrom { .. } | Job::Buildable { .. } => Reads::Paths,
@@ -168,16 +175,34 @@ impl Job {
     }
 
     /// Returns the kind of the documents that the arguments name for the job, if it reports that
-    /// one is refused by the line of the refusal.
+    /// one is refused by the line of the refusal. In another form than `Lines` it doesn't.
     pub fn document(&self) -> Option<Doc>
         ensures { result ≡ document_of self.now }
     {
         match self {
-            Job::Check(doc) | Job::Normalise(doc) | Job::Same(doc) => Some(*doc),
-            Job::CheckWhole { doc, .. } => Some(*doc),
+            Job::Check { doc, form } | Job::CheckWhole { doc, form, .. } => match form {
+                ReportForm::Lines => Some(*doc),
+                _ => None,
+            },
+            Job::Normalise(doc) | Job::Same(doc) => Some(*doc),
             _ => None,
         }
     }
+}
+
+/// The form in which `check`, `audit` and `explain` report why files are refused.
+#[derive(Clone, Copy, Debug, PartialEq, Eq)]
+pub enum ReportForm {
+    /// `--format lines`, or no format: in the command's own lines.
+    Lines,
+    /// `--format gcc`: in lines as a compiler's, with the path, the line and the column.
+    Gcc,
+    /// `--format github`: as commands of a GitHub workflow.
+    Github,
+    /// `--format jsonl`: in lines, each of which is a JSON object.
+    Jsonl,
+    /// `--format sarif`: as a document of SARIF, which is a JSON object.
+    Sarif,
 }
 
 /// What `check` and `audit` demand of a file that is accepted.
@@ -436,9 +461,17 @@ pub struct Call {
 pub enum Explain {
     /// The refusal of a file of this kind; of standard input if there is no path or the path is
     /// `-`.
-    File { doc: Doc, path: Option<String> },
+    File {
+        doc: Doc,
+        path: Option<String>,
+        form: ReportForm,
+    },
     /// `--all`: every refusal of such a file.
-    All { doc: Doc, path: Option<String> },
+    All {
+        doc: Doc,
+        path: Option<String>,
+        form: ReportForm,
+    },
     /// `--code N`: an error code.
     Rule(Code),
     /// `--relation TEXT`: the refusal of a relation, such as an argument of `query`. The text may
@@ -448,11 +481,15 @@ pub enum Explain {
     Version(String),
     /// `--where TEXT`: the refusal of a condition of `select` on documents of this kind. The text
     /// may be anything.
-    Condition { doc: Doc, text: String },
+    Condition {
+        doc: Doc,
+        text: String,
+    },
 }
 
-/// The files that `audit` reads, each of this kind, which of their refusals it prints, what ends
-/// each record, and what is demanded of each file: nothing, if it prints every refusal.
+/// The files that `audit` reads, each of this kind, which of their refusals it prints and in which
+/// form, what ends each record, and what is demanded of each file: nothing, if it prints every
+/// refusal. In another form than `Lines` the end is a newline.
 #[derive(Debug, PartialEq, Eq, Drop)]
 pub struct Audit {
     pub doc: Doc,
@@ -460,6 +497,7 @@ pub struct Audit {
     pub extent: Extent,
     pub end: LineEnd,
     pub demands: Demands,
+    pub form: ReportForm,
 }
 
 /// Which refusals of a file a command reports.

@@ -10,7 +10,7 @@
 //!
 //! ```text
 //! let task = job_of(rt.alloc(), &words)?; // debctl check --kind source hello.dsc
-//! task; // Task::Run(Call { job: Job::Check(Doc::Source), first: Some("hello.dsc"), .. })
+//! task; // Task::Run(Call { job: Job::Check { doc: Doc::Source, .. }, .. })
 //! ```
 #![tactic(auto)]
 
@@ -36,6 +36,6 @@ pub use arguments::{UsageFault, job_of};
 pub use jobs::{
     Audit, Call, Cmp, Demands, Dependents, Detail, DiffDetail, DiffKind, Explain, Extent, Files,
     Job, LatestBy, LatestKind, LatestOf, LineEnd, Members, OnRefusal, Picks, QueryOver, Reads,
-    RelationArgument, SelectForm, SelectOf, SourceKind, SourcesTried, Strength, Task, Terms, Unmet,
-    UnmetFiles,
+    RelationArgument, ReportForm, SelectForm, SelectOf, SourceKind, SourcesTried, Strength, Task,
+    Terms, Unmet, UnmetFiles,
 };

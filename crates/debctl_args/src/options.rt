@@ -87,6 +87,15 @@ pub(crate) const ALL: Argument = Argument {
     help: Some("Report every error, not only the first one"),
 };
 
+/// `--format F` of `check`, `audit` and `explain`
+pub(crate) const REPORT_FORMAT: Argument = Argument {
+    id: "format",
+    short: None,
+    form: Form::Value,
+    shown: "F",
+    help: Some("The format: lines (the default), gcc, github, jsonl or sarif"),
+};
+
 /// `--complete`
 pub(crate) const COMPLETE: Argument = Argument {
     id: "complete",
@@ -339,7 +348,7 @@ pub(crate) const FIELDS: Argument = Argument {
     help: Some("Write only these fields, in this order"),
 };
 
-/// `--format F`
+/// `--format F` of `select`
 pub(crate) const FORMAT: Argument = Argument {
     id: "format",
     short: None,

@@ -18,9 +18,9 @@ use crate::options::{
     COMPLETE, CONDITION_TEXT, COUNT, DEPENDENTS, DIFF_KIND, ESSENTIAL, FIELDS, FIRST, FORMAT,
     INDEX, INDEX_FILE, INDEX_FILES, INSTALLABLE_KIND, INSTALLABLE_WHY, INSTALLED, KIND,
     LATEST_KIND, LEAST, LEFT, LIST, NEW, NOT, NULL, OLD, ONLY, OPERATOR, PATH, PATHS, PROFILES,
-    QUERIED, RECOMMENDS, RELATION, RELATION_FILE, RELATION_TEXT, REVERSE, RIGHT, SECOND, SELECTED,
-    SPELLED, STRICT, UNLESS_IN, UNMET_KIND, UNMET_WITHOUT, VALUES, VERSION, VERSION_TEXT, VERSIONS,
-    WHERE, WHOLE_FILES, WHY, WITHOUT, WITNESS,
+    QUERIED, RECOMMENDS, RELATION, RELATION_FILE, RELATION_TEXT, REPORT_FORMAT, REVERSE, RIGHT,
+    SECOND, SELECTED, SPELLED, STRICT, UNLESS_IN, UNMET_KIND, UNMET_WITHOUT, VALUES, VERSION,
+    VERSION_TEXT, VERSIONS, WHERE, WHOLE_FILES, WHY, WITHOUT, WITNESS,
 };
 use crate::select_arguments::select_task;
 use crate::set_arguments::{healthy_task, installable_task};
@@ -42,7 +42,7 @@ static FILE_COMMANDS: [Row; 11] = [
     Row {
         name: "check",
         about: "Checks whether a file is well formed",
-        takes: &[KIND, ALL, COMPLETE, LEAST, PATH],
+        takes: &[KIND, ALL, COMPLETE, LEAST, REPORT_FORMAT, PATH],
     },
     Row {
         name: "explain",
@@ -50,6 +50,7 @@ static FILE_COMMANDS: [Row; 11] = [
         takes: &[
             KIND,
             ALL,
+            REPORT_FORMAT,
             CODE,
             RELATION_TEXT,
             VERSION_TEXT,
@@ -60,7 +61,7 @@ static FILE_COMMANDS: [Row; 11] = [
     Row {
         name: "audit",
         about: "Checks many files and prints one line for each",
-        takes: &[KIND, ALL, COMPLETE, LEAST, LIST, NULL, PATHS],
+        takes: &[KIND, ALL, COMPLETE, LEAST, REPORT_FORMAT, LIST, NULL, PATHS],
     },
     Row {
         name: "normalise",
