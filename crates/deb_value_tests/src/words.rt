@@ -28,15 +28,25 @@ fn push_word(words: &mut Vec<String>, alloc: Global, word: &str) -> Result<(), A
 /// A command line and the task or the fault that it has, in each line: one text is proved sooner
 /// than a table of rows.
 const LINES: &str = "\
-    check => Ok(Run(Call { job: Check(Packages), first: None, second: None }))\n\
-    check --kind=binary x => Ok(Run(Call { job: Check(Binary), first: Some(\"x\"), second: None \
+    check => Ok(Run(Call { job: Check { doc: Packages, form: Lines }, first: None, second: None \
     }))\n\
-    check --all -k any x => Ok(Run(Call { job: CheckAll(Any), first: Some(\"x\"), second: None \
-    }))\n\
-    check -a x => Ok(Run(Call { job: CheckAll(Packages), first: Some(\"x\"), second: None }))\n\
+    check --kind=binary x => Ok(Run(Call { job: Check { doc: Binary, form: Lines }, first: \
+    Some(\"x\"), second: None }))\n\
+    check --all -k any x => Ok(Run(Call { job: CheckAll { doc: Any, form: Lines }, first: \
+    Some(\"x\"), second: None }))\n\
+    check -a x => Ok(Run(Call { job: CheckAll { doc: Packages, form: Lines }, first: Some(\"x\"), \
+    second: None }))\n\
     check --complete --least 2 x => Ok(Run(Call { job: CheckWhole { doc: Packages, demands: \
-    Demands { complete: true, least: 2 } }, first: Some(\"x\"), second: None }))\n\
+    Demands { complete: true, least: 2 }, form: Lines }, first: Some(\"x\"), second: None }))\n\
     check --least 02 x => Err(Usage(\"usage: --least takes a number\"))\n\
+    check --all --format sarif x => Ok(Run(Call { job: CheckAll { doc: Packages, form: Sarif }, \
+    first: Some(\"x\"), second: None }))\n\
+    check --format x => Err(Usage(\"usage: --format takes lines, gcc, github, jsonl or \
+    sarif\"))\n\
+    explain --format github x => Ok(Explain(File { doc: Packages, path: Some(\"x\"), form: \
+    Github }))\n\
+    audit -0 --format gcc x => Err(Usage(\"usage: audit takes --null only with --format \
+    lines\"))\n\
     audit --all --complete x => Err(Usage(\"usage: --all takes neither --complete nor \
     --least\"))\n\
     normalise --kind source x => Ok(Run(Call { job: Normalise(Source), first: Some(\"x\"), \
@@ -177,18 +187,18 @@ const LINES: &str = "\
     select - x - => Err(Usage(\"usage: standard input twice\"))\n\
     compare 1 xx 2 => Err(Usage(\"usage: unknown operator\"))\n\
     check --kind foo => Err(Usage(\"usage: unknown kind\"))\n\
-    explain --kind source x => Ok(Explain(File { doc: Source, path: Some(\"x\") }))\n\
-    explain --all - => Ok(Explain(All { doc: Packages, path: Some(\"-\") }))\n\
+    explain --kind source x => Ok(Explain(File { doc: Source, path: Some(\"x\"), form: Lines }))\n\
+    explain --all - => Ok(Explain(All { doc: Packages, path: Some(\"-\"), form: Lines }))\n\
     explain --code 18 => Ok(Explain(Rule(BadVersion)))\n\
     explain --code BadVersion => Ok(Explain(Rule(BadVersion)))\n\
     audit y --kind any - x => Ok(Audit(Audit { doc: Any, files: Paths([\"y\", \"-\", \"x\"]), \
-    extent: First, end: Newline, demands: Demands { complete: false, least: 0 } }))\n\
-    audit --files0-from - => Ok(Audit(Audit { doc: Packages, files: Listed(\"-\"), extent: \
-    First, end: Newline, demands: Demands { complete: false, least: 0 } }))\n\
-    audit -0 x => Ok(Audit(Audit { doc: Packages, files: Paths([\"x\"]), extent: First, end: \
-    Nul, demands: Demands { complete: false, least: 0 } }))\n\
+    extent: First, end: Newline, demands: Demands { complete: false, least: 0 }, form: Lines }))\n\
+    audit --files0-from - => Ok(Audit(Audit { doc: Packages, files: Listed(\"-\"), extent: First, \
+    end: Newline, demands: Demands { complete: false, least: 0 }, form: Lines }))\n\
+    audit -0 x => Ok(Audit(Audit { doc: Packages, files: Paths([\"x\"]), extent: First, end: Nul, \
+    demands: Demands { complete: false, least: 0 }, form: Lines }))\n\
     audit --all x => Ok(Audit(Audit { doc: Packages, files: Paths([\"x\"]), extent: All, end: \
-    Newline, demands: Demands { complete: false, least: 0 } }))\n\
+    Newline, demands: Demands { complete: false, least: 0 }, form: Lines }))\n\
     explain --relation aa| => Ok(Explain(Relation(\"aa|\")))\n\
     explain --version-text=1- => Ok(Explain(Version(\"1-\")))\n\
     explain --where Package => Ok(Explain(Condition { doc: Packages, text: \"Package\" }))\n\
