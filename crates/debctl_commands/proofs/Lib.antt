@@ -15,6 +15,7 @@ pub mod QueryOvers
 pub mod QueryReports
 pub mod RelationFiles
 pub mod Turning
+pub mod ReportJobs
 pub mod SameReports
 pub mod SelectAccepted
 pub mod SelectAcceptedEndings

@@ -23,6 +23,7 @@ use Rattle.debctl_args.specs.declared.jobs.DiffDetail.TheVariants as diff_detail
 use Rattle.debctl_args.specs.declared.jobs.DiffKind.TheVariants as diff_kinds
 use Rattle.debctl_args.specs.declared.jobs.Job.{Job}
 use Rattle.debctl_args.specs.declared.jobs.Job.TheVariants as job
+use Rattle.debctl_args.specs.declared.jobs.ReportForm.TheVariants as forms
 use Rattle.debctl_args.specs.declared.jobs.SourceKind.TheVariants as sources
 use Rattle.debctl_args.specs.declared.jobs.Strength.TheVariants.{Depends}
 use Rattle.debctl_args.specs.declared.jobs.Terms.{Terms}
@@ -92,10 +93,12 @@ abbrev promise : Job → Promise (List ℕ)
 promise asked = promise_of asked
 
 -- each answer that has a status of its own, or a line
-reports_of_jobs : ((promise (job.Check Source)).report tt ≡ by_status 0)
-    × ((promise (job.CheckAll Source)).report (record { passed = 4; refused = 3 }) ≡ by_status 2)
-    × ((promise (job.CheckWhole Source (demand true 0))).report (Whole 2) ≡ by_status 0)
-    × ((promise (job.CheckWhole Source (demand true 0))).report NoNewline
+reports_of_jobs : ((promise (job.Check Source forms.Lines)).report tt ≡ by_status 0)
+    × ((promise (job.CheckAll Source forms.Lines)).report (record { passed = 4; refused = 3 })
+    ≡ by_status 2)
+    × ((promise (job.CheckWhole Source (demand true 0) forms.Lines)).report (Whole 2)
+    ≡ by_status 0)
+    × ((promise (job.CheckWhole Source (demand true 0) forms.Lines)).report NoNewline
     ≡ by_line (verdict_line NoNewline))
     × ((promise (job.Normalise Source)).report 7 ≡ by_status 0)
     × ((promise (job.Same Source)).report true ≡ by_status 0)
@@ -156,7 +159,7 @@ unfolding one other
 promises_of_names = (refl, refl, refl)
 
 -- the refusal of a file has a side where both files are of one kind, and other faults have none
-lines_of_jobs : ((promise (job.Check Source)).line Read ≡ codes "fault: read\n")
+lines_of_jobs : ((promise (job.Check Source forms.Lines)).line Read ≡ codes "fault: read\n")
     × ((promise diff).line
     (record { side = Second; fault = Refused (record { code = NoColon; line = 4 }) })
     ≡ codes "second: line 4: 6 NoColon\n")
@@ -183,10 +186,12 @@ said_of_jobs = (refl, refl, refl)
 
 -- ---- what a job leaves as it was
 
-unread : (IfUnread (job.Check Source) ℕ ≡ Unit {0}) × (IfUnread (job.Same Source) ℕ ≡ Unit {0})
+unread : (IfUnread (job.Check Source forms.Lines) ℕ ≡ Unit {0})
+    × (IfUnread (job.Same Source) ℕ ≡ Unit {0})
     × (IfUnread compare ℕ ≡ ℕ) × (IfUnread (job.CanonVersion one) ℕ ≡ ℕ)
     × (IfUnread (job.VersionKey names) ℕ ≡ ℕ) × (IfCompare compare ℕ ≡ ℕ)
-    × (IfCompare (job.Check Source) ℕ ≡ Unit {0}) × (IfSecondUnread (job.Check Source) ℕ ≡ ℕ)
+    × (IfCompare (job.Check Source forms.Lines) ℕ ≡ Unit {0})
+    × (IfSecondUnread (job.Check Source forms.Lines) ℕ ≡ ℕ)
     × (IfSecondUnread (job.Same Source) ℕ ≡ Unit {0}) × (IfSecondUnread compare ℕ ≡ ℕ)
     × (IfSecondUnread (buildable 9) ℕ ≡ Unit {0})
 unread = (refl, refl, refl, refl, refl, refl, refl, refl, refl, refl, refl)
@@ -212,7 +217,8 @@ unread_by_words = (refl, refl, refl, refl, refl, refl, refl, refl)
 -- ---- paths
 
 abbrev on_one : List Job
-on_one = job.Check Source ∷ job.CheckAll Source ∷ job.CheckWhole Source (demand true 2)
+on_one = job.Check Source forms.Lines ∷ job.CheckAll Source forms.Lines
+    ∷ job.CheckWhole Source (demand true 2) forms.Lines
     ∷ job.Normalise Source ∷ job.Sort true ∷ query ∷ installable 9 ∷ witness 9 ∷ []
 
 abbrev on_two : List Job

@@ -28,6 +28,8 @@ pub mod SelectJob
 pub mod SideAnswers
 pub mod Taking
 pub mod Turns
+pub mod ReportAsked
+pub mod ReportJob
 pub mod Reporting
 pub mod UnmetJob
 pub mod HealthJob

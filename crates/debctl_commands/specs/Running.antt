@@ -73,12 +73,13 @@ abbrev pub of_words : {W T : Type 0} → ((W → Option (List ℕ)) → (W → �
     → Type 0) → Saying W T Fault
 of_words says first second out answer = says out.held out.failures out.old out.new answer
 
--- What each job promises.
+-- What each job promises. Where a form of reports is asked, it is that of lines: the jobs of the
+-- other forms, which need the path of the file, are those of `ReportJob`.
 abbrev pub promise_of : {W : Type 0} → Job → Promise W
-promise_of (Check doc) = plain {T = ⊤} done (of_file (ChecksFile doc))
-promise_of (CheckAll doc) =
+promise_of (Check doc form) = plain {T = ⊤} done (of_file (ChecksFile doc))
+promise_of (CheckAll doc form) =
     plain (λ (summary : Summary). by_status (summary_status summary)) (of_file (ChecksAll doc))
-promise_of (CheckWhole doc demands) = plain verdict_report (of_file (ChecksWhole doc demands))
+promise_of (CheckWhole doc demands form) = plain verdict_report (of_file (ChecksWhole doc demands))
 promise_of (Normalise doc) = plain {T = ℕ} done (of_file (NormalisesFile doc))
 promise_of (Same doc) = sided yes_or_no (ComparesFiles doc)
 promise_of (Diff kind detail versions) =

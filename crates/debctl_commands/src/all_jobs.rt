@@ -98,7 +98,7 @@ pub fn run_explain_all<R: Source, W: Sink, E: Sink>(
 }
 
 /// The status of a file with these counts: 0 if nothing is refused, else 2.
-fn summary_status(summary: Summary) -> u8
+pub(crate) fn summary_status(summary: Summary) -> u8
     ensures { result ≡ summary_status summary }
 {
     if summary.refused == 0 { 0 } else { 2 }

@@ -39,8 +39,10 @@ use std::alloc::Global;
 /// packages reads the index from `first`, and then the file from `second`. A reader that a job
 /// doesn't use is unchanged. So is that of the index if the arguments of a `query`, or the relation
 /// that it has read, are refused; and so are both of `installable` on source packages if its
-/// arguments are refused, and the second if the index is, or the old file of a `diff`. At most
-/// 4,295,032,831 bytes are read from a reader: a file of the most bytes, and one piece.
+/// arguments are refused, and the second if the index is, or the old file of a `diff`. `check`
+/// reports in lines, whichever form is asked; [`run_report`](crate::run_report) and
+/// [`run_report_all`](crate::run_report_all) write the other forms. At most 4,295,032,831 bytes are
+/// read from a reader: a file of the most bytes, and one piece.
 ///
 /// - 0: done, or the answer is yes. `out` has `ok N` and a newline, with `--all` `ok N, 0 refused`
 ///   and a newline, the canonical text of the file, `same` and a newline, nothing, the canonical
@@ -146,9 +148,9 @@ fn run_job<R: Source, S: Source, W: Sink, E: Sink>(
         (writer_of E.held E.failures err.old err.new) result }
 {
     match job {
-        Job::Check(doc) => run_check(alloc, *doc, first, out, err),
-        Job::CheckAll(doc) => run_check_all(alloc, *doc, first, out, err),
-        Job::CheckWhole { doc, demands } => {
+        Job::Check { doc, .. } => run_check(alloc, *doc, first, out, err),
+        Job::CheckAll { doc, .. } => run_check_all(alloc, *doc, first, out, err),
+        Job::CheckWhole { doc, demands, .. } => {
             run_check_whole(alloc, *doc, *demands, first, out, err)
         }
         Job::Normalise(doc) => run_normalise(alloc, *doc, first, out, err),

@@ -12,6 +12,8 @@ use crate::opening::run_call;
 use crate::opens::Opens;
 use crate::query_over::run_query_over;
 use crate::reader::{SystemFiles, opened};
+use crate::report_asked::{ReportAsked, asked_in, report_asked};
+use crate::report_job::{run_report, run_report_all};
 use crate::reporting::{report_fault, report_usage};
 use crate::select_accepted_job::run_select_accepted;
 use crate::select_job::run_select;
@@ -19,7 +21,7 @@ use crate::unmet_job::run_unmet;
 use crate::unopened::Unopened;
 use crate::usage_hints::{put_usage_hint, usage_hint};
 use crate::writer::{Records, Streams, write_out};
-use deb_base::{FILE_LIMIT, Fault, Input, Output, Sink, read_text};
+use deb_base::{FILE_LIMIT, Fault, Input, Output, Sink, Source, read_text};
 use deb_explain::Word;
 use deb_field::Doc;
 use debctl_args::{
@@ -109,7 +111,7 @@ fn answer(rt: &HostRuntime, task: &Task) -> u8 {
 fn run_on_streams(rt: &HostRuntime, call: &Call) -> Result<u8, Fault> {
     let Streams { mut out, mut err } = Streams::new(rt)?;
     let mut files = SystemFiles::new(rt);
-    let status = run_call(
+    let status = run_in_form(
         rt.alloc(),
         call,
         &mut files,
@@ -121,6 +123,40 @@ fn run_on_streams(rt: &HostRuntime, call: &Call) -> Result<u8, Fault> {
         let _ = put_hint(call, &files, about, &mut Output::new(&mut err));
     }
     write_out(out, err, status)
+}
+
+/// Does the job of a call in the form that is asked: `check` in another form than lines opens its
+/// file here, since it writes the path.
+fn run_in_form<F: Opens, W: Sink, E: Sink>(
+    alloc: Global,
+    call: &Call,
+    files: &mut F,
+    out: &mut W,
+    err: &mut E,
+) -> u8 {
+    let path = path_or_input(&call.first).as_bytes();
+    match report_asked(&call.job) {
+        Some(asked) => match files.open(path) {
+            Ok(mut first) => report_file(alloc, asked, path, &mut first, out, err),
+            Err(_) => report_fault(&Fault::Read, err),
+        },
+        None => run_call(alloc, call, files, out, err),
+    }
+}
+
+/// Reports a file in another form than lines: its first refusal, or every one.
+fn report_file<R: Source, W: Sink, E: Sink>(
+    alloc: Global,
+    asked: ReportAsked,
+    path: &[u8],
+    first: &mut R,
+    out: &mut W,
+    err: &mut E,
+) -> u8 {
+    match asked.extent {
+        Extent::First => run_report(alloc, asked.options, path, first, out, err),
+        Extent::All => run_report_all(alloc, asked.options, path, first, out, err),
+    }
 }
 
 /// Does the job of `query` over the files of the system, and writes out what it has written.
@@ -230,12 +266,14 @@ fn explain_by<W: Sink, E: Sink>(
     err: &mut E,
 ) -> Result<u8, Fault> {
     match wanted {
-        Explain::File { doc, path } => {
-            explain_file(rt, Extent::First, *doc, path_or_input(path), out, err)
-        }
-        Explain::All { doc, path } => {
-            explain_file(rt, Extent::All, *doc, path_or_input(path), out, err)
-        }
+        Explain::File { doc, path, form } => match asked_in(*form, *doc, Extent::First) {
+            Some(asked) => report_path(rt, asked, path_or_input(path), out, err),
+            None => explain_file(rt, Extent::First, *doc, path_or_input(path), out, err),
+        },
+        Explain::All { doc, path, form } => match asked_in(*form, *doc, Extent::All) {
+            Some(asked) => report_path(rt, asked, path_or_input(path), out, err),
+            None => explain_file(rt, Extent::All, *doc, path_or_input(path), out, err),
+        },
         Explain::Rule(code) => Ok(run_rule(*code, out, err)),
         Explain::Relation(text) => {
             Ok(run_word(rt.alloc(), Word::Relation, text.as_str(), out, err))
@@ -274,6 +312,24 @@ fn explain_file<W: Sink, E: Sink>(
             })
         }
         Err(why) => Ok(run_unopened(path.as_bytes(), why, out, err)),
+    }
+}
+
+/// Reports in another form than lines why the file of a path is refused, or that it can't be opened.
+fn report_path<W: Sink, E: Sink>(
+    rt: &HostRuntime,
+    asked: ReportAsked,
+    path: &str,
+    out: &mut W,
+    err: &mut E,
+) -> Result<u8, Fault> {
+    match opened(rt, path) {
+        Ok(reader) => {
+            let mut first = Input::new(reader);
+            let path = path.as_bytes();
+            Ok(report_file(rt.alloc(), asked, path, &mut first, out, err))
+        }
+        Err(_) => Ok(report_fault(&Fault::Read, err)),
     }
 }
 
