@@ -33,5 +33,6 @@ pub mod LatestAnswers
 pub mod LatestFiles
 pub mod LatestWritten
 pub mod LongFiles
+pub mod WholeReportJobs
 pub mod WholeReports
 pub mod WitnessReports

@@ -38,5 +38,6 @@ pub mod Unopened
 pub mod Verdicts
 pub mod VersionJobs
 pub mod WholeJob
+pub mod WholeReportJob
 pub mod WitnessJob
 pub mod UsageReporting

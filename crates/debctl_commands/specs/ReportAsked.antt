@@ -1,16 +1,19 @@
 -- Which reports in another form than lines the arguments ask for. This project's own.
-use Rattle.std.specs.Prelude.{◌≡◌, Option, Some, None, refl}
+use Rattle.std.specs.Prelude.{◌≡◌, true, Option, Some, None, refl}
 use Rattle.deb_base.specs.declared.doc.Doc.{Doc}
 use Rattle.deb_base.specs.declared.doc.Doc.TheVariants.{Source}
 use Rattle.deb_report.specs.declared.report_format.ReportFormat.{ReportFormat}
 use Rattle.deb_report.specs.declared.report_format.ReportFormat.TheVariants as formats
+use Rattle.debctl_args.specs.declared.jobs.Demands.{Demands}
 use Rattle.debctl_args.specs.declared.jobs.Extent.{Extent}
 use Rattle.debctl_args.specs.declared.jobs.Extent.TheVariants.{All, First}
 use Rattle.debctl_args.specs.declared.jobs.Job.{Job}
-use Rattle.debctl_args.specs.declared.jobs.Job.TheVariants.{Check, CheckAll, Normalise}
+use Rattle.debctl_args.specs.declared.jobs.Job.TheVariants.{Check, CheckAll, CheckWhole, Normalise}
 use Rattle.debctl_args.specs.declared.jobs.ReportForm.{ReportForm}
 use Rattle.debctl_args.specs.declared.jobs.ReportForm.TheVariants.{Lines, Gcc, Github, Jsonl, Sarif}
+use Rattle.debctl_commands.specs.Verdicts.{demand}
 use Rattle.debctl_commands.specs.declared.report_asked.ReportAsked.{ReportAsked}
+use Rattle.debctl_commands.specs.declared.whole_report_job.WholeOptions.{WholeOptions}
 
 -- the format of a form, if it isn't that of lines
 abbrev pub format_of : ReportForm → Option ReportFormat
@@ -34,6 +37,24 @@ abbrev pub report_asked : Job → Option ReportAsked
 report_asked (Check doc form) = asked_in form doc First
 report_asked (CheckAll doc form) = asked_in form doc All
 report_asked _ = None
+
+abbrev pub whole_of : Doc → Demands → Option ReportFormat → Option WholeOptions
+whole_of doc demands None = None
+whole_of doc demands (Some format) =
+    Some (record { report = record { doc = doc; format = format }; demands = demands })
+
+-- that of `check` with demands
+abbrev pub whole_asked : Job → Option WholeOptions
+whole_asked (CheckWhole doc demands form) = whole_of doc demands (format_of form)
+whole_asked _ = None
+
+worked-wholes : (whole_asked (CheckWhole Source (demand true 2) Lines) ≡ None)
+    × (whole_asked (Check Source Gcc) ≡ None)
+    × (whole_asked (CheckWhole Source (demand true 2) Gcc) ≡ Some (record {
+      report = record { doc = Source; format = formats.Gcc };
+      demands = demand true 2;
+    }))
+worked-wholes = (refl, refl, refl)
 
 worked-asked : (report_asked (Check Source Lines) ≡ None)
     × (report_asked (CheckAll Source Lines) ≡ None)

@@ -8,6 +8,8 @@
 //!   or a version, [`run_condition`] why it isn't a condition of `select`, [`run_rule`] what an
 //!   error code means, [`run_audit`] whether each of many files is accepted, and [`run_audit_all`]
 //!   every refusal of each.
+//! - [`run_report`] and [`run_report_all`] write why a file is refused in a form that other
+//!   programs read, and [`run_report_whole`] also checks what is demanded of a file.
 //! - [`run_query_over`], [`run_unmet`], [`run_latest`], [`run_select`] and [`run_select_accepted`]
 //!   do jobs over any number of files, which they open by their paths.
 //! - [`run_program`] runs the task that the program's arguments ask for: it opens the paths, passes
@@ -52,6 +54,7 @@ mod usage_hints;
 mod verdict;
 mod version_jobs;
 mod whole_job;
+mod whole_report_job;
 mod witness_job;
 mod writer;
 
@@ -71,3 +74,4 @@ pub use streams::run_program;
 pub use unmet_job::run_unmet;
 pub use unopened::Unopened;
 pub use verdict::Verdict;
+pub use whole_report_job::{Judged, WholeOptions, run_report_whole};

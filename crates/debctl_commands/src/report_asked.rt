@@ -1,15 +1,16 @@
 //! Which reports in another form than lines the arguments ask for.
 
 ghost use Rattle.std.specs.Prelude.{◌≡◌};
-ghost use Rattle.debctl_commands.specs.ReportAsked.{asked_in, format_of, report_asked};
+ghost use Rattle.debctl_commands.specs.ReportAsked.{asked_in, format_of, report_asked, whole_asked};
 
 use crate::report_job::ReportOptions;
+use crate::whole_report_job::WholeOptions;
 use deb_field::Doc;
 use deb_report::ReportFormat;
 use debctl_args::{Extent, Job, ReportForm};
 
 /// What a report in another form than lines is asked.
-#[derive(Clone, Copy, Debug, PartialEq, Eq)]
+#[derive(Clone, Copy)]
 pub struct ReportAsked {
     pub options: ReportOptions,
     /// Which refusals it has.
@@ -37,6 +38,22 @@ pub(crate) fn asked_in(form: ReportForm, doc: Doc, extent: Extent) -> Option<Rep
             extent,
         }),
         None => None,
+    }
+}
+
+/// Returns the report that a job asks for, if it is `check` with demands in another form than lines.
+pub(crate) fn whole_asked(job: &Job) -> Option<WholeOptions>
+    ensures { result ≡ whole_asked job.now }
+{
+    match job {
+        Job::CheckWhole { doc, demands, form } => match format_of(*form) {
+            Some(format) => Some(WholeOptions {
+                report: ReportOptions { doc: *doc, format },
+                demands: *demands,
+            }),
+            None => None,
+        },
+        _ => None,
     }
 }
 

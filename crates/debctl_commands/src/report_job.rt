@@ -19,7 +19,7 @@ use deb_report::{Output, ReportFormat, report_all, report_first, write_begin, wr
 use std::alloc::Global;
 
 /// What a job in another form than lines is asked.
-#[derive(Clone, Copy, Debug, PartialEq, Eq)]
+#[derive(Clone, Copy)]
 pub struct ReportOptions {
     /// The kind of the documents.
     pub doc: Doc,
@@ -104,7 +104,7 @@ pub fn run_report_all<R: Source, W: Sink, E: Sink>(
 }
 
 /// Writes the output of the first refusal of a file.
-fn write_report<R: Source, W: Sink>(
+pub(crate) fn write_report<R: Source, W: Sink>(
     alloc: Global,
     options: ReportOptions,
     path: &[u8],

@@ -12,7 +12,7 @@ use crate::opening::run_call;
 use crate::opens::Opens;
 use crate::query_over::run_query_over;
 use crate::reader::{SystemFiles, opened};
-use crate::report_asked::{ReportAsked, asked_in, report_asked};
+use crate::report_asked::{ReportAsked, asked_in, report_asked, whole_asked};
 use crate::report_job::{run_report, run_report_all};
 use crate::reporting::{report_fault, report_usage};
 use crate::select_accepted_job::run_select_accepted;
@@ -20,6 +20,7 @@ use crate::select_job::run_select;
 use crate::unmet_job::run_unmet;
 use crate::unopened::Unopened;
 use crate::usage_hints::{put_usage_hint, usage_hint};
+use crate::whole_report_job::run_report_whole;
 use crate::writer::{Records, Streams, write_out};
 use deb_base::{FILE_LIMIT, Fault, Input, Output, Sink, Source, read_text};
 use deb_explain::Word;
@@ -135,9 +136,15 @@ fn run_in_form<F: Opens, W: Sink, E: Sink>(
     err: &mut E,
 ) -> u8 {
     let path = path_or_input(&call.first).as_bytes();
-    match report_asked(&call.job) {
-        Some(asked) => match files.open(path) {
+    if let Some(asked) = report_asked(&call.job) {
+        return match files.open(path) {
             Ok(mut first) => report_file(alloc, asked, path, &mut first, out, err),
+            Err(_) => report_fault(&Fault::Read, err),
+        };
+    }
+    match whole_asked(&call.job) {
+        Some(options) => match files.open(path) {
+            Ok(mut first) => run_report_whole(alloc, options, path, &mut first, out, err),
             Err(_) => report_fault(&Fault::Read, err),
         },
         None => run_call(alloc, call, files, out, err),

@@ -86,7 +86,7 @@ fn put_whole<W: Sink>(verdict: Verdict, out: &mut W) -> Result<(), Fault>
 }
 
 /// Reports that a file doesn't meet the demands, if it doesn't, and returns the status.
-fn report_verdict<E: Sink>(verdict: Verdict, err: &mut E) -> u8
+pub(crate) fn report_verdict<E: Sink>(verdict: Verdict, err: &mut E) -> u8
     ensures { ReportsAs E.held E.failures err.old err.new (verdict_report verdict) result }
 {
     match verdict {

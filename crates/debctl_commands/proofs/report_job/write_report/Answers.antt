@@ -23,10 +23,10 @@ returns-in_err-write_end-clause-reports g c =
     let p = err_from_is_err_and c.from_residual-in_err-write_end.result c.from_residual-in_err-write_end.ensures.1 in
     let call = c.in_err-write_end.ensures in
     let read = c.in_ok-explained.ensures in
-    rw (p.1, p.2) (first_not_ended g.row.W.Denot c.args.options.format c.args.options.doc c.args.path.now (g.R.Source.left c.args.first.now) (g.R.Source.failures c.args.first.now) (g.R.Source.failures c.report_first.new.reader) g.W.Sink.held g.W.Sink.failures c.args.out.now c.write_end.new.out c.write_begin.new.out c.in_ok-write_begin.ensures.written c.in_ok-write_begin.ensures.counts_failure c.report_first.new.writer c.in_ok-explained.field-0 read.ok read.counts_write_failure read.counts_read_failure c.in_err-write_end.field-0.0 call.fault call.written call.counts_failure)
+    rw (p.1, p.2) (first_not_ended g.row.W.Denot c.args.options.format c.args.options.doc c.args.path.now (g.R.Source.left c.args.first.now) (g.R.Source.failures c.args.first.now) (g.R.Source.failures c.report_first.new.reader) g.W.Sink.held g.W.Sink.failures c.args.out.now c.write_end.new.out c.write_begin.new.out c.in_ok-write_begin.ensures.written c.in_ok-write_begin.ensures.counts_failure c.report_first.new.writer c.in_ok-explained.explained read.ok read.counts_write_failure read.counts_read_failure c.in_err-write_end.field-0.0 call.fault call.written call.counts_failure)
 
-pub returns-in_ok-write_end-clause-reports : goal.returns-in_ok-write_end-clause-reports
-returns-in_ok-write_end-clause-reports g c =
+pub returns-clause-reports : goal.returns-clause-reports
+returns-clause-reports g c =
     let call = c.in_ok-write_end.ensures in
     let read = c.in_ok-explained.ensures in
-    first_done g.row.W.Denot c.args.options.format c.args.options.doc c.args.path.now (g.R.Source.left c.args.first.now) (g.R.Source.failures c.args.first.now) (g.R.Source.failures c.report_first.new.reader) g.W.Sink.held g.W.Sink.failures c.args.out.now c.write_end.new.out c.write_begin.new.out c.in_ok-write_begin.ensures.written c.in_ok-write_begin.ensures.counts_failure c.report_first.new.writer c.in_ok-explained.field-0 read.ok read.counts_write_failure read.counts_read_failure call.written call.counts_failure
+    first_done g.row.W.Denot c.args.options.format c.args.options.doc c.args.path.now (g.R.Source.left c.args.first.now) (g.R.Source.failures c.args.first.now) (g.R.Source.failures c.report_first.new.reader) g.W.Sink.held g.W.Sink.failures c.args.out.now c.write_end.new.out c.write_begin.new.out c.in_ok-write_begin.ensures.written c.in_ok-write_begin.ensures.counts_failure c.report_first.new.writer c.in_ok-explained.explained read.ok read.counts_write_failure read.counts_read_failure call.written call.counts_failure
