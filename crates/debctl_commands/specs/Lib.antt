@@ -1,6 +1,7 @@
 pub mod AllJobs
 pub mod AuditAllJob
 pub mod AuditJob
+pub mod AuditReportJob
 pub mod BuildJob
 pub mod DiffJob
 pub mod DocumentJobs

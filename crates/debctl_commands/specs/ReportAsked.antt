@@ -1,5 +1,6 @@
 -- Which reports in another form than lines the arguments ask for. This project's own.
-use Rattle.std.specs.Prelude.{◌≡◌, true, Option, Some, None, refl}
+use Rattle.std.specs.Prelude.{◌≡◌, ◌||◌, true, false, if◌then◌else◌, nat_lt, Option, Some}
+use Rattle.std.specs.Prelude.{None, refl}
 use Rattle.deb_base.specs.declared.doc.Doc.{Doc}
 use Rattle.deb_base.specs.declared.doc.Doc.TheVariants.{Source}
 use Rattle.deb_report.specs.declared.report_format.ReportFormat.{ReportFormat}
@@ -47,6 +48,18 @@ whole_of doc demands (Some format) =
 abbrev pub whole_asked : Job → Option WholeOptions
 whole_asked (CheckWhole doc demands form) = whole_of doc demands (format_of form)
 whole_asked _ = None
+
+-- that of an audit, which has none with demands
+abbrev pub audit_asked : Demands → Option ReportAsked → Option ReportAsked
+audit_asked demands asked = if demands.complete || nat_lt 0 demands.least then None else asked
+
+abbrev some_asked : Option ReportAsked
+some_asked = asked_in Gcc Source First
+
+worked-audits : (audit_asked (demand false 0) some_asked ≡ some_asked)
+    × (audit_asked (demand true 0) some_asked ≡ None)
+    × (audit_asked (demand false 1) some_asked ≡ None)
+worked-audits = (refl, refl, refl)
 
 worked-wholes : (whole_asked (CheckWhole Source (demand true 2) Lines) ≡ None)
     × (whole_asked (Check Source Gcc) ≡ None)

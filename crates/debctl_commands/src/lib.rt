@@ -19,6 +19,7 @@
 mod all_jobs;
 mod audit_all_job;
 mod audit_job;
+mod audit_report_job;
 mod build_job;
 mod command;
 mod diff_job;
@@ -61,6 +62,7 @@ mod writer;
 pub use all_jobs::run_explain_all;
 pub use audit_all_job::run_audit_all;
 pub use audit_job::{AuditOptions, run_audit};
+pub use audit_report_job::{FileOptions, run_audit_report};
 pub use command::run;
 pub use explain_job::{run_condition, run_explain, run_rule, run_unopened, run_word};
 pub use latest_job::run_latest;

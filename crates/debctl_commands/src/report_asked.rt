@@ -1,13 +1,14 @@
 //! Which reports in another form than lines the arguments ask for.
 
 ghost use Rattle.std.specs.Prelude.{◌≡◌};
-ghost use Rattle.debctl_commands.specs.ReportAsked.{asked_in, format_of, report_asked, whole_asked};
+ghost use Rattle.debctl_commands.specs.ReportAsked.{asked_in, audit_asked, format_of};
+ghost use Rattle.debctl_commands.specs.ReportAsked.{report_asked, whole_asked};
 
 use crate::report_job::ReportOptions;
 use crate::whole_report_job::WholeOptions;
 use deb_field::Doc;
 use deb_report::ReportFormat;
-use debctl_args::{Extent, Job, ReportForm};
+use debctl_args::{Audit, Extent, Job, ReportForm};
 
 /// What a report in another form than lines is asked.
 #[derive(Clone, Copy)]
@@ -41,7 +42,8 @@ pub(crate) fn asked_in(form: ReportForm, doc: Doc, extent: Extent) -> Option<Rep
     }
 }
 
-/// Returns the report that a job asks for, if it is `check` with demands in another form than lines.
+/// Returns the report that a job asks for, if it is `check` with demands in another form than
+/// lines.
 pub(crate) fn whole_asked(job: &Job) -> Option<WholeOptions>
     ensures { result ≡ whole_asked job.now }
 {
@@ -55,6 +57,18 @@ pub(crate) fn whole_asked(job: &Job) -> Option<WholeOptions>
         },
         _ => None,
     }
+}
+
+/// Returns the report that an audit asks for, if it is one without demands in another form than
+/// lines.
+pub(crate) fn audit_asked(audit: &Audit) -> Option<ReportAsked>
+    ensures { result ≡ audit_asked audit.now.demands
+        (asked_in audit.now.form audit.now.doc audit.now.extent) }
+{
+    if audit.demands.complete || audit.demands.least > 0 {
+        return None;
+    }
+    asked_in(audit.form, audit.doc, audit.extent)
 }
 
 /// Returns the format of a form, if it isn't that of lines.

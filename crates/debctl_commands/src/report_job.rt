@@ -148,7 +148,7 @@ fn write_reports<R: Source, W: Sink>(
 }
 
 /// The status of an answer: 0 if the file is accepted, else 2.
-fn explained_status(explained: &Explained) -> u8
+pub(crate) fn explained_status(explained: &Explained) -> u8
     ensures { result ≡ explained_status explained.now }
 {
     match explained {

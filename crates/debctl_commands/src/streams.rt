@@ -3,6 +3,7 @@
 use crate::all_jobs::run_explain_all;
 use crate::audit_all_job::run_audit_all;
 use crate::audit_job::{AuditOptions, record_end, run_audit, run_without_list};
+use crate::audit_report_job::run_audit_report;
 use crate::explain_job::{run_condition, run_explain, run_rule, run_unopened, run_word};
 use crate::file_hints::{put_latest_hint, put_query_hint, put_select_hint, put_unmet_hint};
 use crate::hints::{put_hint, subject_of, wants_hints};
@@ -12,7 +13,9 @@ use crate::opening::run_call;
 use crate::opens::Opens;
 use crate::query_over::run_query_over;
 use crate::reader::{SystemFiles, opened};
-use crate::report_asked::{ReportAsked, asked_in, report_asked, whole_asked};
+use crate::report_asked::{
+    ReportAsked, asked_in, audit_asked, format_of, report_asked, whole_asked,
+};
 use crate::report_job::{run_report, run_report_all};
 use crate::reporting::{report_fault, report_usage};
 use crate::select_accepted_job::run_select_accepted;
@@ -322,7 +325,8 @@ fn explain_file<W: Sink, E: Sink>(
     }
 }
 
-/// Reports in another form than lines why the file of a path is refused, or that it can't be opened.
+/// Reports in another form than lines why the file of a path is refused, or that it can't be
+/// opened.
 fn report_path<W: Sink, E: Sink>(
     rt: &HostRuntime,
     asked: ReportAsked,
@@ -365,6 +369,7 @@ fn audit_listed(rt: &HostRuntime, audit: &Audit, path: &str) -> Result<u8, Fault
             let files = SystemFiles::after_reading(rt, path);
             audit_list(rt, audit, list.as_slice(), files)
         }
+        Err(_) if format_of(audit.form).is_some() => Err(Fault::Read),
         Err(why) => report_without_list(rt, audit.end, path, why),
     }
 }
@@ -412,6 +417,24 @@ fn audit_paths(
         end: audit.end,
         demands: audit.demands,
     };
+    let reported = match audit_asked(audit) {
+        Some(asked) => match asked.extent {
+            Extent::First => Some(asked.options),
+            Extent::All => None,
+        },
+        None => None,
+    };
+    if let Some(asked) = reported {
+        let status = run_audit_report(
+            rt.alloc(),
+            asked,
+            paths,
+            &mut files,
+            &mut Output::new(&mut records),
+            &mut Output::new(&mut err),
+        );
+        return write_out(records.into_buffer(), err, status);
+    }
     let status = match audit.extent {
         Extent::First => run_audit(
             rt.alloc(),
