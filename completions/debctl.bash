@@ -7,24 +7,27 @@ _debctl() {
     local -A offers=(
         [:options]='--help --version'
         [:0]='check explain audit normalise same diff select compare canon-version version-key sort query unmet healthy installable latest help'
-        [check:options]='--kind --all --complete --least --help'
+        [check:options]='--kind --all --complete --least --format --help'
         [check:0]=files
         [check:-k]='binary packages source sources status any'
         [check:--kind]='binary packages source sources status any'
         [check:--least]=''
-        [explain:options]='--kind --all --code --relation --version-text --where --help'
+        [check:--format]='lines gcc github jsonl sarif'
+        [explain:options]='--kind --all --format --code --relation --version-text --where --help'
         [explain:0]=files
         [explain:-k]='binary packages source sources status any'
         [explain:--kind]='binary packages source sources status any'
+        [explain:--format]='lines gcc github jsonl sarif'
         [explain:--code]=''
         [explain:--relation]=''
         [explain:--version-text]=''
         [explain:--where]=''
-        [audit:options]='--kind --all --complete --least --files0-from --null --help'
+        [audit:options]='--kind --all --complete --least --format --files0-from --null --help'
         [audit:more]=files
         [audit:-k]='binary packages source sources status any'
         [audit:--kind]='binary packages source sources status any'
         [audit:--least]=''
+        [audit:--format]='lines gcc github jsonl sarif'
         [audit:--files0-from]=files
         [normalise:options]='--kind --help'
         [normalise:0]=files
@@ -106,7 +109,7 @@ _debctl() {
         fi
         case ${words[i]} in
             --) ended=yes ;;
-            -k | --kind | --least | -f | --fields | --format | --arch | --profiles | --index | --unless-in | --without | --all-for | --budget | --only | --witness | --by | --before) ((i++)) ;;
+            -k | --kind | --least | --format | -f | --fields | --arch | --profiles | --index | --unless-in | --without | --all-for | --budget | --only | --witness | --by | --before) ((i++)) ;;
             # The value is in place of a word, as it is if it is a word of its own.
             --code=* | --relation=* | --version-text=* | --where=* | --files0-from=* | --relation-from=*) ((given++)) ;;
         esac

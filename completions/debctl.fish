@@ -9,7 +9,7 @@ function __debctl_arguments
             case --
                 string join -- \n $words[2..]
                 return
-            case -k --kind --least -f --fields --format --arch --profiles --index --unless-in --without --all-for --budget --only --witness --by --before
+            case -k --kind --least --format -f --fields --arch --profiles --index --unless-in --without --all-for --budget --only --witness --by --before
                 set words $words[2..]
             case - '--code=*' '--relation=*' '--version-text=*' '--where=*' '--files0-from=*' '--relation-from=*'
                 printf '%s\n' $words[1]
@@ -58,10 +58,12 @@ complete -c debctl -n '__debctl_at check' -s k -l kind -x -a 'binary packages so
 complete -c debctl -n '__debctl_at check' -s a -l all -d 'Report every error, not only the first one'
 complete -c debctl -n '__debctl_at check' -l complete -d 'Refuse a file that doesn'"'"'t end with a newline'
 complete -c debctl -n '__debctl_at check' -l least -x -d 'Refuse a file of fewer than N paragraphs'
+complete -c debctl -n '__debctl_at check' -l format -x -a 'lines gcc github jsonl sarif' -d 'The format'
 complete -c debctl -n '__debctl_at check' -s h -l help -d 'Print help'
 complete -c debctl -n '__debctl_at explain 0' -F
 complete -c debctl -n '__debctl_at explain' -s k -l kind -x -a 'binary packages source sources status any' -d 'The kind of file'
 complete -c debctl -n '__debctl_at explain' -s a -l all -d 'Report every error, not only the first one'
+complete -c debctl -n '__debctl_at explain' -l format -x -a 'lines gcc github jsonl sarif' -d 'The format'
 complete -c debctl -n '__debctl_at explain' -l code -x -d 'Explain an error code, from 1 to 23 or by its name, instead of a file'
 complete -c debctl -n '__debctl_at explain' -l relation -x -d 'Explain a relation instead of a file'
 complete -c debctl -n '__debctl_at explain' -l version-text -x -d 'Explain a version instead of a file'
@@ -72,6 +74,7 @@ complete -c debctl -n '__debctl_at audit' -s k -l kind -x -a 'binary packages so
 complete -c debctl -n '__debctl_at audit' -s a -l all -d 'Report every error, not only the first one'
 complete -c debctl -n '__debctl_at audit' -l complete -d 'Refuse a file that doesn'"'"'t end with a newline'
 complete -c debctl -n '__debctl_at audit' -l least -x -d 'Refuse a file of fewer than N paragraphs'
+complete -c debctl -n '__debctl_at audit' -l format -x -a 'lines gcc github jsonl sarif' -d 'The format'
 complete -c debctl -n '__debctl_at audit' -l files0-from -r -F -d 'A file that lists the paths, each followed by a byte 0'
 complete -c debctl -n '__debctl_at audit' -s 0 -l null -d 'End each line with a byte 0, and print paths unchanged'
 complete -c debctl -n '__debctl_at audit' -s h -l help -d 'Print help'
