@@ -178,6 +178,7 @@ module _ (W : Type 0) (format : ReportFormat) (doc : Doc) (path : List ℕ) (lef
         passed = r.passed;
         refused = r.refused;
         findings = r.findings;
+        accepted = r.accepted;
         written = whole_of format (report_text (new_output format) path doc text) (held old) (held begun) begins (held mid) (held new) r.written ends;
       });
       cut_off = λ text told. tt;

@@ -31,6 +31,7 @@ pub mod Taking
 pub mod Turns
 pub mod ReportAsked
 pub mod ReportJob
+pub mod ReportsTold
 pub mod Reporting
 pub mod UnmetJob
 pub mod HealthJob

@@ -22,6 +22,7 @@ use Rattle.deb_report.specs.Findings.{Finding, IsFinding}
 use Rattle.deb_report.specs.Gcc.{gcc_line}
 use Rattle.deb_report.specs.JsonLines.{json_line}
 use Rattle.deb_report.specs.JsonLines.{Accepted as Passes}
+use Rattle.deb_report.specs.Laws.{IsEntry}
 use Rattle.deb_report.specs.Records.{begin_text, end_text, records_text}
 use Rattle.deb_report.specs.Reports.{IsAnswer, ReportsAll, answer_text, findings_of, refused_at}
 use Rattle.deb_report.specs.Reports.{report_text}
@@ -88,12 +89,14 @@ abbrev pub whole_report : ReportFormat → List ℕ → Doc → List ℕ → Lis
 whole_report format path doc text =
     output_text format (report_text (new_output format) path doc text)
 
--- Exactly that was written, and the summary has the counts of the file.
+-- Exactly that was written, and the summary has the counts of the file. So the output tells exactly
+-- its findings, by the law `ReportsTellFile`.
 pub record WritesReports (format : ReportFormat) (path : List ℕ) (doc : Doc) (text : List ℕ)
     (summary : Summary) (old new : Option (List ℕ)) : Type 0 where
   pub passed : summary.passed ≡ passed_of doc text
   pub refused : summary.refused ≡ length (refusals_of doc text)
   pub findings : All IsFinding (findings_of path doc text)
+  pub accepted : IsEntry (Passes path (passed_of doc text))
   pub written : Appends old new (whole_report format path doc text)
 
 -- Exactly the beginning of the output and the records of the file's first refusals were written;

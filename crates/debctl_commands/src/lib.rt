@@ -9,7 +9,8 @@
 //!   error code means, [`run_audit`] whether each of many files is accepted, and [`run_audit_all`]
 //!   every refusal of each.
 //! - [`run_report`] and [`run_report_all`] write why a file is refused in a form that other
-//!   programs read, and [`run_report_whole`] also checks what is demanded of a file.
+//!   programs read, and [`run_report_whole`] also checks what is demanded of a file;
+//!   [`run_audit_report`] does so for many files. [`laws`] says how this is read.
 //! - [`run_query_over`], [`run_unmet`], [`run_latest`], [`run_select`] and [`run_select_accepted`]
 //!   do jobs over any number of files, which they open by their paths.
 //! - [`run_program`] runs the task that the program's arguments ask for: it opens the paths, passes
@@ -33,6 +34,7 @@ mod hints;
 mod index_files;
 mod install_job;
 mod latest_job;
+pub mod laws;
 mod listed;
 mod opening;
 mod opens;
