@@ -1,10 +1,9 @@
 -- Reports in another form than lines: what is written before a fault, and of the whole answer.
-use Rattle.std.proofs.Common.{◌≡◌, ℕ, true, List, [], ◌++◌, Option, Some, Result, Ok, Err, inl, inr, refl, sym, ap, ◌∙◌, subst, append-nil, append_assoc, arith}
+use Rattle.std.proofs.Common.{◌≡◌, ℕ, List, [], ◌++◌, Option, Some, Result, Ok, Err, inl, inr, refl, sym, ap, ◌∙◌, subst, append-nil, arith}
 use Rattle.std.specs.Prelude.{⊤}
 use Rattle.std.proofs.KnownBytes.{Appends-trans}
 use Rattle.std.specs.Io.KnownBytes.{Appends}
 use Rattle.deb_base.proofs.Writes.{AppendsFront-more, AppendsFront-then}
-use Rattle.deb_base.specs.Bodies.{file_limit}
 use Rattle.deb_base.specs.Devices.{AppendsFront, one_more, read_failures_after, write_failures_after}
 use Rattle.deb_base.specs.declared.doc.Doc.{Doc}
 use Rattle.deb_base.specs.declared.fault.Fault.{Fault}

@@ -1,5 +1,5 @@
 -- From what is written of a file that is in memory to what is answered of the file.
-use Rattle.std.proofs.Common.{◌≡◌, ℕ, List, [], Option, Some, Result, Ok, Err, refl, arith, ◌∙◌}
+use Rattle.std.proofs.Common.{◌≡◌, ℕ, List, [], Option, Some, Result, Ok, Err, refl, arith}
 use Rattle.std.proofs.KnownBytes.{Appends-nil}
 use Rattle.deb_base.specs.Bodies.{file_limit}
 use Rattle.deb_base.specs.Devices.{AppendsFront, one_more, read_failures_after}

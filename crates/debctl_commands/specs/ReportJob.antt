@@ -1,7 +1,7 @@
 -- What the jobs of `check` and `explain` answer and write in another form than lines: the records
 -- of a file between what an output begins and ends with. The records are those of deb_report; the
 -- refusals are those of documents of a kind (Debian Policy 5.1 and 5.3 to 5.6).
-use Rattle.std.specs.Prelude.{◌≡◌, ◌⊎◌, ℕ, true, List, [], ◌++◌, length, Option, Some, None, Result}
+use Rattle.std.specs.Prelude.{◌≡◌, ◌⊎◌, ℕ, true, List, [], ◌++◌, length, Option, Some, Result}
 use Rattle.std.specs.Prelude.{IfOk, IfErr, codes, refl}
 use Rattle.std.specs.Io.KnownBytes.{Appends}
 use Rattle.std.specs.List.{All}
@@ -24,7 +24,7 @@ use Rattle.deb_report.specs.JsonLines.{json_line}
 use Rattle.deb_report.specs.JsonLines.{Accepted as Passes}
 use Rattle.deb_report.specs.Laws.{IsEntry}
 use Rattle.deb_report.specs.Records.{begin_text, end_text, records_text}
-use Rattle.deb_report.specs.Reports.{IsAnswer, ReportsAll, answer_text, findings_of, refused_at}
+use Rattle.deb_report.specs.Reports.{IsAnswer, answer_text, findings_of, refused_at}
 use Rattle.deb_report.specs.Reports.{report_text}
 use Rattle.deb_report.specs.Sarif.{sarif_begin, sarif_end, sarif_result}
 use Rattle.deb_report.specs.declared.output.Output.{Output}
